@@ -1,0 +1,52 @@
+use crate::{Bytes, NoMemory, Row, TryCopy, Uri};
+use std::alloc::Global;
+
+/// One fetch for a worker: at most `max` bytes of what the URI names, its bytes before `from` left out.
+#[derive(Debug, PartialEq, Drop)]
+pub struct Job {
+    pub no: u64,
+    pub uri: Uri,
+    pub max: u64,
+    pub from: u64,
+}
+
+/// What a mirror has under a URI: a file, another place, or a refusal with its HTTP status (RFC 9110, section 15).
+///
+/// `Moved(None)` is a place that is no URI of this profile.
+#[derive(Debug, PartialEq, Drop)]
+pub enum Answer {
+    Served(Bytes),
+    Moved(Option<Uri>),
+    Absent(u16),
+}
+
+/// A mirror: answers under distinct URIs. What isn't listed is absent with status 404.
+#[derive(Debug, Drop)]
+pub struct Mirror {
+    pub rows: Row<(Uri, Answer)>,
+}
+
+/// What a method answers to a job.
+#[derive(Debug, PartialEq, Drop)]
+pub enum Reply {
+    Served(Bytes),
+    Moved(Option<Uri>),
+    Absent(u16),
+    /// More bytes than the job allows.
+    TooBig,
+    /// The peer broke its protocol at this byte of its answer.
+    Garbled(u64),
+    /// The method failed, and its count of faults rose from `before` to `after`.
+    Fault { before: u64, after: u64 },
+    NoMemory,
+}
+
+impl TryCopy for Answer {
+    fn copy(&self, alloc: Global) -> Result<Answer, NoMemory> {
+        Ok(match self {
+            Answer::Served(bytes) => Answer::Served(bytes.copy(alloc)?),
+            Answer::Moved(place) => Answer::Moved(place.copy(alloc)?),
+            Answer::Absent(status) => Answer::Absent(*status),
+        })
+    }
+}

@@ -1,0 +1,29 @@
+//! What every layer of the engine speaks in: texts, rows, sums, URIs, plans, jobs and settings.
+//!
+//! Contracts see a `Text` as the list of its bytes and a `Row` as the list of its cells, so a struct of them reads as
+//! plain data. What takes memory is handed an allocator and may answer `NoMemory`.
+#![tactic(auto)]
+
+pub use copying::TryCopy;
+pub use fetch::{Answer, Job, Mirror, Reply};
+pub use installed::Old;
+pub use memory::NoMemory;
+pub use plan::{ByHash, Kind, Plan, Source, Target};
+pub use refusal::Refusal;
+pub use row::{Bytes, Row};
+pub use settings::{Dates, Pick, Settings};
+pub use sum::{Sha, Sum, SumError, read_sum, sum_of};
+pub use text::Text;
+pub use uri::{ListName, Scheme, Uri};
+
+mod copying;
+mod fetch;
+mod installed;
+mod memory;
+mod plan;
+mod refusal;
+mod row;
+mod settings;
+mod sum;
+mod text;
+mod uri;

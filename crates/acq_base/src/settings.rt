@@ -1,0 +1,40 @@
+use crate::{ByHash, Row, Text};
+
+/// How a Release's dates are judged, in seconds. A `min` or `max` of 0 is none.
+#[derive(Clone, Copy, Debug, PartialEq, Eq)]
+pub struct Dates {
+    /// The least time for which a Release that says until when it is valid counts as valid.
+    pub min: u64,
+    /// The greatest time for which a Release counts as valid.
+    pub max: u64,
+    /// How far a Release may be dated ahead of the moment.
+    pub future: u64,
+}
+
+/// Which kinds of lists are wanted.
+#[derive(Clone, Copy, Debug, PartialEq, Eq)]
+pub struct Pick {
+    pub packages: bool,
+    pub sources: bool,
+    pub translations: bool,
+}
+
+/// The settings of apt.conf(5) that take effect.
+#[derive(Debug, PartialEq, Drop)]
+pub struct Settings {
+    pub arch: Text,
+    pub archs: Row<Text>,
+    pub langs: Row<Text>,
+    pub pick: Pick,
+    pub dates: Dates,
+    /// How often a failed fetch is tried again, 0 to 10.
+    pub retries: u32,
+    pub by_hash: ByHash,
+    pub pdiffs: bool,
+    /// The most patches for one list, 0 for no limit.
+    pub file_limit: u32,
+    /// The most bytes of patches for one list, in percent of the list, 0 for no limit.
+    pub size_limit: u32,
+    /// Whether lists of no source are dropped after a run without a kept source.
+    pub cleanup: bool,
+}

@@ -1,0 +1,42 @@
+use crate::{NoMemory, Text, TryCopy};
+use std::alloc::Global;
+
+/// How a URI is fetched.
+#[derive(Clone, Copy, Debug, PartialEq, Eq)]
+pub enum Scheme {
+    Http,
+    File,
+}
+
+/// A URI of this profile, in parts (RFC 3986).
+///
+/// For `File` the host is empty and the port is 0. The path is what an origin-form request sends (RFC 9112, section
+/// 3.2.1), with a query where a redirect gave one.
+#[derive(Debug, PartialEq, Drop)]
+pub struct Uri {
+    pub scheme: Scheme,
+    pub host: Text,
+    pub port: u16,
+    pub path: Text,
+}
+
+/// The name of a file in the lists folder.
+#[derive(Debug, PartialEq, Eq, PartialOrd, Ord, Drop)]
+pub struct ListName(pub Text);
+
+impl TryCopy for Uri {
+    fn copy(&self, alloc: Global) -> Result<Uri, NoMemory> {
+        Ok(Uri {
+            scheme: self.scheme,
+            host: self.host.copy(alloc)?,
+            port: self.port,
+            path: self.path.copy(alloc)?,
+        })
+    }
+}
+
+impl TryCopy for ListName {
+    fn copy(&self, alloc: Global) -> Result<ListName, NoMemory> {
+        Ok(ListName(self.0.copy(alloc)?))
+    }
+}
