@@ -4,7 +4,7 @@ use Rattle.std.specs.List.{flat_map}
 use Rattle.acq_base.specs.declared.plan.Target.{Target}
 use Rattle.acq_base.specs.declared.plan.Source.{Source}
 use Rattle.acq_base.specs.declared.plan.Plan.{Plan}
-use Rattle.acq_base.specs.Uri as uri
+use Rattle.acq_base.specs.Uri.{IsSound as IsSoundUri, list_name}
 
 -- the list names of a source: its Release's, and those of its targets
 abbrev pub names_of : Source → List (List ℕ)
@@ -16,13 +16,13 @@ plan_names plan = flat_map names_of plan.sources
 
 -- a target is fetched from a sound URI and installed under that URI's list name
 pub record IsSoundTarget (target : Target) : Type 0 where
-  pub uri : uri.IsSound target.uri
-  pub named : target.name.0 ≡ uri.list_name target.uri
+  pub uri : IsSoundUri target.uri
+  pub named : target.name.0 ≡ list_name target.uri
 
 pub record IsSoundSource (source : Source) : Type 0 where
-  pub base : uri.IsSound source.base
-  pub release : uri.IsSound source.release
-  pub named : source.release_name.0 ≡ uri.list_name source.release
+  pub base : IsSoundUri source.base
+  pub release : IsSoundUri source.release
+  pub named : source.release_name.0 ≡ list_name source.release
   pub targets : All IsSoundTarget source.targets
 
 pub record IsSound (plan : Plan) : Type 0 where

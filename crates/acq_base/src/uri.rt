@@ -12,12 +12,29 @@ pub enum Scheme {
 ///
 /// For `File` the host is empty and the port is 0. The path is what an origin-form request sends (RFC 9112, section
 /// 3.2.1), with a query where a redirect gave one.
-#[derive(Debug, PartialEq, Drop)]
+#[derive(Debug, Drop)]
 pub struct Uri {
     pub scheme: Scheme,
     pub host: Text,
     pub port: u16,
     pub path: Text,
+}
+
+impl PartialEq for Uri {
+    ghost use Rattle.acq_base.specs.Uri.{same_uri};
+    ghost use Rattle.std.specs.Cmp.Rules.{comparing};
+    ghost use Rattle.std.proofs.Common.{rules};
+
+    ghost eq = { same_uri };
+
+    ghost laws = { Prim.search (comparing, rules) };
+
+    fn eq(&self, other: &Uri) -> bool {
+        self.scheme == other.scheme
+            && self.host == other.host
+            && self.port == other.port
+            && self.path == other.path
+    }
 }
 
 /// The name of a file in the lists folder.
