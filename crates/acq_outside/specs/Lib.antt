@@ -1,0 +1,5 @@
+pub mod Count
+pub mod Etc
+pub mod Disk
+pub mod Mirror
+pub mod Sink

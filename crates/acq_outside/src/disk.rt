@@ -1,0 +1,103 @@
+ghost use Rattle.std.specs.Prelude.{◌≡◌, ℕ, ◌≤◌, [], Bool, IsTrue, length, Option, IfOk, OnOk, OnErr, IsErrOf, IfSome, IsSomeAnd, option_map, unwrap_or};
+ghost use Rattle.acq_outside.specs.Count.{Rose};
+ghost use Rattle.acq_outside.specs.Disk.{Files, IsName, IsNames, IsRead, IsTornWrite, IsTornCut, IsDoneOrNot, after_write, after_cut, after_rename, after_remove};
+
+use crate::{Fault, OutError};
+use acq_base::{Row, Text};
+use std::alloc::Global;
+
+/// The lists folder. A name is UTF-8 of 1 to 255 bytes; one that begins with `partial/` lies in the folder of that name.
+///
+/// What a call does to the files is said where the disk tells them: a real disk doesn't.
+pub trait Disk: Drop {
+    /// How often it failed.
+    ghost faults: { Self → ℕ };
+
+    /// Whether it tells its files.
+    ghost tells: { Self → Bool };
+
+    /// Its files as reads give them.
+    ghost files: { Self → Files };
+
+    /// All names, each once and sorted by bytes.
+    fn names(&mut self, alloc: Global) -> Result<Row<Text>, OutError>
+        ensures count { faults self.old ≤ faults self.new }
+        ensures fault { IsErrOf result OutError.Fault → Rose (faults self.old) (faults self.new) }
+        ensures telling { tells self.new ≡ tells self.old }
+        ensures same { files self.new ≡ files self.old }
+        ensures told { IsTrue (tells self.old) → IfOk result (IsNames (files self.old)) };
+
+    /// A file's length in bytes, `None` where there is no such file.
+    fn size(&mut self, name: &[u8]) -> Result<Option<u64>, Fault>
+        requires { IsName name.now }
+        ensures count { faults self.old ≤ faults self.new }
+        ensures fault { OnErr result (Rose (faults self.old) (faults self.new)) }
+        ensures telling { tells self.new ≡ tells self.old }
+        ensures same { files self.new ≡ files self.old }
+        ensures told { IsTrue (tells self.old) → IfOk result (λ size. size ≡ option_map length (files self.old name.now)) };
+
+    /// Reads bytes of a file into the front of `out` and answers how many: 0 only at or past the end, for an absent
+    /// file, or for an empty `out`.
+    fn read_at(&mut self, name: &[u8], at: u64, out: &mut [u8]) -> Result<usize, Fault>
+        requires { IsName name.now }
+        ensures count { faults self.old ≤ faults self.new }
+        ensures fault { OnErr result (Rose (faults self.old) (faults self.new)) }
+        ensures telling { tells self.new ≡ tells self.old }
+        ensures same { files self.new ≡ files self.old }
+        ensures within { IfOk result (λ n. n ≤ length out.old) }
+        ensures told { IsTrue (tells self.old) → IfOk result (λ n. IsRead (files self.old name.now) at n out.old out.new) };
+
+    /// Writes bytes within a file or at its end.
+    fn write_at(&mut self, name: &[u8], at: u64, bytes: &[u8]) -> Result<(), Fault>
+        requires name { IsName name.now }
+        requires there { IsTrue (tells self.old) → IsSomeAnd (files self.old name.now) (λ content. at ≤ length content) }
+        ensures count { faults self.old ≤ faults self.new }
+        ensures fault { OnErr result (Rose (faults self.old) (faults self.new)) }
+        ensures telling { tells self.new ≡ tells self.old }
+        ensures ok { IsTrue (tells self.old) → OnOk result (files self.new ≡ after_write (files self.old) name.now at bytes.now) }
+        ensures err { IsTrue (tells self.old) → OnErr result (IsTornWrite (files self.old) (files self.new) name.now at (length bytes.now)) };
+
+    /// Cuts a file to a length, an absent one being made empty first.
+    fn cut(&mut self, name: &[u8], len: u64) -> Result<(), Fault>
+        requires name { IsName name.now }
+        requires within { IsTrue (tells self.old) → len ≤ length (unwrap_or (files self.old name.now) []) }
+        ensures count { faults self.old ≤ faults self.new }
+        ensures fault { OnErr result (Rose (faults self.old) (faults self.new)) }
+        ensures telling { tells self.new ≡ tells self.old }
+        ensures ok { IsTrue (tells self.old) → OnOk result (files self.new ≡ after_cut (files self.old) name.now len) }
+        ensures err { IsTrue (tells self.old) → OnErr result (IsTornCut (files self.old) (files self.new) name.now len) };
+
+    /// Makes a file's bytes lasting. What reads give stays.
+    fn sync(&mut self, name: &[u8]) -> Result<(), Fault>
+        requires { IsName name.now }
+        ensures count { faults self.old ≤ faults self.new }
+        ensures fault { OnErr result (Rose (faults self.old) (faults self.new)) }
+        ensures telling { tells self.new ≡ tells self.old }
+        ensures same { files self.new ≡ files self.old };
+
+    /// Moves a file to another name, in place of what is there. It changes nothing where `from` is absent.
+    fn rename(&mut self, from: &[u8], to: &[u8]) -> Result<(), Fault>
+        requires from { IsName from.now }
+        requires to { IsName to.now }
+        ensures count { faults self.old ≤ faults self.new }
+        ensures fault { OnErr result (Rose (faults self.old) (faults self.new)) }
+        ensures telling { tells self.new ≡ tells self.old }
+        ensures ok { IsTrue (tells self.old) → OnOk result (files self.new ≡ after_rename (files self.old) from.now to.now) }
+        ensures err { IsTrue (tells self.old) → OnErr result (IsDoneOrNot (files self.old) (files self.new) (after_rename (files self.old) from.now to.now)) };
+
+    /// Removes a file. It changes nothing where the file is absent.
+    fn remove(&mut self, name: &[u8]) -> Result<(), Fault>
+        requires { IsName name.now }
+        ensures count { faults self.old ≤ faults self.new }
+        ensures fault { OnErr result (Rose (faults self.old) (faults self.new)) }
+        ensures telling { tells self.new ≡ tells self.old }
+        ensures ok { IsTrue (tells self.old) → OnOk result (files self.new ≡ after_remove (files self.old) name.now) }
+        ensures err { IsTrue (tells self.old) → OnErr result (IsDoneOrNot (files self.old) (files self.new) (after_remove (files self.old) name.now)) };
+
+    /// Makes all changes of names lasting. What reads give stays.
+    fn sync_names(&mut self) -> Result<(), Fault>
+        ensures count { faults self.old ≤ faults self.new }
+        ensures fault { OnErr result (Rose (faults self.old) (faults self.new)) }
+        ensures telling { tells self.new ≡ tells self.old }
+        ensures same { files self.new ≡ files self.old };
+}
