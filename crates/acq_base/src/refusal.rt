@@ -3,6 +3,7 @@ ghost use Rattle.std.specs.Prelude.{◌≡◌, ℕ};
 /// A refusal that a report can name by its number and, where it has one, its line.
 pub trait Refusal {
     ghost number: { Self → ℕ };
+
     ghost line: { Self → ℕ };
 
     /// The refusal's number, 0 where it has none.

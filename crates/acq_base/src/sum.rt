@@ -1,4 +1,6 @@
 ghost use Rattle.std.specs.Prelude.{◌≡◌, ◌↔◌, IsErrOf, IsOk};
+ghost use Rattle.std.specs.Char.{is_ascii_digit};
+ghost use Rattle.std.specs.List.{list_all};
 ghost use Rattle.acq_base.specs.Sum.{sum_of as summed, sum_of_texts, size_of_text, IsHash, IsSize};
 
 use crate::{NoMemory, Refusal, TryCopy};
@@ -87,7 +89,10 @@ pub fn read_sum(hash: &[u8], size: &[u8]) -> Result<Sum, SumError>
         return Err(SumError::BadHash);
     }
     match read_size(size) {
-        Some(size) => Ok(Sum { size, sha: Sha(sha) }),
+        Some(size) => Ok(Sum {
+            size,
+            sha: Sha(sha),
+        }),
         None => Err(SumError::BadSize),
     }
 }
@@ -96,9 +101,18 @@ pub fn read_sum(hash: &[u8], size: &[u8]) -> Result<Sum, SumError>
 fn read_size(text: &[u8]) -> Option<u64>
     ensures { result ≡ size_of_text text.now }
 {
-    if text.len() > 20 || !text.iter().all(|c| c.is_ascii_digit()) {
+    if text.len() > 20 || !is_digits(text) {
         return None;
     }
-    let digits = str::from_utf8(text).ok()?;
-    digits.parse::<u64>().ok()
+    match str::from_utf8(text) {
+        Ok(digits) => digits.parse::<u64>().ok(),
+        Err(_) => None,
+    }
+}
+
+/// Whether every byte is a decimal digit. `parse` alone would also take a sign.
+fn is_digits(text: &[u8]) -> bool
+    ensures { result ≡ list_all is_ascii_digit text.now }
+{
+    text.iter().all(|c| c.is_ascii_digit())
 }
