@@ -3,3 +3,4 @@ pub mod Etc
 pub mod Disk
 pub mod Mirror
 pub mod Sink
+pub mod Whole

@@ -2,6 +2,7 @@ ghost use Rattle.std.specs.Prelude.{◌≡◌};
 ghost use Rattle.acq_outside.specs.declared.fault.OutError.TheVariants.{NoMemory as no_memory, Fault as faulted};
 
 use acq_base::NoMemory;
+use std::alloc::AllocError;
 use std::error::Error;
 use std::fmt;
 
@@ -48,6 +49,14 @@ impl From<NoMemory> for OutError {
     ghost from_gives = { λ _ error. error ≡ no_memory };
 
     fn from(_want: NoMemory) -> OutError {
+        OutError::NoMemory
+    }
+}
+
+impl From<AllocError> for OutError {
+    ghost from_gives = { λ _ error. error ≡ no_memory };
+
+    fn from(_error: AllocError) -> OutError {
         OutError::NoMemory
     }
 }

@@ -10,6 +10,7 @@ pub use etc::{Etc, MOST_READ, Place};
 pub use fault::{Fault, OutError};
 pub use method::Method;
 pub use sink::Sink;
+pub use whole::{read_whole, write_whole};
 
 mod clock;
 mod disk;
@@ -17,3 +18,4 @@ mod etc;
 mod fault;
 mod method;
 mod sink;
+mod whole;

@@ -1,0 +1,103 @@
+ghost use Rattle.std.specs.Prelude.{◌≡◌, ◌≢◌, ℕ, ◌+◌, ◌≤◌, List, [], length, Some, IfOk, OnOk, OnErr, IsErrOf, IsTrue, unwrap_or};
+ghost use Rattle.acq_outside.specs.Count.{Rose};
+ghost use Rattle.acq_outside.specs.Disk.{IsName, with_file};
+ghost use Rattle.acq_outside.specs.Whole.{GrowsTo};
+
+use crate::{Disk, Fault, OutError};
+use acq_base::Bytes;
+use std::alloc::Global;
+
+/// How many bytes one read of a whole file asks for.
+const PIECE: usize = 65_536;
+
+/// Puts these bytes in place of a file's content and makes them lasting; an absent file is made.
+///
+/// After a fault the file may be as before, absent, or hold anything. Other files stay in any case.
+pub fn write_whole<D: Disk>(disk: &mut D, name: &[u8], bytes: &[u8]) -> Result<(), Fault>
+    requires { IsName name.now }
+    ensures count { D.faults disk.old ≤ D.faults disk.new }
+    ensures fault { OnErr result (Rose (D.faults disk.old) (D.faults disk.new)) }
+    ensures telling { D.tells disk.new ≡ D.tells disk.old }
+    ensures ok { IsTrue (D.tells disk.old) → OnOk result (D.files disk.new ≡ with_file (D.files disk.old) name.now (Some bytes.now)) }
+    ensures others { IsTrue (D.tells disk.old) → (other : List ℕ) → other ≢ name.now → D.files disk.new other ≡ D.files disk.old other }
+{
+    disk.cut(name, 0)?;
+    if !bytes.is_empty() {
+        disk.write_at(name, 0, bytes)?;
+    }
+    disk.sync(name)
+}
+
+/// A file's whole content, read in pieces, or `None` where there is no such file.
+pub fn read_whole<D: Disk>(
+    alloc: Global,
+    disk: &mut D,
+    name: &[u8],
+) -> Result<Option<Bytes>, OutError>
+    requires { IsName name.now }
+    ensures count { D.faults disk.old ≤ D.faults disk.new }
+    ensures fault { IsErrOf result OutError.Fault → Rose (D.faults disk.old) (D.faults disk.new) }
+    ensures telling { D.tells disk.new ≡ D.tells disk.old }
+    ensures same { D.files disk.new ≡ D.files disk.old }
+    ensures told { IsTrue (D.tells disk.old) → IfOk result (λ file. file ≡ D.files disk.old name.now) }
+{
+    if disk.size(name)?.is_none() {
+        return Ok(None);
+    }
+    Ok(Some(read_pieces(alloc, disk, name)?))
+}
+
+/// Reads pieces until there are no more.
+fn read_pieces<D: Disk>(alloc: Global, disk: &mut D, name: &[u8]) -> Result<Bytes, OutError>
+    requires { IsName name.now }
+    ensures count { D.faults disk.old ≤ D.faults disk.new }
+    ensures fault { IsErrOf result OutError.Fault → Rose (D.faults disk.old) (D.faults disk.new) }
+    ensures telling { D.tells disk.new ≡ D.tells disk.old }
+    ensures same { D.files disk.new ≡ D.files disk.old }
+    ensures told { IsTrue (D.tells disk.old) → IfOk result (λ bytes. bytes ≡ unwrap_or (D.files disk.old name.now) []) }
+{
+    let mut piece = vec![in alloc; 0u8; PIECE]?;
+    read_through(alloc, disk, name, piece.as_mut_slice())
+}
+
+/// Reads pieces of the buffer's size until there are no more.
+fn read_through<D: Disk>(
+    alloc: Global,
+    disk: &mut D,
+    name: &[u8],
+    piece: &mut [u8],
+) -> Result<Bytes, OutError>
+    requires name { IsName name.now }
+    requires room { 1 ≤ length piece.old }
+    ensures count { D.faults disk.old ≤ D.faults disk.new }
+    ensures fault { IsErrOf result OutError.Fault → Rose (D.faults disk.old) (D.faults disk.new) }
+    ensures telling { D.tells disk.new ≡ D.tells disk.old }
+    ensures same { D.files disk.new ≡ D.files disk.old }
+    ensures told { IsTrue (D.tells disk.old) → IfOk result (λ bytes. bytes ≡ unwrap_or (D.files disk.old name.now) []) }
+{
+    let mut content = Vec::new(alloc);
+    while read_piece(disk, name, &mut content, piece)? != 0 {}
+    Ok(Bytes::from(content))
+}
+
+/// Appends what one read gives behind the content so far, and answers how many bytes it gave.
+fn read_piece<D: Disk>(
+    disk: &mut D,
+    name: &[u8],
+    content: &mut Vec<u8>,
+    piece: &mut [u8],
+) -> Result<usize, OutError>
+    requires name { IsName name.now }
+    requires room { 1 ≤ length piece.old }
+    ensures count { D.faults disk.old ≤ D.faults disk.new }
+    ensures fault { IsErrOf result OutError.Fault → Rose (D.faults disk.old) (D.faults disk.new) }
+    ensures telling { D.tells disk.new ≡ D.tells disk.old }
+    ensures same { D.files disk.new ≡ D.files disk.old }
+    ensures longer { IfOk result (λ n. length content.new.items ≡ length content.old.items + n) }
+    ensures told { IsTrue (D.tells disk.old) → IfOk result (λ n. GrowsTo (unwrap_or (D.files disk.old name.now) []) n content.old.items content.new.items) }
+{
+    let at = content.len() as u64;
+    let n = disk.read_at(name, at, piece)?;
+    content.extend_from_slice(&piece[..n])?;
+    Ok(n)
+}
