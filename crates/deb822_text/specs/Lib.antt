@@ -1,0 +1,4 @@
+pub mod Control
+pub mod Refused
+pub mod Written
+pub mod Seen

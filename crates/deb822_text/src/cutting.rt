@@ -1,0 +1,72 @@
+ghost use Rattle.std.specs.Prelude.{◌≡◌, ◌<◌, ◌∷◌, length};
+ghost use Rattle.std.specs.List.{position_or_len};
+ghost use Rattle.std.specs.Str.Lines.{lines as text_lines};
+ghost use Rattle.deb822_text.specs.Control.{is_blank, trimmed_start, trimmed_end};
+
+/// Whether a byte is a space or a tab.
+pub fn blank(byte: u8) -> bool
+    ensures { result ≡ is_blank byte }
+{
+    byte == b' ' || byte == b'\t'
+}
+
+/// The first line of a text that has one, without its end, and the text behind it.
+pub fn first_line(text: &[u8]) -> (&[u8], &[u8])
+    requires { 0 < length text.now }
+    ensures lines { text_lines text.now ≡ result.0.now ∷ text_lines result.1.now }
+    ensures shorter { length result.1.now < length text.now }
+{
+    let at = place_of(b'\n', text);
+    let (line, behind) = text.split_at(at);
+    match behind {
+        [] => (line, behind),
+        [_, rest @ ..] => (without_return(line), rest),
+    }
+}
+
+/// Where the byte first stands in a text, or the text's length.
+pub fn place_of(byte: u8, text: &[u8]) -> usize
+    ensures { result ≡ position_or_len (λ c. c == byte) text.now }
+{
+    let mut at = 0;
+    while at < text.len() && text[at] != byte {
+        at += 1;
+    }
+    at
+}
+
+/// A line without the one carriage return at its end.
+fn without_return(line: &[u8]) -> &[u8] {
+    match line {
+        [front @ .., b'\r'] => front,
+        _ => line,
+    }
+}
+
+/// A text without the blanks at its front.
+pub fn trim_start(text: &[u8]) -> &[u8]
+    ensures { result.now ≡ trimmed_start text.now }
+{
+    let mut rest = text;
+    while let [first, behind @ ..] = rest {
+        if !blank(*first) {
+            return rest;
+        }
+        rest = behind;
+    }
+    rest
+}
+
+/// A text without the blanks at its end.
+pub fn trim_end(text: &[u8]) -> &[u8]
+    ensures { result.now ≡ trimmed_end text.now }
+{
+    let mut rest = text;
+    while let [front @ .., last] = rest {
+        if !blank(*last) {
+            return rest;
+        }
+        rest = front;
+    }
+    rest
+}

@@ -1,0 +1,23 @@
+ghost use Rattle.std.specs.Prelude.{◌≡◌, option_copied};
+ghost use Rattle.deb822_text.specs.Control.{field_named};
+
+use crate::{Field, Paragraph};
+
+/// The first field of this name, ASCII case aside. It lends the field itself and takes no memory.
+pub fn find<'a>(paragraph: &'a Paragraph, name: &[u8]) -> Option<&'a Field>
+    ensures { option_copied result ≡ field_named paragraph.now.fields name.now }
+{
+    field_of(paragraph.fields.as_slice(), name)
+}
+
+/// The first of the fields that has this name.
+pub fn field_of<'a>(fields: &'a [Field], name: &[u8]) -> Option<&'a Field>
+    ensures { option_copied result ≡ field_named fields.now name.now }
+{
+    for field in fields {
+        if field.name.as_bytes().eq_ignore_ascii_case(name) {
+            return Some(field);
+        }
+    }
+    None
+}
