@@ -33,5 +33,5 @@ pub record IsFirstFault (lines : List Line) (fault : TextError) : Type 0 where
   pub line : Line
   pub behind : List Line
   pub split : lines ≡ before ++ line ∷ behind
-  pub fault : IsFault before line fault
+  pub refused : IsFault before line fault
   pub allowed : AreAllowed before
