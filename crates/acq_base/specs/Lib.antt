@@ -1,3 +1,4 @@
 pub mod Sum
 pub mod Uri
+pub mod Words
 pub mod Plan

@@ -4,6 +4,7 @@
 //! plain data. What takes memory is handed an allocator and may answer `NoMemory`.
 #![tactic(auto)]
 
+pub use blank::{is_blank, listed_words, trim_blanks, trim_blanks_end, trim_blanks_start, words};
 pub use copying::TryCopy;
 pub use fetch::{Answer, Job, Mirror, Reply};
 pub use installed::Old;
@@ -16,6 +17,7 @@ pub use sum::{Sha, Sum, SumError, read_sum, sum_of};
 pub use text::Text;
 pub use uri::{ListName, Scheme, Uri};
 
+mod blank;
 mod copying;
 mod fetch;
 mod installed;
