@@ -1,0 +1,4 @@
+pub mod DateText
+pub mod Dates
+pub mod Refused
+pub mod Release

@@ -1,0 +1,143 @@
+ghost use Rattle.std.specs.Prelude.{◌≡◌, ◌⊎◌, Err, IfOk, option_copied};
+ghost use Rattle.std.specs.List.{join_with_byte};
+ghost use Rattle.release_file.specs.Release.{release_of, release_of_paragraphs, release_of_fields, date_of, date_of_lines, until_of, by_hash_of, is_yes, head_of, text_of};
+
+use crate::date::read_date;
+use crate::sums::read_files;
+use crate::{Head, Release, ReleaseError};
+use acq_base::{NoMemory, Text};
+use deb822_text::{Field, Paragraph, find, read};
+use std::alloc::Global;
+
+/// Reads a Release file (Debian repository format, "Release" files).
+///
+/// It is one paragraph of control text without comments. The fields Date and SHA256 must be there; Valid-Until,
+/// Acquire-By-Hash, Origin, Label, Suite and Codename may be; all others are read over. Of several refusals the first
+/// in the order of [`ReleaseError`] is answered, unless memory runs out.
+#[tactic(auto, unfolding(crate::specs::Release::release_of))]
+pub fn read_release(alloc: Global, bytes: &[u8]) -> Result<Release, ReleaseError>
+    ensures { (result ≡ Err ReleaseError.NoMemory) ⊎ (result ≡ release_of bytes.now) }
+{
+    let paragraphs = read(alloc, bytes, false)?;
+    only_paragraph(alloc, paragraphs.as_slice())
+}
+
+/// The Release that these paragraphs are, which are to be one.
+#[tactic(auto, unfolding(crate::specs::Release::release_of_paragraphs))]
+fn only_paragraph(alloc: Global, paragraphs: &[Paragraph]) -> Result<Release, ReleaseError>
+    ensures { (result ≡ Err ReleaseError.NoMemory) ⊎ (result ≡ release_of_paragraphs paragraphs.now) }
+{
+    match paragraphs {
+        [paragraph] => from_paragraph(alloc, paragraph),
+        _ => Err(ReleaseError::NotOne),
+    }
+}
+
+/// The Release that a paragraph is.
+#[tactic(auto, unfolding(crate::specs::Release::release_of_fields))]
+fn from_paragraph(alloc: Global, paragraph: &Paragraph) -> Result<Release, ReleaseError>
+    ensures { (result ≡ Err ReleaseError.NoMemory) ⊎ (result ≡ release_of_fields paragraph.now.fields) }
+{
+    let date = release_date(find(paragraph, b"Date"))?;
+    let until = valid_until(find(paragraph, b"Valid-Until"))?;
+    let files = read_files(alloc, find(paragraph, b"SHA256"))?;
+    Ok(Release {
+        date,
+        until,
+        by_hash: says_yes(find(paragraph, b"Acquire-By-Hash")),
+        head: read_head(alloc, paragraph)?,
+        files,
+    })
+}
+
+/// The date of a Release, whose field must be there.
+#[tactic(auto, unfolding(crate::specs::Release::date_of))]
+fn release_date(field: Option<&Field>) -> Result<i64, ReleaseError>
+    ensures { result ≡ date_of (option_copied field.entry) }
+{
+    match field {
+        Some(field) => field_date(field),
+        None => Err(ReleaseError::NoDate),
+    }
+}
+
+/// Until when a Release says that it is valid, if it does.
+#[tactic(auto, unfolding(crate::specs::Release::until_of))]
+fn valid_until(field: Option<&Field>) -> Result<Option<i64>, ReleaseError>
+    ensures { result ≡ until_of (option_copied field.entry) }
+{
+    match field {
+        Some(field) => Ok(Some(field_date(field)?)),
+        None => Ok(None),
+    }
+}
+
+/// The date that a field of one line writes.
+#[tactic(auto, unfolding(crate::specs::Release::date_of_lines))]
+fn field_date(field: &Field) -> Result<i64, ReleaseError>
+    ensures { result ≡ date_of_lines field.now.lines field.now.at }
+{
+    match field.lines.as_slice() {
+        [line] => read_date(line.as_bytes()).ok_or(ReleaseError::BadDate(field.at)),
+        _ => Err(ReleaseError::BadDate(field.at)),
+    }
+}
+
+/// Whether a field says `yes`, ASCII case aside.
+#[tactic(auto, unfolding(crate::specs::Release::by_hash_of))]
+fn says_yes(field: Option<&Field>) -> bool
+    ensures { result ≡ by_hash_of (option_copied field.entry) }
+{
+    match field {
+        Some(field) => are_yes(field.lines.as_slice()),
+        None => false,
+    }
+}
+
+/// Whether the lines are `yes` alone, ASCII case aside.
+fn are_yes(lines: &[Text]) -> bool
+    ensures { result ≡ is_yes lines.now }
+{
+    match lines {
+        [line] => line.as_bytes().eq_ignore_ascii_case(b"yes"),
+        _ => false,
+    }
+}
+
+/// What a Release says of itself.
+#[tactic(auto, unfolding(crate::specs::Release::head_of))]
+fn read_head(alloc: Global, paragraph: &Paragraph) -> Result<Head, NoMemory>
+    ensures { IfOk result (λ head. head ≡ head_of paragraph.now.fields) }
+{
+    Ok(Head {
+        origin: field_text(alloc, find(paragraph, b"Origin"))?,
+        label: field_text(alloc, find(paragraph, b"Label"))?,
+        suite: field_text(alloc, find(paragraph, b"Suite"))?,
+        codename: field_text(alloc, find(paragraph, b"Codename"))?,
+    })
+}
+
+/// The lines of a field with a line feed between each two, if the field is there.
+#[tactic(auto, unfolding(crate::specs::Release::text_of))]
+fn field_text(alloc: Global, field: Option<&Field>) -> Result<Option<Text>, NoMemory>
+    ensures { IfOk result (λ text. text ≡ text_of (option_copied field.entry)) }
+{
+    match field {
+        Some(field) => Ok(Some(joined(alloc, field.lines.as_slice())?)),
+        None => Ok(None),
+    }
+}
+
+/// The lines with a line feed between each two.
+fn joined(alloc: Global, lines: &[Text]) -> Result<Text, NoMemory>
+    ensures { IfOk result (λ text. text ≡ join_with_byte 10 lines.now) }
+{
+    let mut text = Text::new(alloc);
+    for (index, line) in lines.iter().enumerate() {
+        if index > 0 {
+            text.push(b'\n')?;
+        }
+        text.append(line.as_bytes())?;
+    }
+    Ok(text)
+}
