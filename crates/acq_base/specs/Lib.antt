@@ -1,4 +1,5 @@
 pub mod Sum
 pub mod Uri
 pub mod Words
+pub mod Fetch
 pub mod Plan

@@ -41,6 +41,17 @@ pub enum Reply {
     NoMemory,
 }
 
+impl TryCopy for Job {
+    fn copy(&self, alloc: Global) -> Result<Job, NoMemory> {
+        Ok(Job {
+            no: self.no,
+            uri: self.uri.copy(alloc)?,
+            max: self.max,
+            from: self.from,
+        })
+    }
+}
+
 impl TryCopy for Answer {
     fn copy(&self, alloc: Global) -> Result<Answer, NoMemory> {
         Ok(match self {

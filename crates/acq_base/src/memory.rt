@@ -1,3 +1,4 @@
+use crate::Refusal;
 use std::alloc::{AllocError, AllocFailed};
 use std::error::Error;
 use std::fmt;
@@ -13,6 +14,20 @@ impl fmt::Display for NoMemory {
 }
 
 impl Error for NoMemory {}
+
+impl Refusal for NoMemory {
+    ghost number = { λ _. 0 };
+
+    ghost line = { λ _. 0 };
+
+    fn number(&self) -> u32 {
+        0
+    }
+
+    fn line(&self) -> u64 {
+        0
+    }
+}
 
 impl From<AllocError> for NoMemory {
     fn from(_error: AllocError) -> NoMemory {

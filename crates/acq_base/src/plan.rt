@@ -1,4 +1,5 @@
-use crate::{ListName, Row, Text, Uri};
+use crate::{ListName, NoMemory, Row, Text, TryCopy, Uri};
+use std::alloc::Global;
 
 /// What an index lists: binary packages of an architecture, source packages, or descriptions in a language.
 #[derive(Debug, PartialEq, Drop)]
@@ -41,4 +42,47 @@ pub struct Source {
 #[derive(Debug, PartialEq, Drop)]
 pub struct Plan {
     pub sources: Row<Source>,
+}
+
+impl TryCopy for Kind {
+    fn copy(&self, alloc: Global) -> Result<Kind, NoMemory> {
+        Ok(match self {
+            Kind::Packages(arch) => Kind::Packages(arch.copy(alloc)?),
+            Kind::Sources => Kind::Sources,
+            Kind::Translation(language) => Kind::Translation(language.copy(alloc)?),
+        })
+    }
+}
+
+impl TryCopy for Target {
+    fn copy(&self, alloc: Global) -> Result<Target, NoMemory> {
+        Ok(Target {
+            path: self.path.copy(alloc)?,
+            uri: self.uri.copy(alloc)?,
+            name: self.name.copy(alloc)?,
+            kind: self.kind.copy(alloc)?,
+        })
+    }
+}
+
+impl TryCopy for Source {
+    fn copy(&self, alloc: Global) -> Result<Source, NoMemory> {
+        Ok(Source {
+            base: self.base.copy(alloc)?,
+            suite: self.suite.copy(alloc)?,
+            release: self.release.copy(alloc)?,
+            release_name: self.release_name.copy(alloc)?,
+            by_hash: self.by_hash,
+            pdiffs: self.pdiffs,
+            targets: self.targets.copy(alloc)?,
+        })
+    }
+}
+
+impl TryCopy for Plan {
+    fn copy(&self, alloc: Global) -> Result<Plan, NoMemory> {
+        Ok(Plan {
+            sources: self.sources.copy(alloc)?,
+        })
+    }
 }

@@ -48,6 +48,23 @@ impl<T> Row<T> {
         Ok(())
     }
 
+    /// Appends copies of cells. Without memory the row stays as it was.
+    pub fn append(&mut self, cells: &[T]) -> Result<(), NoMemory>
+    where
+        T: Copy,
+        ensures { MatchResult result (λ _. self.new ≡ self.old ++ cells.now) (λ _. self.new ≡ self.old) }
+    {
+        self.cells.extend_from_slice(cells)?;
+        Ok(())
+    }
+
+    /// The cells, which move out of the row.
+    pub fn into_vec(self) -> Vec<T>
+        ensures { result.items ≡ self }
+    {
+        self.cells
+    }
+
     /// How many cells the row has.
     pub fn len(&self) -> usize
         ensures { result ≡ length self.now }

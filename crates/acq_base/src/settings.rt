@@ -1,4 +1,5 @@
-use crate::{ByHash, Row, Text};
+use crate::{ByHash, NoMemory, Row, Text, TryCopy};
+use std::alloc::Global;
 
 /// How a Release's dates are judged, in seconds. A `min` or `max` of 0 is none.
 #[derive(Clone, Copy, Debug, PartialEq, Eq)]
@@ -37,4 +38,22 @@ pub struct Settings {
     pub size_limit: u32,
     /// Whether lists of no source are dropped after a run without a kept source.
     pub cleanup: bool,
+}
+
+impl TryCopy for Settings {
+    fn copy(&self, alloc: Global) -> Result<Settings, NoMemory> {
+        Ok(Settings {
+            arch: self.arch.copy(alloc)?,
+            archs: self.archs.copy(alloc)?,
+            langs: self.langs.copy(alloc)?,
+            pick: self.pick,
+            dates: self.dates,
+            retries: self.retries,
+            by_hash: self.by_hash,
+            pdiffs: self.pdiffs,
+            file_limit: self.file_limit,
+            size_limit: self.size_limit,
+            cleanup: self.cleanup,
+        })
+    }
 }

@@ -1,6 +1,6 @@
 ghost use Rattle.std.specs.Prelude.{◌≡◌, ◌++◌, ◌∷◌, [], length, IfOk, MatchResult, nat_eq};
 
-use crate::{NoMemory, TryCopy};
+use crate::{Bytes, NoMemory, TryCopy};
 use std::alloc::Global;
 use std::cmp::Ordering;
 use std::marker::Model;
@@ -45,6 +45,13 @@ impl Text {
         self.bytes.as_slice()
     }
 
+    /// The bytes, which move out of the text.
+    pub fn into_bytes(self) -> Bytes
+        ensures { result ≡ self }
+    {
+        Bytes::from(self.bytes)
+    }
+
     /// Appends one byte. Without memory the text stays as it was.
     pub fn push(&mut self, byte: u8) -> Result<(), NoMemory>
         ensures { MatchResult result (λ _. self.new ≡ self.old ++ byte ∷ []) (λ _. self.new ≡ self.old) }
@@ -73,6 +80,14 @@ impl Text {
         ensures { result ≡ nat_eq (length self.now) 0 }
     {
         self.bytes.is_empty()
+    }
+}
+
+impl From<Vec<u8>> for Text {
+    ghost from_gives = { λ bytes text. text ≡ bytes.items };
+
+    fn from(bytes: Vec<u8>) -> Text {
+        Text { bytes }
     }
 }
 
