@@ -1,5 +1,5 @@
 -- The configuration folder, where it tells (sources.list(5), apt.conf(5), section FILES).
-use Rattle.std.specs.Prelude.{ℕ, ◌==◌, ◌&&◌, nat_eq, Bool, true, false, if◌then◌else◌, List, [], ◌∷◌, Option, Some, None}
+use Rattle.std.specs.Prelude.{◌≡◌, ℕ, ◌==◌, ◌&&◌, nat_eq, Bool, true, false, if◌then◌else◌, List, [], ◌∷◌, Option, Some, None, AllPairs}
 use Rattle.std.specs.Cmp.Lexicographic.{pointwise}
 use Rattle.acq_outside.specs.declared.etc.Place.{Place}
 use Rattle.acq_outside.specs.declared.etc.Place.TheVariants.{SourcesList, SourcesParts, Conf, ConfParts}
@@ -34,3 +34,7 @@ folder_names files place = if is_folder place then names_in files place else []
 abbrev pub bytes_at : EtcFiles → Place → List ℕ → Option (List ℕ)
 bytes_at [] place name = None
 bytes_at (file ∷ files) place name = if (place_index file.0 == place_index place) && pointwise nat_eq file.1 name then Some file.2 else bytes_at files place name
+
+-- no two files have the same place and name
+abbrev pub IsDistinct : EtcFiles → Type 0
+IsDistinct files = AllPairs (λ a b. (place_index a.0 == place_index b.0) && pointwise nat_eq a.1 b.1 ≡ false) files

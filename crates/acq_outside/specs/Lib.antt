@@ -4,3 +4,10 @@ pub mod Disk
 pub mod Mirror
 pub mod Sink
 pub mod Whole
+pub mod Failing
+pub mod FixedClock
+pub mod MemSink
+pub mod MapMethod
+pub mod MemEtc
+pub mod History
+pub mod MemDisk

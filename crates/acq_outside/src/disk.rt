@@ -1,4 +1,4 @@
-ghost use Rattle.std.specs.Prelude.{◌≡◌, ℕ, ◌≤◌, [], Bool, IsTrue, length, Option, IfOk, OnOk, OnErr, IsErrOf, IfSome, IsSomeAnd, option_map, unwrap_or};
+ghost use Rattle.std.specs.Prelude.{◌≡◌, ℕ, ◌<◌, ◌≤◌, ◌^◌, [], Bool, IsTrue, length, Option, IfOk, OnOk, OnErr, IsErrOf, IfSome, IsSomeAnd, option_map, unwrap_or};
 ghost use Rattle.acq_outside.specs.Count.{Rose};
 ghost use Rattle.acq_outside.specs.Disk.{Files, IsName, IsNames, IsRead, IsTornWrite, IsTornCut, IsDoneOrNot, after_write, after_cut, after_rename, after_remove};
 
@@ -19,12 +19,13 @@ pub trait Disk: Drop {
     /// Its files as reads give them.
     ghost files: { Self → Files };
 
-    /// All names, each once and sorted by bytes.
+    /// All names, each once and sorted by bytes: fewer than 2^31, and `NoMemory` where there are more.
     fn names(&mut self, alloc: Global) -> Result<Row<Text>, OutError>
         ensures count { faults self.old ≤ faults self.new }
         ensures fault { IsErrOf result OutError.Fault → Rose (faults self.old) (faults self.new) }
         ensures telling { tells self.new ≡ tells self.old }
         ensures same { files self.new ≡ files self.old }
+        ensures few { IfOk result (λ names. length names < 2 ^ 31) }
         ensures told { IsTrue (tells self.old) → IfOk result (IsNames (files self.old)) };
 
     /// A file's length in bytes, `None` where there is no such file.

@@ -22,9 +22,10 @@ pub fn write_whole<D: Disk>(disk: &mut D, name: &[u8], bytes: &[u8]) -> Result<(
     ensures others { IsTrue (D.tells disk.old) → (other : List ℕ) → other ≢ name.now → D.files disk.new other ≡ D.files disk.old other }
 {
     disk.cut(name, 0)?;
-    if !bytes.is_empty() {
-        disk.write_at(name, 0, bytes)?;
+    if bytes.is_empty() {
+        return disk.sync(name);
     }
+    disk.write_at(name, 0, bytes)?;
     disk.sync(name)
 }
 

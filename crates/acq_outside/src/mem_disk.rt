@@ -1,0 +1,325 @@
+ghost use Rattle.std.specs.Prelude.{◌≡◌, ◌≤◌, length, IfOk, option_map};
+ghost use Rattle.acq_outside.specs.Disk.{IsRead};
+
+use crate::change::Change;
+use crate::failing::Failing;
+use crate::held::read_from;
+use crate::history::History;
+use crate::{Disk, Fault, OutError};
+use acq_base::{Bytes, NoMemory, Row, Text};
+use std::alloc::Global;
+
+/// More names than `names` gives.
+const MOST_NAMES: usize = 2_147_483_648;
+
+/// A disk in memory. It keeps the files that it began with and the list of its changes.
+#[derive(Debug, Drop)]
+pub struct MemDisk {
+    alloc: Global,
+    history: History,
+    held: bool,
+    failing: Failing,
+}
+
+impl MemDisk {
+    ghost use Rattle.std.specs.Prelude.{◌≡◌, [], Result, false, IsTrue, IfOk, IsOk, IsErr, OnOk, OnErr, MatchResult};
+    ghost use Rattle.acq_outside.specs.Failing.{fresh, is_listed, counted, starved};
+    ghost use Rattle.acq_outside.specs.History.{IsStart, changed};
+    ghost use Rattle.acq_outside.specs.MemDisk.{past_of, failing_of};
+
+    /// A disk that begins with these files: names that a disk may have, no two the same, and their bytes. `held` says
+    /// whether another process holds it. `failing` holds the numbers of its calls that are to fail, counted from 1.
+    pub fn new(
+        alloc: Global,
+        files: Row<(Text, Bytes)>,
+        held: bool,
+        failing: Row<u64>,
+    ) -> Result<MemDisk, NoMemory>
+        requires { IsStart files }
+        ensures past { IfOk result (λ disk. past_of disk ≡ record { start = files; changes = [] }) }
+        ensures failing { IfOk result (λ disk. failing_of disk ≡ fresh failing) }
+    {
+        Ok(MemDisk {
+            alloc,
+            history: History::new(alloc, files)?,
+            held,
+            failing: Failing::new(failing),
+        })
+    }
+
+    /// How many of its faults were for want of memory that its call can't name.
+    pub fn dry(&self) -> u64
+        ensures { result ≡ (failing_of self.now).dry }
+    {
+        self.failing.dry
+    }
+
+    /// Counts a call, and does this change unless the call is listed.
+    fn step(&mut self, change: Result<Change, NoMemory>) -> Result<(), Fault>
+        ensures ok { OnOk result (IfOk change (λ done. past_of self.new ≡ changed (past_of self.old) done)) }
+        ensures made { OnOk result (IsOk change) }
+        ensures err { OnErr result (past_of self.new ≡ past_of self.old) }
+        ensures listed { IsTrue (is_listed (failing_of self.old)) → IsErr result × (failing_of self.new ≡ counted (failing_of self.old)) }
+        ensures others { is_listed (failing_of self.old) ≡ false → MatchResult result (λ _. failing_of self.new ≡ counted (failing_of self.old)) (λ _. failing_of self.new ≡ starved (counted (failing_of self.old))) }
+    {
+        self.failing.call()?;
+        match change {
+            Ok(change) => self.apply(change),
+            Err(NoMemory) => Err(self.failing.run_dry()),
+        }
+    }
+
+    /// Does this change within a call that is counted.
+    fn apply(&mut self, change: Change) -> Result<(), Fault>
+        ensures past { MatchResult result (λ _. past_of self.new ≡ changed (past_of self.old) change) (λ _. past_of self.new ≡ past_of self.old) }
+        ensures failing { MatchResult result (λ _. failing_of self.new ≡ failing_of self.old) (λ _. failing_of self.new ≡ starved (failing_of self.old)) }
+    {
+        match self.history.apply(self.alloc, change) {
+            Ok(()) => Ok(()),
+            Err(NoMemory) => Err(self.failing.run_dry()),
+        }
+    }
+}
+
+impl Disk for MemDisk {
+    ghost use Rattle.std.specs.Prelude.{◌≡◌, ◌≤◌, ◌<◌, ◌^◌, ℕ, [], Bool, true, false, length, IsTrue, IsErr, IsErrOf, IsOkUnless, Err, IfOk, OnOk, OnErr, MatchResult, IsSomeAnd, option_map, unwrap_or};
+    ghost use Rattle.acq_outside.specs.Count.{Rose};
+    ghost use Rattle.acq_outside.specs.Disk.{IsName, IsNames, IsRead, IsTornWrite, IsTornCut, IsDoneOrNot, after_write, after_cut, after_rename, after_remove};
+    ghost use Rattle.acq_outside.specs.Failing.{is_listed, counted, starved};
+    ghost use Rattle.acq_outside.specs.History.{files_of, changed};
+    ghost use Rattle.acq_outside.specs.MemDisk.{past_of, failing_of};
+
+    ghost faults = { λ disk. (failing_of disk).faults };
+
+    ghost tells = { λ _. true };
+
+    ghost files = { λ disk. files_of (past_of disk) };
+
+    fn names(&mut self, alloc: Global) -> Result<Row<Text>, OutError>
+        ensures count { (failing_of self.old).faults ≤ (failing_of self.new).faults }
+        ensures fault { IsErrOf result OutError.Fault → Rose (failing_of self.old).faults (failing_of self.new).faults }
+        ensures telling { true ≡ true }
+        ensures same { files_of (past_of self.new) ≡ files_of (past_of self.old) }
+        ensures few { IfOk result (λ names. length names < 2 ^ 31) }
+        ensures told { IsTrue true → IfOk result (IsNames (files_of (past_of self.old))) }
+
+        // A listed call fails, and no other one does but for want of memory.
+        ensures past { past_of self.new ≡ past_of self.old }
+        ensures counted { failing_of self.new ≡ counted (failing_of self.old) }
+        ensures listed { IsTrue (is_listed (failing_of self.old)) → result ≡ Err OutError.Fault }
+        ensures others { is_listed (failing_of self.old) ≡ false → IsOkUnless result OutError.NoMemory }
+    {
+        self.failing.call()?;
+        let names = self.history.names(alloc)?;
+        if names.len() >= MOST_NAMES {
+            return Err(OutError::NoMemory);
+        }
+        Ok(names)
+    }
+
+    fn size(&mut self, name: &[u8]) -> Result<Option<u64>, Fault>
+        requires { IsName name.now }
+        ensures count { (failing_of self.old).faults ≤ (failing_of self.new).faults }
+        ensures fault { OnErr result (Rose (failing_of self.old).faults (failing_of self.new).faults) }
+        ensures telling { true ≡ true }
+        ensures same { files_of (past_of self.new) ≡ files_of (past_of self.old) }
+        ensures told { IsTrue true → IfOk result (λ size. size ≡ option_map length (files_of (past_of self.old) name.now)) }
+
+        // A listed call fails, and another one for want of memory alone.
+        ensures past { past_of self.new ≡ past_of self.old }
+        ensures listed { IsTrue (is_listed (failing_of self.old)) → IsErr result × (failing_of self.new ≡ counted (failing_of self.old)) }
+        ensures others { is_listed (failing_of self.old) ≡ false → MatchResult result (λ _. failing_of self.new ≡ counted (failing_of self.old)) (λ _. failing_of self.new ≡ starved (counted (failing_of self.old))) }
+    {
+        self.failing.call()?;
+        match Text::from_bytes(self.alloc, name) {
+            Ok(name) => Ok(size_of(self.history.get(&name))),
+            Err(NoMemory) => Err(self.failing.run_dry()),
+        }
+    }
+
+    fn read_at(&mut self, name: &[u8], at: u64, out: &mut [u8]) -> Result<usize, Fault>
+        requires { IsName name.now }
+        ensures count { (failing_of self.old).faults ≤ (failing_of self.new).faults }
+        ensures fault { OnErr result (Rose (failing_of self.old).faults (failing_of self.new).faults) }
+        ensures telling { true ≡ true }
+        ensures same { files_of (past_of self.new) ≡ files_of (past_of self.old) }
+        ensures within { IfOk result (λ n. n ≤ length out.old) }
+        ensures told { IsTrue true → IfOk result (λ n. IsRead (files_of (past_of self.old) name.now) at n out.old out.new) }
+
+        // A listed call fails, and another one for want of memory alone.
+        ensures past { past_of self.new ≡ past_of self.old }
+        ensures listed { IsTrue (is_listed (failing_of self.old)) → IsErr result × (failing_of self.new ≡ counted (failing_of self.old)) }
+        ensures others { is_listed (failing_of self.old) ≡ false → MatchResult result (λ _. failing_of self.new ≡ counted (failing_of self.old)) (λ _. failing_of self.new ≡ starved (counted (failing_of self.old))) }
+    {
+        self.failing.call()?;
+        match Text::from_bytes(self.alloc, name) {
+            Ok(name) => Ok(read_some(self.history.get(&name), at, out)),
+            Err(NoMemory) => Err(self.failing.run_dry()),
+        }
+    }
+
+    fn write_at(&mut self, name: &[u8], at: u64, bytes: &[u8]) -> Result<(), Fault>
+        requires name { IsName name.now }
+        requires there { IsTrue true → IsSomeAnd (files_of (past_of self.old) name.now) (λ content. at ≤ length content) }
+        ensures count { (failing_of self.old).faults ≤ (failing_of self.new).faults }
+        ensures fault { OnErr result (Rose (failing_of self.old).faults (failing_of self.new).faults) }
+        ensures telling { true ≡ true }
+        ensures ok { IsTrue true → OnOk result (files_of (past_of self.new) ≡ after_write (files_of (past_of self.old)) name.now at bytes.now) }
+        ensures err { IsTrue true → OnErr result (IsTornWrite (files_of (past_of self.old)) (files_of (past_of self.new)) name.now at (length bytes.now)) }
+
+        // A listed call fails, and another one for want of memory alone. One that fails changes nothing.
+        ensures change { OnOk result (past_of self.new ≡ changed (past_of self.old) (Change.Write name.now at bytes.now)) }
+        ensures failed { OnErr result (past_of self.new ≡ past_of self.old) }
+        ensures listed { IsTrue (is_listed (failing_of self.old)) → IsErr result × (failing_of self.new ≡ counted (failing_of self.old)) }
+        ensures others { is_listed (failing_of self.old) ≡ false → MatchResult result (λ _. failing_of self.new ≡ counted (failing_of self.old)) (λ _. failing_of self.new ≡ starved (counted (failing_of self.old))) }
+    {
+        let change = write_change(self.alloc, name, at, bytes);
+        self.step(change)
+    }
+
+    fn cut(&mut self, name: &[u8], len: u64) -> Result<(), Fault>
+        requires name { IsName name.now }
+        requires within { IsTrue true → len ≤ length (unwrap_or (files_of (past_of self.old) name.now) []) }
+        ensures count { (failing_of self.old).faults ≤ (failing_of self.new).faults }
+        ensures fault { OnErr result (Rose (failing_of self.old).faults (failing_of self.new).faults) }
+        ensures telling { true ≡ true }
+        ensures ok { IsTrue true → OnOk result (files_of (past_of self.new) ≡ after_cut (files_of (past_of self.old)) name.now len) }
+        ensures err { IsTrue true → OnErr result (IsTornCut (files_of (past_of self.old)) (files_of (past_of self.new)) name.now len) }
+
+        // A listed call fails, and another one for want of memory alone. One that fails changes nothing.
+        ensures change { OnOk result (past_of self.new ≡ changed (past_of self.old) (Change.Cut name.now len)) }
+        ensures failed { OnErr result (past_of self.new ≡ past_of self.old) }
+        ensures listed { IsTrue (is_listed (failing_of self.old)) → IsErr result × (failing_of self.new ≡ counted (failing_of self.old)) }
+        ensures others { is_listed (failing_of self.old) ≡ false → MatchResult result (λ _. failing_of self.new ≡ counted (failing_of self.old)) (λ _. failing_of self.new ≡ starved (counted (failing_of self.old))) }
+    {
+        let change = cut_change(self.alloc, name, len);
+        self.step(change)
+    }
+
+    fn sync(&mut self, name: &[u8]) -> Result<(), Fault>
+        requires { IsName name.now }
+        ensures count { (failing_of self.old).faults ≤ (failing_of self.new).faults }
+        ensures fault { OnErr result (Rose (failing_of self.old).faults (failing_of self.new).faults) }
+        ensures telling { true ≡ true }
+        ensures same { files_of (past_of self.new) ≡ files_of (past_of self.old) }
+
+        // A listed call fails, and another one for want of memory alone. One that fails changes nothing.
+        ensures change { OnOk result (past_of self.new ≡ changed (past_of self.old) (Change.Sync name.now)) }
+        ensures failed { OnErr result (past_of self.new ≡ past_of self.old) }
+        ensures listed { IsTrue (is_listed (failing_of self.old)) → IsErr result × (failing_of self.new ≡ counted (failing_of self.old)) }
+        ensures others { is_listed (failing_of self.old) ≡ false → MatchResult result (λ _. failing_of self.new ≡ counted (failing_of self.old)) (λ _. failing_of self.new ≡ starved (counted (failing_of self.old))) }
+    {
+        let change = sync_change(self.alloc, name);
+        self.step(change)
+    }
+
+    fn rename(&mut self, from: &[u8], to: &[u8]) -> Result<(), Fault>
+        requires from { IsName from.now }
+        requires to { IsName to.now }
+        ensures count { (failing_of self.old).faults ≤ (failing_of self.new).faults }
+        ensures fault { OnErr result (Rose (failing_of self.old).faults (failing_of self.new).faults) }
+        ensures telling { true ≡ true }
+        ensures ok { IsTrue true → OnOk result (files_of (past_of self.new) ≡ after_rename (files_of (past_of self.old)) from.now to.now) }
+        ensures err { IsTrue true → OnErr result (IsDoneOrNot (files_of (past_of self.old)) (files_of (past_of self.new)) (after_rename (files_of (past_of self.old)) from.now to.now)) }
+
+        // A listed call fails, and another one for want of memory alone. One that fails changes nothing.
+        ensures change { OnOk result (past_of self.new ≡ changed (past_of self.old) (Change.Rename from.now to.now)) }
+        ensures failed { OnErr result (past_of self.new ≡ past_of self.old) }
+        ensures listed { IsTrue (is_listed (failing_of self.old)) → IsErr result × (failing_of self.new ≡ counted (failing_of self.old)) }
+        ensures others { is_listed (failing_of self.old) ≡ false → MatchResult result (λ _. failing_of self.new ≡ counted (failing_of self.old)) (λ _. failing_of self.new ≡ starved (counted (failing_of self.old))) }
+    {
+        let change = rename_change(self.alloc, from, to);
+        self.step(change)
+    }
+
+    fn remove(&mut self, name: &[u8]) -> Result<(), Fault>
+        requires { IsName name.now }
+        ensures count { (failing_of self.old).faults ≤ (failing_of self.new).faults }
+        ensures fault { OnErr result (Rose (failing_of self.old).faults (failing_of self.new).faults) }
+        ensures telling { true ≡ true }
+        ensures ok { IsTrue true → OnOk result (files_of (past_of self.new) ≡ after_remove (files_of (past_of self.old)) name.now) }
+        ensures err { IsTrue true → OnErr result (IsDoneOrNot (files_of (past_of self.old)) (files_of (past_of self.new)) (after_remove (files_of (past_of self.old)) name.now)) }
+
+        // A listed call fails, and another one for want of memory alone. One that fails changes nothing.
+        ensures change { OnOk result (past_of self.new ≡ changed (past_of self.old) (Change.Remove name.now)) }
+        ensures failed { OnErr result (past_of self.new ≡ past_of self.old) }
+        ensures listed { IsTrue (is_listed (failing_of self.old)) → IsErr result × (failing_of self.new ≡ counted (failing_of self.old)) }
+        ensures others { is_listed (failing_of self.old) ≡ false → MatchResult result (λ _. failing_of self.new ≡ counted (failing_of self.old)) (λ _. failing_of self.new ≡ starved (counted (failing_of self.old))) }
+    {
+        let change = remove_change(self.alloc, name);
+        self.step(change)
+    }
+
+    fn sync_names(&mut self) -> Result<(), Fault>
+        ensures count { (failing_of self.old).faults ≤ (failing_of self.new).faults }
+        ensures fault { OnErr result (Rose (failing_of self.old).faults (failing_of self.new).faults) }
+        ensures telling { true ≡ true }
+        ensures same { files_of (past_of self.new) ≡ files_of (past_of self.old) }
+
+        // A listed call fails, and another one for want of memory alone. One that fails changes nothing.
+        ensures change { OnOk result (past_of self.new ≡ changed (past_of self.old) (Change.SyncNames)) }
+        ensures failed { OnErr result (past_of self.new ≡ past_of self.old) }
+        ensures listed { IsTrue (is_listed (failing_of self.old)) → IsErr result × (failing_of self.new ≡ counted (failing_of self.old)) }
+        ensures others { is_listed (failing_of self.old) ≡ false → MatchResult result (λ _. failing_of self.new ≡ counted (failing_of self.old)) (λ _. failing_of self.new ≡ starved (counted (failing_of self.old))) }
+    {
+        self.step(Ok(Change::SyncNames))
+    }
+}
+
+fn write_change(alloc: Global, name: &[u8], at: u64, bytes: &[u8]) -> Result<Change, NoMemory>
+    ensures { IfOk result (λ change. change ≡ Change.Write name.now at bytes.now) }
+{
+    Ok(Change::Write {
+        name: Text::from_bytes(alloc, name)?,
+        at,
+        bytes: Bytes::from(Vec::from_slice(alloc, bytes)?),
+    })
+}
+
+fn cut_change(alloc: Global, name: &[u8], len: u64) -> Result<Change, NoMemory>
+    ensures { IfOk result (λ change. change ≡ Change.Cut name.now len) }
+{
+    Ok(Change::Cut {
+        name: Text::from_bytes(alloc, name)?,
+        len,
+    })
+}
+
+fn sync_change(alloc: Global, name: &[u8]) -> Result<Change, NoMemory>
+    ensures { IfOk result (λ change. change ≡ Change.Sync name.now) }
+{
+    Ok(Change::Sync(Text::from_bytes(alloc, name)?))
+}
+
+fn rename_change(alloc: Global, from: &[u8], to: &[u8]) -> Result<Change, NoMemory>
+    ensures { IfOk result (λ change. change ≡ Change.Rename from.now to.now) }
+{
+    Ok(Change::Rename {
+        from: Text::from_bytes(alloc, from)?,
+        to: Text::from_bytes(alloc, to)?,
+    })
+}
+
+fn remove_change(alloc: Global, name: &[u8]) -> Result<Change, NoMemory>
+    ensures { IfOk result (λ change. change ≡ Change.Remove name.now) }
+{
+    Ok(Change::Remove(Text::from_bytes(alloc, name)?))
+}
+
+/// The length of a content, if there is one.
+fn size_of(content: Option<&Bytes>) -> Option<u64>
+    ensures { result ≡ option_map (λ bytes. length bytes.now) content.entry }
+{
+    content.map(|bytes| bytes.len() as u64)
+}
+
+/// Reads bytes of a content, if there is one, into the front of `out` and answers how many.
+fn read_some(content: Option<&Bytes>, at: u64, out: &mut [u8]) -> usize
+    ensures within { result ≤ length out.old }
+    ensures read { IsRead (option_map (λ bytes. bytes.now) content.entry) at result out.old out.new }
+{
+    match content {
+        Some(bytes) => read_from(bytes.as_slice(), at, out),
+        None => 0,
+    }
+}
