@@ -1,3 +1,4 @@
 mod Examples
+pub mod Planning
 pub mod Sums
 pub mod Wording

@@ -25,6 +25,13 @@ pub record IsSoundSource (source : Source) : Type 0 where
   pub named : source.release_name.0 ≡ list_name source.release
   pub targets : All IsSoundTarget source.targets
 
+-- what holds of each source of a sound plan, for calls that take one source
+pub record IsPlanned (source : Source) : Type 0 where
+  pub sound : IsSoundSource source
+  pub distinct : AllPairs (λ a b. a ≢ b) (names_of source)
+  pub short : All (λ name. length name ≤ 240) (names_of source)
+  pub few : length (names_of source) ≤ 4096
+
 pub record IsSound (plan : Plan) : Type 0 where
   pub sources : All IsSoundSource plan.sources
   pub distinct : AllPairs (λ a b. a ≢ b) (plan_names plan)
