@@ -1,8 +1,8 @@
 -- What is left of a trimmed text, and the words of a text one after another, for readers that go from the left.
 use Rattle.std.proofs.Common.{◌≡◌, ℕ, ◌-◌, ◌<◌, Bool, true, false, cond, List, [], ◌∷◌, ◌++◌, inl, inr, length, get_or, reverse, refl, sym, ap, ◌∙◌, arith}
-use Rattle.std.specs.List.{All, filter}
+use Rattle.std.specs.List.{All, filter, onto_first, slice_split}
 use Rattle.std.proofs.lemmas.List.{get_or-reverse, length-reverse, reverse-append, reverse-reverse}
-use Rattle.std.proofs.lemmas.List.Elements.{All-cons, All-nil}
+use Rattle.std.proofs.lemmas.List.Elements.{All-cons, All-filter, All-head, All-nil, All-tail, filter_passes}
 use Rattle.std.proofs.lemmas.List.Splits.{slice_split_none, slice_split_at, slice_split-cons_yes}
 use Rattle.std.proofs.lemmas.Bool.{cases_Bool}
 use Rattle.std.proofs.lemmas.Bool.Decides.{nat_tests}
@@ -88,3 +88,28 @@ unfolding words
 words-first separates word c rest plain h stop =
     ap (filter is_word) (slice_split_at separates word c rest plain stop)
     ∙ ap (λ b. cond b (word ∷ words separates rest) (words separates rest)) (is_word-nonempty word h)
+
+-- no piece between separators has one, and no word is empty
+abbrev IsPlain : (ℕ → Bool) → List ℕ → Type 0
+IsPlain separates piece = All (λ c. separates c ≡ false) piece
+
+onto_first-plain : (separates : ℕ → Bool) (c : ℕ) (pieces : List (List ℕ)) → separates c ≡ false → All (IsPlain separates) pieces → All (IsPlain separates) (onto_first c pieces)
+onto_first-plain separates c [] h plain = All-cons (IsPlain separates) (c ∷ []) [] (All-cons (λ c. separates c ≡ false) c [] h (All-nil _)) (All-nil _)
+onto_first-plain separates c (piece ∷ pieces) h plain =
+    All-cons (IsPlain separates) (c ∷ piece) pieces (All-cons (λ c. separates c ≡ false) c piece h (All-head (IsPlain separates) piece pieces plain)) (All-tail (IsPlain separates) piece pieces plain)
+
+pieces-plain : (separates : ℕ → Bool) (text : List ℕ) → All (IsPlain separates) (slice_split separates text)
+pieces-plain separates [] = All-cons (IsPlain separates) [] [] (All-nil _) (All-nil _)
+pieces-plain separates (c ∷ rest) =
+    elim (cases_Bool (separates c)) [
+      | inl stop ↦ rw stop (All-cons (IsPlain separates) [] (slice_split separates rest) (All-nil _) (pieces-plain separates rest))
+      | inr word ↦ rw word (onto_first-plain separates c (slice_split separates rest) word (pieces-plain separates rest))
+    ]
+
+pub words-plain : (separates : ℕ → Bool) (text : List ℕ) → All (λ word. All (λ c. separates c ≡ false) word) (words separates text)
+unfolding words
+words-plain separates text = All-filter is_word (IsPlain separates) (slice_split separates text) (pieces-plain separates text)
+
+pub words-nonempty : (separates : ℕ → Bool) (text : List ℕ) → All (λ word. is_word word ≡ true) (words separates text)
+unfolding words
+words-nonempty separates text = filter_passes is_word (slice_split separates text)
