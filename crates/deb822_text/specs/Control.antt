@@ -1,5 +1,5 @@
 -- Control text (Debian Policy, section 5.1): the paragraphs of a text, and the line at which a text is refused.
-use Rattle.std.specs.Prelude.{◌≡◌, ℕ, ◌+◌, ◌==◌, ◌||◌, ◌&&◌, not, nat_le, Bool, true, false, if◌then◌else◌, List, [], ◌∷◌, ◌++◌, length, map, filter, find, reverse, drop, Option, Some, None, Result, Ok, Err}
+use Rattle.std.specs.Prelude.{◌≡◌, ℕ, ◌+◌, ◌==◌, ◌||◌, ◌&&◌, not, nat_le, Bool, true, false, if◌then◌else◌, List, [], ◌∷◌, ◌++◌, map, filter, find, reverse, drop, Option, Some, None, Result, Ok, Err}
 use Rattle.std.specs.List.{list_any, list_all, slice_split, before_first, after_first}
 use Rattle.std.specs.Str.{str_eq_ignore_ascii_case}
 use Rattle.std.specs.Str.Lines.{lines as text_lines}
@@ -20,17 +20,25 @@ is_colon c = c == 58
 abbrev pub is_hash : ℕ → Bool
 is_hash c = c == 35
 
+abbrev pub is_empty : {X : Type 0} → List X → Bool
+is_empty [] = true
+is_empty (x ∷ xs) = false
+
 -- the first byte passes the test, and there is one
 abbrev pub begins_with : (ℕ → Bool) → List ℕ → Bool
 begins_with test [] = false
 begins_with test (c ∷ cs) = test c
+
+-- neither `#` nor `-`
+abbrev pub may_begin_name : ℕ → Bool
+may_begin_name c = not (is_hash c || c == 45)
 
 abbrev pub is_name_character : ℕ → Bool
 is_name_character c = nat_le 33 c && nat_le c 126 && not (is_colon c)
 
 -- a field's name: printable ASCII but space and colon, at least one, `#` and `-` not first
 abbrev pub is_name : List ℕ → Bool
-is_name name = begins_with (λ c. not (is_hash c || c == 45)) name && list_all is_name_character name
+is_name name = begins_with may_begin_name name && list_all is_name_character name
 
 abbrev pub trimmed_start : List ℕ → List ℕ
 trimmed_start [] = []
@@ -51,6 +59,14 @@ pub data Line : Type 0 where
   Named : ℕ → List ℕ → List ℕ → Line
   Unknown : ℕ → Line
 
+-- a name, a colon, and text
+abbrev pub named_line : ℕ → List ℕ → List ℕ → Line
+named_line at name text = if is_name name then Named at name (trimmed text) else Unknown at
+
+-- what stands before the first colon is the name
+abbrev pub field_line : ℕ → List ℕ → Line
+field_line at line = if list_any is_colon line then named_line at (before_first is_colon line) (after_first is_colon line) else Unknown at
+
 -- A line of blanks alone separates paragraphs. A comment begins with `#`, where comments are on. A continuation begins
 -- with a blank, which isn't its text's. A field is a name, a colon, and text. Blanks at the ends of a text don't count.
 unfoldable pub line_of : Bool → ℕ → List ℕ → Line
@@ -58,8 +74,7 @@ line_of comments at line =
     if list_all is_blank line then Separator
     else if comments && begins_with is_hash line then Comment
     else if begins_with is_blank line then Continuation at (trimmed_end (drop 1 line))
-    else if list_any is_colon line && is_name (before_first is_colon line) then Named at (before_first is_colon line) (trimmed (after_first is_colon line))
-    else Unknown at
+    else field_line at line
 
 abbrev pub lines_from : Bool → ℕ → List (List ℕ) → List Line
 lines_from comments at [] = []
@@ -95,15 +110,12 @@ fields_of [] = []
 fields_of (Named at name text ∷ lines) = record { name = name; lines = text ∷ continued lines; at = at } ∷ fields_of lines
 fields_of (_ ∷ lines) = fields_of lines
 
-abbrev pub is_some_lines : List Line → Bool
-is_some_lines lines = not (length lines == 0)
-
 abbrev pub paragraph_of : List Line → Paragraph
 paragraph_of lines = record { fields = fields_of lines }
 
 -- each group with a line is a paragraph
 abbrev pub paragraphs_in : List (List Line) → List Paragraph
-paragraphs_in groups = map paragraph_of (filter is_some_lines groups)
+paragraphs_in groups = map paragraph_of (filter (λ group. not (is_empty group)) groups)
 
 -- ---- the refusal
 
@@ -121,7 +133,7 @@ has_name names name = list_any (λ other. str_eq_ignore_ascii_case other name) n
 abbrev pub line_fault : List Line → Line → Option TextError
 line_fault before Separator = None
 line_fault before Comment = None
-line_fault before (Continuation at text) = if length (names_in before) == 0 then Some (Loose at) else None
+line_fault before (Continuation at text) = if is_empty (names_in before) then Some (Loose at) else None
 line_fault before (Named at name text) = if has_name (names_in before) name then Some (Twice at) else None
 line_fault before (Unknown at) = Some (BadField at)
 

@@ -1,10 +1,10 @@
 -- How control text is written (Debian Policy, section 5.1), and which paragraphs can be.
-use Rattle.std.specs.Prelude.{◌≡◌, ℕ, ◌==◌, ◌||◌, ◌&&◌, not, Bool, true, false, IsTrue, List, [], ◌∷◌, ◌++◌, length, map, reverse, Result, Ok}
+use Rattle.std.specs.Prelude.{◌≡◌, ℕ, ◌==◌, ◌||◌, ◌&&◌, not, Bool, true, false, IsTrue, List, [], ◌∷◌, ◌++◌, map, reverse, Result, Ok}
 use Rattle.std.specs.List.{list_any, list_all, flat_map}
 use Rattle.deb822_text.specs.declared.paragraph.Field.{Field}
 use Rattle.deb822_text.specs.declared.paragraph.Paragraph.{Paragraph}
 use Rattle.deb822_text.specs.declared.error.TextError.{TextError}
-use Rattle.deb822_text.specs.Control.{is_blank, begins_with, is_name, has_name, paragraphs_of}
+use Rattle.deb822_text.specs.Control.{is_blank, is_empty, begins_with, is_name, has_name, paragraphs_of}
 
 -- ---- what can be written
 
@@ -37,7 +37,7 @@ are_distinct (name ∷ names) = not (has_name names name) && are_distinct names
 
 abbrev pub is_writable_paragraph : Paragraph → Bool
 is_writable_paragraph paragraph =
-    not (length paragraph.fields == 0) && list_all is_writable_field paragraph.fields && are_distinct (map (λ field. field.name) paragraph.fields)
+    not (is_empty paragraph.fields) && list_all is_writable_field paragraph.fields && are_distinct (map (λ field. field.name) paragraph.fields)
 
 unfoldable pub is_writable : List Paragraph → Bool
 is_writable paragraphs = list_all is_writable_paragraph paragraphs

@@ -1,9 +1,11 @@
-ghost use Rattle.std.specs.Prelude.{◌≡◌, IsTrue};
-ghost use Rattle.deb822_text.specs.Written.{is_writable, is_writable_paragraph, is_writable_field, is_first_line, is_later_line, are_field_lines};
+ghost use Rattle.std.specs.Prelude.{◌≡◌, map};
+ghost use Rattle.deb822_text.specs.Written.{is_writable, is_writable_paragraph, is_writable_field, is_first_line, is_later_line, are_field_lines, are_distinct, is_line_character, ends_with};
+ghost use Rattle.std.specs.List.{list_all};
+ghost use Rattle.deb822_text.specs.Control.{is_blank, begins_with};
 
 use crate::cutting::blank;
 use crate::finding::field_of;
-use crate::line::sound_name;
+use crate::line::{all_blank, sound_name};
 use crate::{Field, Paragraph};
 use acq_base::{Row, Text};
 
@@ -59,21 +61,27 @@ fn writable_first(line: &[u8]) -> bool
 fn writable_later(line: &[u8]) -> bool
     ensures { result ≡ is_later_line line.now }
 {
-    one_line(line) && !line.iter().all(|byte| blank(*byte)) && !ends_blank(line)
+    one_line(line) && !all_blank(line) && !ends_blank(line)
 }
 
-fn one_line(line: &[u8]) -> bool {
+fn one_line(line: &[u8]) -> bool
+    ensures { result ≡ list_all is_line_character line.now }
+{
     line.iter().all(|byte| *byte != b'\n' && *byte != b'\r')
 }
 
-fn starts_blank(line: &[u8]) -> bool {
+fn starts_blank(line: &[u8]) -> bool
+    ensures { result ≡ begins_with is_blank line.now }
+{
     match line {
         [first, ..] => blank(*first),
         [] => false,
     }
 }
 
-fn ends_blank(line: &[u8]) -> bool {
+fn ends_blank(line: &[u8]) -> bool
+    ensures { result ≡ ends_with is_blank line.now }
+{
     match line {
         [.., last] => blank(*last),
         [] => false,
@@ -81,7 +89,9 @@ fn ends_blank(line: &[u8]) -> bool {
 }
 
 /// Whether no two of the fields have one name.
-fn distinct(fields: &[Field]) -> bool {
+fn distinct(fields: &[Field]) -> bool
+    ensures { result ≡ are_distinct (map (λ field. field.name) fields.now) }
+{
     let mut rest = fields;
     while let [first, others @ ..] = rest {
         if field_of(others, first.name.as_bytes()).is_some() {

@@ -1,5 +1,6 @@
 ghost use Rattle.std.specs.Prelude.{◌≡◌};
-ghost use Rattle.deb822_text.specs.Control.{is_name, line_of};
+ghost use Rattle.std.specs.List.{list_all};
+ghost use Rattle.deb822_text.specs.Control.{is_blank, is_name, is_name_character, may_begin_name, line_of, field_line, named_line};
 ghost use Rattle.deb822_text.specs.Seen.{seen};
 
 use crate::cutting::{blank, place_of, trim_end, trim_start};
@@ -15,11 +16,11 @@ pub enum Kind<'a> {
 }
 
 /// The kind of a line, whose number is `at`.
-#[tactic(auto, unfolding(crate::specs::Control::line_of))]
+#[tactic(auto, using(crate::proofs::Cuts::fronts), unfolding(crate::specs::Control::line_of))]
 pub fn kind_of(line: &[u8], at: u64, comments: bool) -> Kind<'_>
     ensures { seen result ≡ line_of comments at line.now }
 {
-    if line.iter().all(|byte| blank(*byte)) {
+    if all_blank(line) {
         return Kind::Separator;
     }
     match line {
@@ -29,26 +30,64 @@ pub fn kind_of(line: &[u8], at: u64, comments: bool) -> Kind<'_>
     }
 }
 
+/// Whether a text has nothing but blanks.
+pub fn all_blank(text: &[u8]) -> bool
+    ensures { result ≡ list_all is_blank text.now }
+{
+    text.iter().all(|byte| blank(*byte))
+}
+
 /// A line that begins no other way: a field, or of no kind.
-fn field_of(line: &[u8], at: u64) -> Kind<'_> {
+#[tactic(auto, using(crate::proofs::Cuts::cut_names))]
+fn field_of(line: &[u8], at: u64) -> Kind<'_>
+    ensures { seen result ≡ field_line at line.now }
+{
     let (name, behind) = line.split_at(place_of(b':', line));
-    match behind {
-        [_, text @ ..] if sound_name(name) => Kind::Named(at, name, trim_end(trim_start(text))),
-        _ => Kind::Unknown(at),
+    if behind.is_empty() {
+        return Kind::Unknown(at);
+    }
+    let (_, text) = behind.split_at(1);
+    named(at, name, text)
+}
+
+/// A field, if the name is sound.
+fn named<'a>(at: u64, name: &'a [u8], text: &'a [u8]) -> Kind<'a>
+    ensures { seen result ≡ named_line at name.entry.now text.entry.now }
+{
+    if sound_name(name) {
+        Kind::Named(at, name, trim_end(trim_start(text)))
+    } else {
+        Kind::Unknown(at)
     }
 }
 
 /// Whether a text can name a field.
+#[tactic(auto, using(crate::proofs::Cuts::fronts))]
 pub fn sound_name(name: &[u8]) -> bool
     ensures { result ≡ is_name name.now }
 {
     match name {
-        [] | [b'#' | b'-', ..] => false,
-        _ => name.iter().all(|byte| name_byte(*byte)),
+        [] => false,
+        [first, ..] => begins_name(*first) && name_bytes(name),
     }
 }
 
+/// Whether a name can begin with a byte that can stand in one.
+fn begins_name(byte: u8) -> bool
+    ensures { result ≡ may_begin_name byte }
+{
+    byte != b'#' && byte != b'-'
+}
+
+fn name_bytes(name: &[u8]) -> bool
+    ensures { result ≡ list_all is_name_character name.now }
+{
+    name.iter().all(|byte| name_byte(*byte))
+}
+
 /// Whether a byte can stand in a name.
-fn name_byte(byte: u8) -> bool {
+fn name_byte(byte: u8) -> bool
+    ensures { result ≡ is_name_character byte }
+{
     33 <= byte && byte <= 126 && byte != b':'
 }

@@ -1,0 +1,111 @@
+-- Where a text is cut: at the end of its first line, at its first colon, at the blanks of its end.
+use Rattle.std.proofs.Common.{◌≡◌, ℕ, suc, ◌+◌, ◌-◌, ◌<◌, ◌≤◌, Bool, true, false, cond, not, nat_eq, nat_lt, eqb, List, [], ◌∷◌, ◌++◌, length, get_or, take, drop, reverse, ◌||◌, refl, sym, ap, ◌∙◌, arith}
+use Rattle.std.specs.List.{slice_split, position_or_len, list_any, before_first, after_first, onto_first}
+use Rattle.std.specs.Str.Lines.{lines as text_lines, lines_of_parts, strip_carriage_return}
+use Rattle.std.proofs.lemmas.List.{take_more, take_all, drop_all, drop-drop, reverse-append, reverse-reverse, length-drop, length-append}
+use Rattle.std.proofs.lemmas.Bool.{ne_eqb}
+use Rattle.std.proofs.lemmas.List.Splits.{slice_split_first}
+use Rattle.deb822_text.specs.Control.{is_blank, is_colon, begins_with, trimmed_start, trimmed_end, Unknown, field_line, named_line}
+
+-- a list is all but its last element, and that
+last_apart : (xs : List ℕ) → 1 ≤ length xs → xs ≡ take (length xs - 1) xs ++ get_or xs (length xs - 1) 0 ∷ []
+last_apart xs long =
+    let at : length xs - 1 < length xs = omega arith in
+    let all : length xs - 1 + 1 ≡ length xs = omega arith in
+    let whole : take (length xs - 1 + 1) xs ≡ xs = rw all (take_all (length xs) xs (omega arith)) in
+    sym whole ∙ take_more xs (length xs - 1) 0 at
+
+trimmed_end-push : (xs : List ℕ) (x : ℕ) → trimmed_end (xs ++ x ∷ []) ≡ reverse (cond (is_blank x) (trimmed_start (reverse xs)) (x ∷ reverse xs))
+trimmed_end-push xs x =
+    let e : reverse (xs ++ x ∷ []) ≡ x ∷ reverse xs = reverse-append xs (x ∷ []) in
+    rw e refl
+
+pub trimmed_end-blank : (xs : List ℕ) → 1 ≤ length xs → is_blank (get_or xs (length xs - 1) 0) ≡ true → trimmed_end (take (length xs - 1) xs) ≡ trimmed_end xs
+trimmed_end-blank xs long blank =
+    let e = trimmed_end-push (take (length xs - 1) xs) (get_or xs (length xs - 1) 0) in
+    let f : trimmed_end (take (length xs - 1) xs ++ get_or xs (length xs - 1) 0 ∷ []) ≡ trimmed_end (take (length xs - 1) xs) = e ∙ rw blank refl in
+    sym f ∙ ap trimmed_end (sym (last_apart xs long))
+
+pub trimmed_end-other : (xs : List ℕ) → 1 ≤ length xs → is_blank (get_or xs (length xs - 1) 0) ≡ false → trimmed_end xs ≡ xs
+trimmed_end-other xs long other =
+    let front = take (length xs - 1) xs in
+    let last = get_or xs (length xs - 1) 0 in
+    let back : reverse (last ∷ reverse front) ≡ front ++ last ∷ [] = ap reverse (sym (reverse-append front (last ∷ []))) ∙ reverse-reverse (front ++ last ∷ []) in
+    let e : trimmed_end (front ++ last ∷ []) ≡ front ++ last ∷ [] = trimmed_end-push front last ∙ rw other back in
+    ap trimmed_end (last_apart xs long) ∙ e ∙ sym (last_apart xs long)
+
+-- an element passes where the first that does stands within the list
+pub list_any-within : {X : Type 0} (p : X → Bool) (xs : List X) → position_or_len p xs < length xs → list_any p xs ≡ true
+list_any-within p [] within = absurd (omega arith)
+list_any-within p (x ∷ xs) within = elim (p x) as (λ b. cond (not b) (1 + position_or_len p xs) 0 < suc (length xs) → (b || list_any p xs) ≡ true) [
+  | true ↦ λ _. refl
+  | false ↦ λ less. list_any-within p xs (omega (arith, less))
+] within
+
+pub list_any-nowhere : {X : Type 0} (p : X → Bool) (xs : List X) → length xs ≤ position_or_len p xs → list_any p xs ≡ false
+list_any-nowhere p [] none = refl
+list_any-nowhere p (x ∷ xs) none = elim (p x) as (λ b. suc (length xs) ≤ cond (not b) (1 + position_or_len p xs) 0 → (b || list_any p xs) ≡ false) [
+  | true ↦ λ short. absurd (omega (arith, short))
+  | false ↦ λ long. list_any-nowhere p xs (omega (arith, long))
+] none
+
+-- parts are never none
+split_cons : {X : Type 0} (p : X → Bool) (xs : List X) → (part : List X) × (parts : List (List X)) × (slice_split p xs ≡ part ∷ parts)
+split_cons p [] = ([], [], refl)
+split_cons {X} p (x ∷ xs) = elim (p x) as (λ b. (part : List X) × (parts : List (List X)) × (cond b ([] ∷ slice_split p xs) (onto_first x (slice_split p xs)) ≡ part ∷ parts)) [
+  | true ↦ ([], slice_split p xs, refl)
+  | false ↦ let i = split_cons p xs in (x ∷ i.0, i.1, ap (onto_first x) i.2)
+]
+
+split_none : {X : Type 0} (p : X → Bool) (xs : List X) → length xs ≤ position_or_len p xs → slice_split p xs ≡ xs ∷ []
+split_none p [] none = refl
+split_none p (x ∷ xs) none = elim (p x) as (λ b. suc (length xs) ≤ cond (not b) (1 + position_or_len p xs) 0 → cond b ([] ∷ slice_split p xs) (onto_first x (slice_split p xs)) ≡ (x ∷ xs) ∷ []) [
+  | true ↦ λ short. absurd (omega (arith, short))
+  | false ↦ λ long. ap (onto_first x) (split_none p xs (omega (arith, long)))
+] none
+
+-- the first line ends at the first line feed
+pub lines_first : (xs : List ℕ) (n : ℕ) → n ≡ position_or_len (λ c. nat_eq c 10) xs → n < length xs → text_lines xs ≡ strip_carriage_return (take n xs) ∷ text_lines (drop 1 (drop n xs))
+lines_first xs n is within =
+    let place = position_or_len (λ c. nat_eq c 10) xs in
+    let first : slice_split (λ c. nat_eq c 10) xs ≡ take place xs ∷ slice_split (λ c. nat_eq c 10) (drop (place + 1) xs) = slice_split_first (λ c. nat_eq c 10) xs 0 (rw (← is) within) in
+    let more = split_cons (λ c. nat_eq c 10) (drop (place + 1) xs) in
+    let parts : slice_split (λ c. nat_eq c 10) xs ≡ take place xs ∷ more.0 ∷ more.1 = first ∙ ap (λ (ps : List (List ℕ)). take place xs ∷ ps) more.2 in
+    let here : text_lines xs ≡ strip_carriage_return (take place xs) ∷ lines_of_parts (more.0 ∷ more.1) = ap lines_of_parts parts in
+    let there : lines_of_parts (more.0 ∷ more.1) ≡ text_lines (drop (place + 1) xs) = ap lines_of_parts (sym more.2) in
+    let behind : drop (place + 1) xs ≡ drop 1 (drop n xs) = rw (← is) (sym (drop-drop 1 n xs)) in
+    here ∙ ap (λ (ls : List (List ℕ)). strip_carriage_return (take place xs) ∷ ls) (there ∙ ap text_lines behind) ∙ rw is refl
+
+-- a last line need not end with one
+pub lines_last : (xs : List ℕ) (n : ℕ) → n ≡ position_or_len (λ c. nat_eq c 10) xs → 0 < length xs → length xs ≤ n → text_lines xs ≡ take n xs ∷ text_lines (drop n xs)
+lines_last [] n is long none = absurd (omega arith)
+lines_last (x ∷ xs) n is long none =
+    let one : text_lines (x ∷ xs) ≡ (x ∷ xs) ∷ [] = ap lines_of_parts (split_none (λ c. nat_eq c 10) (x ∷ xs) (omega (arith, is, none))) ∙ rw (ne_eqb (suc (length xs)) 0 (λ e. omega arith)) refl in
+    let front : take n (x ∷ xs) ≡ x ∷ xs = take_all n (x ∷ xs) none in
+    let behind : drop n (x ∷ xs) ≡ [] = drop_all n (x ∷ xs) none in
+    rw (front, behind) one
+
+-- a line with a colon, and one without
+pub field_line-colon : (at : ℕ) (line : List ℕ) (n : ℕ) → n ≡ position_or_len is_colon line → n < length line → field_line at line ≡ named_line at (take n line) (drop 1 (drop n line))
+field_line-colon at line n is within =
+    let any : list_any is_colon line ≡ true = list_any-within is_colon line (rw (← is) within) in
+    let behind : drop 1 (drop n line) ≡ drop (n + 1) line = drop-drop 1 n line in
+    rw (any, behind, is) refl
+
+pub field_line-bare : (at : ℕ) (line : List ℕ) (n : ℕ) → n ≡ position_or_len is_colon line → length line ≤ n → field_line at line ≡ Unknown at
+field_line-bare at line n is none =
+    let any : list_any is_colon line ≡ false = list_any-nowhere is_colon line (rw (← is) none) in
+    rw any refl
+
+-- the first byte of a text that has one
+pub begins_with-first : (test : ℕ → Bool) (xs : List ℕ) → 1 ≤ length xs → begins_with test xs ≡ test (get_or xs 0 0)
+begins_with-first test [] long = absurd (omega arith)
+begins_with-first test (x ∷ xs) long = refl
+
+pub ruleset cut_ends = (trimmed_end-blank, trimmed_end-other)
+
+pub ruleset cut_lines = (lines_first, lines_last)
+
+pub ruleset cut_names = (field_line-colon, field_line-bare)
+
+pub ruleset fronts = (begins_with-first)
