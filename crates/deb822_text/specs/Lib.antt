@@ -2,3 +2,4 @@ pub mod Control
 pub mod Refused
 pub mod Written
 pub mod Seen
+pub mod Names

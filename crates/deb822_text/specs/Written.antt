@@ -1,10 +1,10 @@
 -- How control text is written (Debian Policy, section 5.1), and which paragraphs can be.
-use Rattle.std.specs.Prelude.{◌≡◌, ℕ, ◌==◌, ◌||◌, ◌&&◌, not, Bool, true, false, IsTrue, List, [], ◌∷◌, ◌++◌, map, reverse, Result, Ok}
-use Rattle.std.specs.List.{list_any, list_all, flat_map}
+use Rattle.std.specs.Prelude.{◌≡◌, ℕ, ◌==◌, ◌||◌, ◌&&◌, not, Bool, true, false, IsTrue, List, [], ◌∷◌, ◌++◌, map, reverse, is_some, Result, Ok}
+use Rattle.std.specs.List.{list_all, flat_map}
 use Rattle.deb822_text.specs.declared.paragraph.Field.{Field}
 use Rattle.deb822_text.specs.declared.paragraph.Paragraph.{Paragraph}
 use Rattle.deb822_text.specs.declared.error.TextError.{TextError}
-use Rattle.deb822_text.specs.Control.{is_blank, is_empty, begins_with, is_name, has_name, paragraphs_of}
+use Rattle.deb822_text.specs.Control.{is_blank, is_empty, begins_with, is_name, field_named, paragraphs_of}
 
 -- ---- what can be written
 
@@ -31,13 +31,12 @@ abbrev pub is_writable_field : Field → Bool
 is_writable_field field = is_name field.name && are_field_lines field.lines
 
 -- no two of the names are one, ASCII case aside
-abbrev pub are_distinct : List (List ℕ) → Bool
+abbrev pub are_distinct : List Field → Bool
 are_distinct [] = true
-are_distinct (name ∷ names) = not (has_name names name) && are_distinct names
+are_distinct (field ∷ fields) = not (is_some (field_named fields field.name)) && are_distinct fields
 
 abbrev pub is_writable_paragraph : Paragraph → Bool
-is_writable_paragraph paragraph =
-    not (is_empty paragraph.fields) && list_all is_writable_field paragraph.fields && are_distinct (map (λ field. field.name) paragraph.fields)
+is_writable_paragraph paragraph = not (is_empty paragraph.fields) && (list_all is_writable_field paragraph.fields && are_distinct paragraph.fields)
 
 unfoldable pub is_writable : List Paragraph → Bool
 is_writable paragraphs = list_all is_writable_paragraph paragraphs

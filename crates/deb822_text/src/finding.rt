@@ -1,6 +1,7 @@
 ghost use Rattle.std.specs.Prelude.{◌≡◌, option_copied};
 ghost use Rattle.deb822_text.specs.Control.{field_named};
 
+use crate::names::same_name;
 use crate::{Field, Paragraph};
 
 /// The first field of this name, ASCII case aside. It lends the field itself and takes no memory.
@@ -14,10 +15,7 @@ pub fn find<'a>(paragraph: &'a Paragraph, name: &[u8]) -> Option<&'a Field>
 pub fn field_of<'a>(fields: &'a [Field], name: &[u8]) -> Option<&'a Field>
     ensures { option_copied result ≡ field_named fields.now name.now }
 {
-    for field in fields {
-        if field.name.as_bytes().eq_ignore_ascii_case(name) {
-            return Some(field);
-        }
-    }
-    None
+    fields
+        .iter()
+        .find(|field| same_name(field.name.as_bytes(), name))
 }

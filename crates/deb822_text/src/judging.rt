@@ -1,7 +1,7 @@
-ghost use Rattle.std.specs.Prelude.{◌≡◌, map};
+ghost use Rattle.std.specs.Prelude.{◌≡◌, is_some};
 ghost use Rattle.deb822_text.specs.Written.{is_writable, is_writable_paragraph, is_writable_field, is_first_line, is_later_line, are_field_lines, are_distinct, is_line_character, ends_with};
 ghost use Rattle.std.specs.List.{list_all};
-ghost use Rattle.deb822_text.specs.Control.{is_blank, begins_with};
+ghost use Rattle.deb822_text.specs.Control.{is_blank, begins_with, field_named};
 
 use crate::cutting::blank;
 use crate::finding::field_of;
@@ -25,11 +25,21 @@ pub fn writable(paragraphs: &Row<Paragraph>) -> bool
         .all(|paragraph| writable_paragraph(paragraph))
 }
 
+#[tactic(auto, using(crate::proofs::Lookups::emptiness))]
 fn writable_paragraph(paragraph: &Paragraph) -> bool
     ensures { result ≡ is_writable_paragraph paragraph.now }
 {
     let fields = paragraph.fields.as_slice();
-    !fields.is_empty() && fields.iter().all(|field| writable_field(field)) && distinct(fields)
+    if fields.is_empty() {
+        return false;
+    }
+    writable_fields(fields) && distinct(fields)
+}
+
+fn writable_fields(fields: &[Field]) -> bool
+    ensures { result ≡ list_all is_writable_field fields.now }
+{
+    fields.iter().all(|field| writable_field(field))
 }
 
 fn writable_field(field: &Field) -> bool
@@ -41,13 +51,16 @@ fn writable_field(field: &Field) -> bool
 fn writable_lines(lines: &[Text]) -> bool
     ensures { result ≡ are_field_lines lines.now }
 {
-    match lines {
-        [] => false,
-        [first, later @ ..] => {
-            writable_first(first.as_bytes())
-                && later.iter().all(|line| writable_later(line.as_bytes()))
-        }
+    match lines.split_first() {
+        None => false,
+        Some((first, later)) => writable_first(first.as_bytes()) && writable_rest(later),
     }
+}
+
+fn writable_rest(later: &[Text]) -> bool
+    ensures { result ≡ list_all is_later_line later.now }
+{
+    later.iter().all(|line| writable_later(line.as_bytes()))
 }
 
 /// Whether a text can be a field's first line.
@@ -90,14 +103,22 @@ fn ends_blank(line: &[u8]) -> bool
 
 /// Whether no two of the fields have one name.
 fn distinct(fields: &[Field]) -> bool
-    ensures { result ≡ are_distinct (map (λ field. field.name) fields.now) }
+    ensures { result ≡ are_distinct fields.now }
 {
     let mut rest = fields;
-    while let [first, others @ ..] = rest {
-        if field_of(others, first.name.as_bytes()).is_some() {
+    while let Some((first, others)) = rest.split_first() {
+        if names_field(others, first.name.as_bytes()) {
             return false;
         }
         rest = others;
     }
     true
+}
+
+/// Whether one of the fields has this name.
+#[tactic(auto, using(crate::proofs::Lookups::emptiness))]
+fn names_field(fields: &[Field], name: &[u8]) -> bool
+    ensures { result ≡ is_some (field_named fields.now name.now) }
+{
+    field_of(fields, name).is_some()
 }
