@@ -1,2 +1,4 @@
 pub mod Cuts
 pub mod Lookups
+pub mod Steps
+pub mod Scans

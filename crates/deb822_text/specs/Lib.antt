@@ -3,3 +3,4 @@ pub mod Refused
 pub mod Written
 pub mod Seen
 pub mod Names
+pub mod Scan

@@ -1,5 +1,7 @@
-ghost use Rattle.std.specs.Prelude.{◌≡◌, ◌⊎◌, Err, OnOk, IfErr};
-ghost use Rattle.deb822_text.specs.Control.{paragraphs_of, lines_of};
+ghost use Rattle.std.specs.Prelude.{◌≡◌, ◌⊎◌, ◌++◌, ◌∷◌, [], option_to_list, Err, OnOk, IfOk, IfErr};
+ghost use Rattle.deb822_text.specs.Control.{paragraphs_of, lines_of, Separator, Continuation, Named};
+ghost use Rattle.deb822_text.specs.Scan.{scan, start, step, state_of, IsSound, Takes};
+ghost use Rattle.deb822_text.specs.Seen.{seen};
 ghost use Rattle.deb822_text.specs.Refused.{IsFirstFault, AreAllowed};
 
 use crate::cutting::first_line;
@@ -22,6 +24,13 @@ pub fn read(alloc: Global, bytes: &[u8], comments: bool) -> Result<Row<Paragraph
     ensures allowed { OnOk result (AreAllowed (lines_of comments bytes.now)) }
     // A refusal is that of the first line that isn't.
     ensures refused { IfErr result (λ fault. (fault ≡ TextError.NoMemory) ⊎ IsFirstFault (lines_of comments bytes.now) fault) }
+{
+    scanned(alloc, bytes, comments)
+}
+
+/// Reads line by line.
+fn scanned(alloc: Global, bytes: &[u8], comments: bool) -> Result<Row<Paragraph>, TextError>
+    ensures { (result ≡ Err TextError.NoMemory) ⊎ (result ≡ scan start (lines_of comments bytes.now)) }
 {
     let mut reading = Reading::new(alloc);
     let mut rest = bytes;
@@ -46,7 +55,10 @@ struct Reading {
 }
 
 impl Reading {
-    fn new(alloc: Global) -> Reading {
+    fn new(alloc: Global) -> Reading
+        ensures state { state_of result ≡ start }
+        ensures sound { IsSound result }
+    {
         Reading {
             paragraphs: Row::new(alloc),
             fields: Row::new(alloc),
@@ -56,7 +68,11 @@ impl Reading {
     }
 
     /// Takes the next line.
-    fn take(&mut self, alloc: Global, kind: Kind<'_>) -> Result<(), TextError> {
+    fn take(&mut self, alloc: Global, kind: Kind<'_>) -> Result<(), TextError>
+        requires { IsSound self.old }
+        ensures taken { Takes (state_of self.old) (seen kind.entry) result (state_of self.new) }
+        ensures sound { OnOk result (IsSound self.new) }
+    {
         match kind {
             Kind::Separator => Ok(self.close(alloc)?),
             Kind::Comment => Ok(()),
@@ -67,18 +83,28 @@ impl Reading {
     }
 
     /// A line more of the last field.
-    fn go_on(&mut self, alloc: Global, at: u64, text: &[u8]) -> Result<(), TextError> {
-        match &mut self.last {
+    #[tactic(auto, using(crate::proofs::Steps::steps))]
+    fn go_on(&mut self, alloc: Global, at: u64, text: &[u8]) -> Result<(), TextError>
+        requires { IsSound self.old }
+        ensures taken { Takes (state_of self.old) (Continuation at text.now) result (state_of self.new) }
+        ensures sound { OnOk result (IsSound self.new) }
+    {
+        match self.last.take() {
             None => Err(TextError::Loose(at)),
             Some(field) => {
-                field.lines.push(Text::from_bytes(alloc, text)?)?;
+                self.last = Some(longer(alloc, field, text)?);
                 Ok(())
             }
         }
     }
 
     /// A new field.
-    fn begin(&mut self, alloc: Global, at: u64, name: &[u8], text: &[u8]) -> Result<(), TextError> {
+    #[tactic(auto, using(crate::proofs::Steps::steps))]
+    fn begin(&mut self, alloc: Global, at: u64, name: &[u8], text: &[u8]) -> Result<(), TextError>
+        requires { IsSound self.old }
+        ensures taken { Takes (state_of self.old) (Named at name.now text.now) result (state_of self.new) }
+        ensures sound { OnOk result (IsSound self.new) }
+    {
         if !add_name(&mut self.names, alloc, name)? {
             return Err(TextError::Twice(at));
         }
@@ -88,7 +114,9 @@ impl Reading {
     }
 
     /// Puts the last field, if there is one, to the others.
-    fn put_last(&mut self) -> Result<(), NoMemory> {
+    fn put_last(&mut self) -> Result<(), NoMemory>
+        ensures { OnOk result (self.new ≡ record self.old { fields = self.old.fields ++ option_to_list self.old.last; last = None }) }
+    {
         match self.last.take() {
             None => Ok(()),
             Some(field) => self.fields.push(field),
@@ -96,7 +124,10 @@ impl Reading {
     }
 
     /// Ends the open paragraph, if it has a field.
-    fn close(&mut self, alloc: Global) -> Result<(), NoMemory> {
+    fn close(&mut self, alloc: Global) -> Result<(), NoMemory>
+        ensures state { OnOk result (state_of self.new ≡ step (state_of self.old) Separator) }
+        ensures sound { OnOk result (IsSound self.new) }
+    {
         self.put_last()?;
         let fields = mem::replace(&mut self.fields, Row::new(alloc));
         self.names = BTreeSet::new(alloc);
@@ -108,7 +139,9 @@ impl Reading {
 }
 
 /// A field with its first line.
-fn new_field(alloc: Global, at: u64, name: &[u8], text: &[u8]) -> Result<Field, NoMemory> {
+fn new_field(alloc: Global, at: u64, name: &[u8], text: &[u8]) -> Result<Field, NoMemory>
+    ensures { IfOk result (λ field. field ≡ record { name = name.now; lines = text.now ∷ []; at = at }) }
+{
     let mut lines = Row::new(alloc);
     lines.push(Text::from_bytes(alloc, text)?)?;
     Ok(Field {
@@ -116,4 +149,17 @@ fn new_field(alloc: Global, at: u64, name: &[u8], text: &[u8]) -> Result<Field, 
         lines,
         at,
     })
+}
+
+/// A field with a line more.
+fn longer(alloc: Global, field: Field, text: &[u8]) -> Result<Field, NoMemory>
+    ensures { IfOk result (λ longer. longer ≡ record field { lines = field.lines ++ text.now ∷ [] }) }
+{
+    let Field {
+        name,
+        mut lines,
+        at,
+    } = field;
+    lines.push(Text::from_bytes(alloc, text)?)?;
+    Ok(Field { name, lines, at })
 }
