@@ -2,3 +2,4 @@ pub mod Cuts
 pub mod Lookups
 pub mod Steps
 pub mod Scans
+pub mod Groups
