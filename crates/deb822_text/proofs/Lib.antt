@@ -3,3 +3,4 @@ pub mod Lookups
 pub mod Steps
 pub mod Scans
 pub mod Groups
+pub mod Faults
