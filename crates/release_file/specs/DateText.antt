@@ -49,10 +49,10 @@ unfoldable pub is_zone : List ℕ → Bool
 is_zone text =
     list_any (same_text text) (codes "UTC" ∷ codes "GMT" ∷ codes "Z" ∷ codes "+0000" ∷ codes "-0000" ∷ [])
 
--- the number of a day that is there, counted from 1970-01-01, by the proleptic Gregorian calendar
+-- the beginning of a day that is there, in seconds since 1970-01-01 00:00:00, by the proleptic Gregorian calendar
 unfoldable pub day_of : ℕ → ℕ → ℕ → Option ℤ
 day_of year month day =
-    if nat_le 1 day && nat_le day (days_in_month (pos year) month) then Some (days_from_civil (pos year) month day) else None
+    if nat_le 1 day && nat_le day (days_in_month (pos year) month) then Some (days_from_civil (pos year) month day *ℤ pos 86_400) else None
 
 unfoldable pub day_of_texts : List ℕ → List ℕ → List ℕ → Option ℤ
 day_of_texts day month year = do
@@ -77,12 +77,12 @@ abbrev pub clock_of_parts : List (List ℕ) → Option ℕ
 clock_of_parts (hour ∷ minute ∷ second ∷ []) = clock_of_texts hour minute second
 clock_of_parts _ = None
 
--- the seconds since 1970-01-01 00:00:00 of a day and a time
+-- the seconds since 1970-01-01 00:00:00 of a time of a day
 unfoldable pub moment_of : Option ℤ → Option ℕ → Option ℤ
 moment_of day clock = do
   d ← day
   c ← clock
-  Some (d *ℤ pos 86_400 +ℤ pos c)
+  Some (d +ℤ pos c)
 
 abbrev pub moment_of_parts : List (List ℕ) → Option ℤ
 moment_of_parts (day ∷ month ∷ year ∷ time ∷ zone ∷ []) =

@@ -1,4 +1,8 @@
 ghost use Rattle.std.specs.Prelude.{◌≡◌, ◌≢◌, ℕ, ◌<◌, ◌≤◌, ◌^◌, ◌∷◌, [], pos, slice_get, take, All, MatchOption, IfSome, IfNone};
+ghost use Rattle.std.specs.Char.{is_ascii_digit};
+ghost use Rattle.std.specs.Int.{IsInRange};
+ghost use Rattle.std.specs.List.{list_all};
+ghost use Rattle.jiff.specs.Words.{IsWithin};
 ghost use Rattle.release_file.specs.DateText.{parts_at, is_weekday, number_of, month_of, is_zone, day_of, day_of_texts, clock_of, clock_of_texts, clock_of_parts, moment_of, moment_of_parts, date_of_text};
 
 use jiff::civil::Date;
@@ -28,42 +32,44 @@ fn moment(text: &[u8]) -> Option<i64>
     if !is_utc(zone) {
         return None;
     }
-    combined(day_number(day, month, year), clock(time))
+    combined(day_start(day, month, year), clock(time))
 }
 
-/// The seconds since 1970-01-01 00:00:00 of a day and a time of day.
+/// The seconds since 1970-01-01 00:00:00 of a time of a day.
 #[tactic(auto, unfolding(crate::specs::DateText::moment_of))]
-fn combined(day: Option<i32>, clock: Option<u32>) -> Option<i64>
+fn combined(day: Option<i64>, clock: Option<u32>) -> Option<i64>
+    requires { IfSome day (λ seconds. IsWithin 400_000_000_000 seconds) }
     ensures { result ≡ moment_of day clock }
 {
     let day = day?;
     let clock = clock?;
-    Some(i64::from(day) * 86_400 + i64::from(clock))
+    Some(day + i64::from(clock))
 }
 
-/// The number of the day that these texts write, counted from 1970-01-01.
+/// The beginning of the day that these texts write, in seconds since 1970-01-01 00:00:00.
 #[tactic(auto, unfolding(crate::specs::DateText::day_of_texts))]
-fn day_number(day: &[u8], month: &[u8], year: &[u8]) -> Option<i32>
-    ensures { result ≡ day_of_texts day.now month.now year.now }
+fn day_start(day: &[u8], month: &[u8], year: &[u8]) -> Option<i64>
+    ensures value { result ≡ day_of_texts day.now month.now year.now }
+    ensures bound { IfSome result (IsWithin 400_000_000_000) }
 {
     let day = number(day, 1, 2)?;
     let month = month_number(month)?;
     let year = number(year, 4, 4)?;
-    day_since_epoch(year, month, day)
+    start_of(year, month, day)
 }
 
-/// The number of a day of the calendar, counted from 1970-01-01, if it is there.
-#[tactic(auto, unfolding(crate::specs::DateText::day_of))]
-fn day_since_epoch(year: u16, month: u16, day: u16) -> Option<i32>
-    requires year { year ≤ 9999 }
-    requires month { month ≤ 12 }
-    requires first { 1 ≤ month }
-    requires day { day ≤ 99 }
-    ensures { result ≡ day_of year month day }
+/// The beginning of a day of the calendar in seconds since 1970-01-01 00:00:00, if the day is there.
+fn start_of(year: u16, month: u16, day: u16) -> Option<i64>
+    requires year { year < 10000 }
+    requires month { IsInRange 1 12 month }
+    requires day { day < 100 }
+    ensures value { result ≡ day_of year month day }
+    ensures bound { IfSome result (IsWithin 400_000_000_000) }
 {
-    let date = Date::new(year as i16, month as i8, day as i8).ok()?;
-    let epoch = Date::constant(1970, 1, 1);
-    Some((date.duration_since(epoch).as_secs() / 86_400) as i32)
+    match Date::new(year as i16, month as i8, day as i8) {
+        Ok(date) => Some(date.duration_since(Date::constant(1970, 1, 1)).as_secs()),
+        Err(_) => None,
+    }
 }
 
 /// The seconds since midnight that a text `hh:mm:ss` writes.
@@ -100,23 +106,32 @@ fn seconds_since_midnight(hour: u16, minute: u16, second: u16) -> Option<u32>
 /// The number that decimal digits write, from `least` to `most` of them.
 #[tactic(auto, unfolding(crate::specs::DateText::number_of))]
 fn number(text: &[u8], least: usize, most: usize) -> Option<u16>
-    requires { most ≤ 4 }
+    requires least { 1 ≤ least }
+    requires most { most ≤ 4 }
     ensures value { result ≡ number_of least most text.now }
     ensures bound { IfSome result (λ n. n < 10 ^ most) }
 {
-    if text.len() < least || text.len() > most || !text.iter().all(|c| c.is_ascii_digit()) {
+    if text.len() < least || text.len() > most || !are_digits(text) {
         return None;
     }
-    let digits = str::from_utf8(text).ok()?;
-    digits.parse::<u16>().ok()
+    match str::from_utf8(text) {
+        Ok(digits) => digits.parse::<u16>().ok(),
+        Err(_) => None,
+    }
+}
+
+/// Whether every byte is a decimal digit. `parse` alone would also take a sign.
+fn are_digits(text: &[u8]) -> bool
+    ensures { result ≡ list_all is_ascii_digit text.now }
+{
+    text.iter().all(|c| c.is_ascii_digit())
 }
 
 /// The number of the month with this name, from 1.
 #[tactic(auto, unfolding(crate::specs::DateText::month_of))]
 fn month_number(text: &[u8]) -> Option<u16>
     ensures value { result ≡ month_of text.now }
-    ensures bound { IfSome result (λ n. n ≤ 12) }
-    ensures first { IfSome result (λ n. 1 ≤ n) }
+    ensures bound { IfSome result (IsInRange 1 12) }
 {
     match text {
         b"Jan" => Some(1),
@@ -159,6 +174,7 @@ fn is_weekday_name(text: &[u8]) -> bool
 }
 
 /// What stands before and after the first such byte, where there is one.
+#[tactic(auto, using(crate::proofs::Parts::parts))]
 fn cut_at(byte: u8, text: &[u8]) -> Option<(&[u8], &[u8])>
     ensures { MatchOption result (parts_at byte text.now ≡ text.now ∷ [])
         (λ cut. parts_at byte text.now ≡ cut.0.now ∷ parts_at byte cut.1.now) }
