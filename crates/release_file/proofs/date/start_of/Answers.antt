@@ -25,5 +25,5 @@ returns-in-Err-clause-value c =
     let m : to_z w8 c.args.month ≡ pos c.args.month = omega (arith, ints) in
     let d : to_z w8 c.args.day ≡ pos c.args.day = omega (arith, ints) in
     let absent : IsDate (pos c.args.year) (pos c.args.month) (pos c.args.day) → ⊥ =
-        λ there. let ok : IsOk c.new.result = c.new.ensures.succeeds.1 (rw (y, m, d) there) in false≢true (rw c.in-Err.is at ok) in
+    λ there. let ok : IsOk c.new.result = c.new.ensures.succeeds.1 (rw (y, m, d) there) in false≢true (rw c.in-Err.is at ok) in
     day_of-none c.args.year c.args.month c.args.day c.requires.year c.requires.month absent
