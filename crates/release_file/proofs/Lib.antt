@@ -1,4 +1,5 @@
 pub mod Numbers
 pub mod Parts
 pub mod Days
+pub mod Judged
 pub mod LastPart

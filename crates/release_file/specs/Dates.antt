@@ -8,12 +8,12 @@ use Rattle.release_file.specs.declared.judging.DateError.{DateError}
 use Rattle.release_file.specs.declared.judging.DateError.TheVariants.{Expired, Future, Older}
 
 -- a given end holds for at least `min` seconds from the date on
-abbrev pub at_least : ℤ → ℕ → Option ℤ → Option ℤ
+unfoldable pub at_least : ℤ → ℕ → Option ℤ → Option ℤ
 at_least date min None = None
 at_least date min (Some until) = Some (if min == 0 then until else int_max until (date +ℤ pos min))
 
 -- no Release holds for more than `max` seconds from its date on
-abbrev pub at_most : ℤ → ℕ → Option ℤ → Option ℤ
+unfoldable pub at_most : ℤ → ℕ → Option ℤ → Option ℤ
 at_most date max None = if max == 0 then None else Some (date +ℤ pos max)
 at_most date max (Some end) = Some (if max == 0 then end else int_min end (date +ℤ pos max))
 
@@ -37,22 +37,25 @@ abbrev pub IsAdmissible : Release → Option ℤ → Dates → ℤ → Type 0
 IsAdmissible release installed dates now =
     (¬ (IsExpired release dates now)) × (¬ (IsFuture release dates now)) × (¬ (IsOlder release installed))
 
-abbrev pub judged_age : ℤ → Option ℤ → Result (Unit {0}) DateError
+unfoldable pub judged_end : Option ℤ → ℤ → Result (Unit {0}) DateError
+judged_end None now = Ok tt
+judged_end (Some end) now = if int_lt end now then Err (Expired end) else Ok tt
+
+unfoldable pub judged_date : ℤ → ℕ → ℤ → Result (Unit {0}) DateError
+judged_date date future now = if int_lt (now +ℤ pos future) date then Err (Future date) else Ok tt
+
+unfoldable pub judged_age : ℤ → Option ℤ → Result (Unit {0}) DateError
 judged_age date None = Ok tt
 judged_age date (Some installed) = if int_lt date installed then Err (Older date) else Ok tt
 
-abbrev pub judged_date : ℤ → Option ℤ → ℕ → ℤ → Result (Unit {0}) DateError
-judged_date date installed future now =
-    if int_lt (now +ℤ pos future) date then Err (Future date) else judged_age date installed
-
-abbrev pub judged_end : Option ℤ → ℤ → Result (Unit {0}) DateError → Result (Unit {0}) DateError
-judged_end None now rest = rest
-judged_end (Some end) now rest = if int_lt end now then Err (Expired end) else rest
+abbrev pub unless_refused : Result (Unit {0}) DateError → Result (Unit {0}) DateError → Result (Unit {0}) DateError
+unless_refused (Ok _) next = next
+unless_refused (Err refusal) next = Err refusal
 
 -- the first of the three refusals that holds, or none
 unfoldable pub judged : Release → Option ℤ → Dates → ℤ → Result (Unit {0}) DateError
 judged release installed dates now =
-    judged_end (end_of_validity release dates) now (judged_date release.date installed dates.future now)
+    unless_refused (judged_end (end_of_validity release dates) now) (unless_refused (judged_date release.date dates.future now) (judged_age release.date installed))
 
 abbrev pub refusal_number : DateError → ℕ
 refusal_number (Expired end) = 13

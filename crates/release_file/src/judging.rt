@@ -1,5 +1,5 @@
 ghost use Rattle.std.specs.Prelude.{◌≡◌, ◌↔◌, IsOk};
-ghost use Rattle.release_file.specs.Dates.{IsAdmissible, judged, end_of_validity as valid_until};
+ghost use Rattle.release_file.specs.Dates.{IsAdmissible, judged, judged_end, judged_date, judged_age, at_least, at_most, end_of_validity as valid_until};
 
 use crate::Release;
 use acq_base::{Dates, Refusal};
@@ -57,7 +57,6 @@ impl Refusal for DateError {
 /// It is refused where the moment is past the end of its validity, else where it is dated more than the allowed time
 /// ahead of the moment, else where the installed one has a later date. All sums are exact: two 64-bit numbers add up
 /// to less than 128 bits. It takes no memory.
-#[tactic(auto, unfolding(crate::specs::Dates::judged))]
 pub fn judge_dates(
     release: &Release,
     installed: Option<i64>,
@@ -67,16 +66,53 @@ pub fn judge_dates(
     ensures value { result ≡ judged release.now installed dates.now now }
     ensures admissible { IsOk result ↔ IsAdmissible release.now installed dates.now now }
 {
-    if let Some(end) = end_of_validity(release, dates)
-        && end < i128::from(now)
-    {
-        return Err(DateError::Expired(end));
+    judge(release, installed, dates, now)
+}
+
+/// The first of the three refusals that holds.
+#[tactic(auto, unfolding(crate::specs::Dates::judged))]
+fn judge(
+    release: &Release,
+    installed: Option<i64>,
+    dates: &Dates,
+    now: i64,
+) -> Result<(), DateError>
+    ensures { result ≡ judged release.now installed dates.now now }
+{
+    judge_end(end_of_validity(release, dates), now)?;
+    judge_date(release.date, dates.future, now)?;
+    judge_age(release.date, installed)
+}
+
+/// Refuses a moment past the end of validity.
+#[tactic(auto, unfolding(crate::specs::Dates::judged_end))]
+fn judge_end(end: Option<i128>, now: i64) -> Result<(), DateError>
+    ensures { result ≡ judged_end end now }
+{
+    match end {
+        Some(end) if end < i128::from(now) => Err(DateError::Expired(end)),
+        _ => Ok(()),
     }
-    if i128::from(now) + i128::from(dates.future) < i128::from(release.date) {
-        return Err(DateError::Future(release.date));
+}
+
+/// Refuses a date that is more than `future` seconds ahead of the moment.
+#[tactic(auto, unfolding(crate::specs::Dates::judged_date))]
+fn judge_date(date: i64, future: u64, now: i64) -> Result<(), DateError>
+    ensures { result ≡ judged_date date future now }
+{
+    if i128::from(now) + i128::from(future) < i128::from(date) {
+        return Err(DateError::Future(date));
     }
+    Ok(())
+}
+
+/// Refuses a date before the installed one.
+#[tactic(auto, unfolding(crate::specs::Dates::judged_age))]
+fn judge_age(date: i64, installed: Option<i64>) -> Result<(), DateError>
+    ensures { result ≡ judged_age date installed }
+{
     match installed {
-        Some(date) if release.date < date => Err(DateError::Older(release.date)),
+        Some(installed) if date < installed => Err(DateError::Older(date)),
         _ => Ok(()),
     }
 }
@@ -86,15 +122,36 @@ pub fn judge_dates(
 fn end_of_validity(release: &Release, dates: &Dates) -> Option<i128>
     ensures { result ≡ valid_until release.now dates.now }
 {
-    let date = i128::from(release.date);
-    let until = match release.until {
-        Some(until) if dates.min != 0 => Some(i128::from(until).max(date + i128::from(dates.min))),
-        Some(until) => Some(i128::from(until)),
-        None => None,
-    };
-    if dates.max == 0 {
-        return until;
+    capped(
+        release.date,
+        dates.max,
+        extended(release.date, dates.min, release.until),
+    )
+}
+
+/// The given end, but not before `min` seconds from the date on have passed.
+#[tactic(auto, unfolding(crate::specs::Dates::at_least))]
+fn extended(date: i64, min: u64, until: Option<i64>) -> Option<i128>
+    ensures { result ≡ at_least date min until }
+{
+    let until = i128::from(until?);
+    if min == 0 {
+        return Some(until);
     }
-    let latest = date + i128::from(dates.max);
-    Some(until.map_or(latest, |end| end.min(latest)))
+    Some(until.max(i128::from(date) + i128::from(min)))
+}
+
+/// The end, but not after `max` seconds from the date on.
+#[tactic(auto, unfolding(crate::specs::Dates::at_most))]
+fn capped(date: i64, max: u64, end: Option<i128>) -> Option<i128>
+    ensures { result ≡ at_most date max end }
+{
+    if max == 0 {
+        return end;
+    }
+    let latest = i128::from(date) + i128::from(max);
+    match end {
+        Some(end) => Some(end.min(latest)),
+        None => Some(latest),
+    }
 }

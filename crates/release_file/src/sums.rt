@@ -2,6 +2,7 @@ ghost use Rattle.std.specs.Prelude.{◌≡◌, ◌⊎◌, ◌++◌, ◌∷◌, [
 ghost use Rattle.std.specs.BTreeMap.{get};
 ghost use Rattle.std.specs.Cmp.Lexicographic.{slice_cmp};
 ghost use Rattle.std.specs.Ordering.{nat_cmp};
+ghost use Rattle.release_file.specs.DateText.{same_text};
 ghost use Rattle.release_file.specs.Release.{files_of, files_of_field, files_of_lines, listed_of_line, listed_sum, sum_in, agrees};
 
 use crate::{Listed, Release, ReleaseError};
@@ -23,11 +24,18 @@ fn find_sum<'a>(files: &'a [Listed], path: &[u8]) -> Option<&'a Sum>
     ensures { option_copied result ≡ sum_in files.now path.now }
 {
     for listed in files {
-        if listed.path.as_bytes() == path {
+        if is_at(listed, path) {
             return Some(&listed.sum);
         }
     }
     None
+}
+
+/// Whether the file has this path.
+fn is_at(listed: &Listed, path: &[u8]) -> bool
+    ensures { result ≡ same_text listed.now.path path.now }
+{
+    listed.path.as_bytes() == path
 }
 
 /// The files that the field SHA256 lists, which must be there.
