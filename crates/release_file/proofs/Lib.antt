@@ -2,4 +2,5 @@ pub mod Numbers
 pub mod Parts
 pub mod Days
 pub mod Judged
+pub mod Joined
 pub mod LastPart

@@ -1,11 +1,11 @@
-ghost use Rattle.std.specs.Prelude.{◌≡◌, ◌⊎◌, Err, IfOk, option_copied};
+ghost use Rattle.std.specs.Prelude.{◌≡◌, ◌⊎◌, ◌∷◌, ◌++◌, Err, IfOk, OnOk, option_copied};
 ghost use Rattle.std.specs.List.{join_with_byte};
 ghost use Rattle.release_file.specs.Release.{release_of, release_of_paragraphs, release_of_fields, date_of, date_of_lines, until_of, by_hash_of, is_yes, head_of, text_of};
 
 use crate::date::read_date;
 use crate::sums::read_files;
 use crate::{Head, Release, ReleaseError};
-use acq_base::{NoMemory, Text};
+use acq_base::{NoMemory, Text, TryCopy};
 use deb822_text::{Field, Paragraph, find, read};
 use std::alloc::Global;
 
@@ -132,12 +132,28 @@ fn field_text(alloc: Global, field: Option<&Field>) -> Result<Option<Text>, NoMe
 fn joined(alloc: Global, lines: &[Text]) -> Result<Text, NoMemory>
     ensures { IfOk result (λ text. text ≡ join_with_byte 10 lines.now) }
 {
-    let mut text = Text::new(alloc);
-    for (index, line) in lines.iter().enumerate() {
-        if index > 0 {
-            text.push(b'\n')?;
-        }
-        text.append(line.as_bytes())?;
+    match lines {
+        [first, rest @ ..] => joined_to(alloc, first, rest),
+        [] => Ok(Text::new(alloc)),
+    }
+}
+
+/// A line and further ones, with a line feed before each of these.
+#[tactic(auto, using(crate::proofs::Joined::join_more))]
+fn joined_to(alloc: Global, first: &Text, rest: &[Text]) -> Result<Text, NoMemory>
+    ensures { IfOk result (λ text. text ≡ join_with_byte 10 (first.now ∷ rest.now)) }
+{
+    let mut text = first.copy(alloc)?;
+    for line in rest {
+        add_line(&mut text, line.as_bytes())?;
     }
     Ok(text)
+}
+
+/// Appends a line feed and a line.
+fn add_line(text: &mut Text, line: &[u8]) -> Result<(), NoMemory>
+    ensures { OnOk result (text.new ≡ text.old ++ 10 ∷ line.now) }
+{
+    text.push(b'\n')?;
+    text.append(line)
 }
