@@ -3,4 +3,5 @@ pub mod Parts
 pub mod Days
 pub mod Judged
 pub mod Joined
+pub mod SumLines
 pub mod LastPart

@@ -1,4 +1,5 @@
 pub mod DateText
 pub mod Dates
+pub mod Entries
 pub mod Refused
 pub mod Release

@@ -114,7 +114,7 @@ first_bad above at (line ∷ lines) =
 -- the entries without those whose path an earlier one has
 abbrev pub firsts : List Listed → List Listed
 firsts [] = []
-firsts (entry ∷ entries) = entry ∷ filter (λ other. not (same_text other.path entry.path)) (firsts entries)
+firsts (entry ∷ entries) = entry ∷ filter (λ other. not (same_text entry.path other.path)) (firsts entries)
 
 abbrev pub refused_at : {X : Type 0} → Option ℕ → X → Result X ReleaseError
 refused_at None value = Ok value

@@ -1,9 +1,12 @@
-ghost use Rattle.std.specs.Prelude.{◌≡◌, ◌⊎◌, ◌++◌, ◌∷◌, [], Err, IfOk, is_some, option_copied, if◌then◌else◌};
+ghost use Rattle.std.specs.Prelude.{◌≡◌, ◌⊎◌, ℕ, List, Err, IfOk, OnOk, option_copied};
 ghost use Rattle.std.specs.BTreeMap.{get};
 ghost use Rattle.std.specs.Cmp.Lexicographic.{slice_cmp};
 ghost use Rattle.std.specs.Ordering.{nat_cmp};
+ghost use Rattle.std.specs.Result.{result_ok};
+ghost use Rattle.acq_base.specs.Sum.{sum_of_texts};
 ghost use Rattle.release_file.specs.DateText.{same_text};
-ghost use Rattle.release_file.specs.Release.{files_of, files_of_field, files_of_lines, listed_of_line, listed_sum, sum_in, agrees};
+ghost use Rattle.release_file.specs.Entries.{with_entry, sum_beside};
+ghost use Rattle.release_file.specs.Release.{files_of, files_of_field, files_of_lines, listed_of_line, listed_as, listed_sum, sum_in, agrees};
 
 use crate::{Listed, Release, ReleaseError};
 use acq_base::{NoMemory, Row, Sum, Text, TryCopy, read_sum, words};
@@ -98,7 +101,9 @@ fn listed_at(
     hash: &[u8],
     size: &[u8],
     path: &Text,
-) -> Result<Option<Listed>, NoMemory> {
+) -> Result<Option<Listed>, NoMemory>
+    ensures { IfOk result (λ listed. listed ≡ listed_as path.now (result_ok (sum_of_texts hash.now size.now))) }
+{
     match read_sum(hash, size) {
         Ok(sum) => Ok(Some(Listed {
             path: path.copy(alloc)?,
@@ -114,7 +119,12 @@ fn add_file(
     files: &mut Row<Listed>,
     sums: &mut BTreeMap<Text, Sum>,
     listed: Listed,
-) -> Result<bool, NoMemory> {
+) -> Result<bool, NoMemory>
+    ensures agrees { IfOk result (λ agreed. agreed ≡ agrees (get (slice_cmp nat_cmp) sums.old listed.path) listed.sum) }
+    ensures files { OnOk result (files.new ≡ with_entry (get (slice_cmp nat_cmp) sums.old listed.path) files.old listed) }
+    ensures sums { OnOk result ((path : List ℕ) → get (slice_cmp nat_cmp) sums.new path
+        ≡ sum_beside (get (slice_cmp nat_cmp) sums.old path) listed path) }
+{
     if let Some(sum) = sums.get(&listed.path) {
         return Ok(*sum == listed.sum);
     }
