@@ -1,2 +1,5 @@
 pub mod Files
 pub mod WholeFiles
+pub mod HeldFiles
+pub mod Torn
+pub mod Rows

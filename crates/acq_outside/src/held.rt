@@ -26,6 +26,7 @@ pub fn held_files(alloc: Global, rows: &[(Text, Bytes)]) -> Result<Held, NoMemor
 }
 
 /// Puts a content under a name, in place of what is there. Without memory nothing is changed.
+#[tactic(auto, using(crate::proofs::HeldFiles::updated))]
 fn put(held: &mut Held, name: Text, content: Bytes) -> Result<(), NoMemory>
     ensures ok { OnOk result (files_in held.new ≡ with_file (files_in held.old) name (Some content)) }
     ensures err { OnErr result (files_in held.new ≡ files_in held.old) }
@@ -62,6 +63,7 @@ pub fn carry_out(alloc: Global, held: &mut Held, change: &Change) -> Result<(), 
     }
 }
 
+#[tactic(auto, using(crate::proofs::Files::same_content))]
 fn write_in(
     alloc: Global,
     held: &mut Held,
@@ -90,6 +92,7 @@ fn cut_in(alloc: Global, held: &mut Held, name: &Text, len: u64) -> Result<(), N
     put(held, name.copy(alloc)?, content)
 }
 
+#[tactic(auto, using(crate::proofs::HeldFiles::not_moved))]
 fn rename_in(alloc: Global, held: &mut Held, from: &Text, to: &Text) -> Result<(), NoMemory>
     ensures ok { OnOk result (files_in held.new ≡ after_rename (files_in held.old) from.now to.now) }
     ensures err { OnErr result (files_in held.new ≡ files_in held.old) }
@@ -105,6 +108,7 @@ fn rename_in(alloc: Global, held: &mut Held, from: &Text, to: &Text) -> Result<(
     Ok(())
 }
 
+#[tactic(auto, using(crate::proofs::HeldFiles::updated))]
 fn remove_in(held: &mut Held, name: &Text)
     ensures { files_in held.new ≡ with_file (files_in held.old) name.now None }
 {

@@ -28,7 +28,7 @@ impl Model for History {
 }
 
 impl History {
-    ghost use Rattle.std.specs.Prelude.{◌≡◌, [], MatchOption, None, Some, IfOk, OnOk, OnErr};
+    ghost use Rattle.std.specs.Prelude.{◌≡◌, [], IfOk, OnOk, OnErr, option_copied};
     ghost use Rattle.acq_outside.specs.Disk.{IsNames};
     ghost use Rattle.acq_outside.specs.History.{files_of, changed};
 
@@ -46,7 +46,7 @@ impl History {
 
     /// The content of a file, `None` where there is no such file.
     pub fn get(&self, name: &Text) -> Option<&Bytes>
-        ensures { MatchOption result (files_of self.now name.now ≡ None) (λ content. files_of self.now name.now ≡ Some content.now) }
+        ensures { option_copied result ≡ files_of self.now name.now }
     {
         self.held.get(name)
     }
@@ -58,6 +58,7 @@ impl History {
         list_names(alloc, &self.held)
     }
 
+    #[tactic(auto, using(crate::proofs::HeldFiles::noted))]
     /// Carries a change out and notes it. Without memory nothing is changed.
     pub fn apply(&mut self, alloc: Global, change: Change) -> Result<(), NoMemory>
         ensures ok { OnOk result (self.new ≡ changed self.old change) }

@@ -1,4 +1,4 @@
-ghost use Rattle.std.specs.Prelude.{◌≡◌, ◌≤◌, length, IfOk, option_map};
+ghost use Rattle.std.specs.Prelude.{◌≡◌, ◌≤◌, length, IfOk, option_copied, option_map};
 ghost use Rattle.acq_outside.specs.Disk.{IsRead};
 
 use crate::change::Change;
@@ -22,9 +22,10 @@ pub struct MemDisk {
 }
 
 impl MemDisk {
-    ghost use Rattle.std.specs.Prelude.{◌≡◌, [], Result, false, IsTrue, IfOk, IsOk, IsErr, OnOk, OnErr, MatchResult};
-    ghost use Rattle.acq_outside.specs.Failing.{fresh, is_listed, counted, starved};
-    ghost use Rattle.acq_outside.specs.History.{IsStart, changed};
+    ghost use Rattle.std.specs.Prelude.{◌≡◌, ◌≤◌, [], IfOk, OnOk, OnErr, MatchResult};
+    ghost use Rattle.acq_outside.specs.Count.{Rose};
+    ghost use Rattle.acq_outside.specs.Failing.{fresh, starved};
+    ghost use Rattle.acq_outside.specs.History.{IsStart, files_of, changed, after_change};
     ghost use Rattle.acq_outside.specs.MemDisk.{past_of, failing_of};
 
     /// A disk that begins with these files: names that a disk may have, no two the same, and their bytes. `held` says
@@ -54,25 +55,15 @@ impl MemDisk {
         self.failing.dry
     }
 
-    /// Counts a call, and does this change unless the call is listed.
-    fn step(&mut self, change: Result<Change, NoMemory>) -> Result<(), Fault>
-        ensures ok { OnOk result (IfOk change (λ done. past_of self.new ≡ changed (past_of self.old) done)) }
-        ensures made { OnOk result (IsOk change) }
-        ensures err { OnErr result (past_of self.new ≡ past_of self.old) }
-        ensures listed { IsTrue (is_listed (failing_of self.old)) → IsErr result × (failing_of self.new ≡ counted (failing_of self.old)) }
-        ensures others { is_listed (failing_of self.old) ≡ false → MatchResult result (λ _. failing_of self.new ≡ counted (failing_of self.old)) (λ _. failing_of self.new ≡ starved (counted (failing_of self.old))) }
-    {
-        self.failing.call()?;
-        match change {
-            Ok(change) => self.apply(change),
-            Err(NoMemory) => Err(self.failing.run_dry()),
-        }
-    }
-
+    #[tactic(auto, using(crate::proofs::HeldFiles::files_of_changed))]
     /// Does this change within a call that is counted.
     fn apply(&mut self, change: Change) -> Result<(), Fault>
-        ensures past { MatchResult result (λ _. past_of self.new ≡ changed (past_of self.old) change) (λ _. past_of self.new ≡ past_of self.old) }
-        ensures failing { MatchResult result (λ _. failing_of self.new ≡ failing_of self.old) (λ _. failing_of self.new ≡ starved (failing_of self.old)) }
+        ensures change { OnOk result (past_of self.new ≡ changed (past_of self.old) change) }
+        ensures files { OnOk result (files_of (past_of self.new) ≡ after_change (files_of (past_of self.old)) change) }
+        ensures failed { OnErr result (past_of self.new ≡ past_of self.old) }
+        ensures counted { MatchResult result (λ _. failing_of self.new ≡ failing_of self.old) (λ _. failing_of self.new ≡ starved (failing_of self.old)) }
+        ensures count { (failing_of self.old).faults ≤ (failing_of self.new).faults }
+        ensures fault { OnErr result (Rose (failing_of self.old).faults (failing_of self.new).faults) }
     {
         match self.history.apply(self.alloc, change) {
             Ok(()) => Ok(()),
@@ -158,6 +149,7 @@ impl Disk for MemDisk {
         }
     }
 
+    #[tactic(auto, using(crate::proofs::Torn::untouched_write))]
     fn write_at(&mut self, name: &[u8], at: u64, bytes: &[u8]) -> Result<(), Fault>
         requires name { IsName name.now }
         requires there { IsTrue true → IsSomeAnd (files_of (past_of self.old) name.now) (λ content. at ≤ length content) }
@@ -173,10 +165,17 @@ impl Disk for MemDisk {
         ensures listed { IsTrue (is_listed (failing_of self.old)) → IsErr result × (failing_of self.new ≡ counted (failing_of self.old)) }
         ensures others { is_listed (failing_of self.old) ≡ false → MatchResult result (λ _. failing_of self.new ≡ counted (failing_of self.old)) (λ _. failing_of self.new ≡ starved (counted (failing_of self.old))) }
     {
-        let change = write_change(self.alloc, name, at, bytes);
-        self.step(change)
+        self.failing.call()?;
+        match write_change(self.alloc, name, at, bytes) {
+            Ok(change) => {
+                self.apply(change)?;
+                Ok(())
+            }
+            Err(NoMemory) => Err(self.failing.run_dry()),
+        }
     }
 
+    #[tactic(auto, using(crate::proofs::Torn::untouched_cut))]
     fn cut(&mut self, name: &[u8], len: u64) -> Result<(), Fault>
         requires name { IsName name.now }
         requires within { IsTrue true → len ≤ length (unwrap_or (files_of (past_of self.old) name.now) []) }
@@ -192,8 +191,14 @@ impl Disk for MemDisk {
         ensures listed { IsTrue (is_listed (failing_of self.old)) → IsErr result × (failing_of self.new ≡ counted (failing_of self.old)) }
         ensures others { is_listed (failing_of self.old) ≡ false → MatchResult result (λ _. failing_of self.new ≡ counted (failing_of self.old)) (λ _. failing_of self.new ≡ starved (counted (failing_of self.old))) }
     {
-        let change = cut_change(self.alloc, name, len);
-        self.step(change)
+        self.failing.call()?;
+        match cut_change(self.alloc, name, len) {
+            Ok(change) => {
+                self.apply(change)?;
+                Ok(())
+            }
+            Err(NoMemory) => Err(self.failing.run_dry()),
+        }
     }
 
     fn sync(&mut self, name: &[u8]) -> Result<(), Fault>
@@ -209,8 +214,14 @@ impl Disk for MemDisk {
         ensures listed { IsTrue (is_listed (failing_of self.old)) → IsErr result × (failing_of self.new ≡ counted (failing_of self.old)) }
         ensures others { is_listed (failing_of self.old) ≡ false → MatchResult result (λ _. failing_of self.new ≡ counted (failing_of self.old)) (λ _. failing_of self.new ≡ starved (counted (failing_of self.old))) }
     {
-        let change = sync_change(self.alloc, name);
-        self.step(change)
+        self.failing.call()?;
+        match sync_change(self.alloc, name) {
+            Ok(change) => {
+                self.apply(change)?;
+                Ok(())
+            }
+            Err(NoMemory) => Err(self.failing.run_dry()),
+        }
     }
 
     fn rename(&mut self, from: &[u8], to: &[u8]) -> Result<(), Fault>
@@ -228,8 +239,14 @@ impl Disk for MemDisk {
         ensures listed { IsTrue (is_listed (failing_of self.old)) → IsErr result × (failing_of self.new ≡ counted (failing_of self.old)) }
         ensures others { is_listed (failing_of self.old) ≡ false → MatchResult result (λ _. failing_of self.new ≡ counted (failing_of self.old)) (λ _. failing_of self.new ≡ starved (counted (failing_of self.old))) }
     {
-        let change = rename_change(self.alloc, from, to);
-        self.step(change)
+        self.failing.call()?;
+        match rename_change(self.alloc, from, to) {
+            Ok(change) => {
+                self.apply(change)?;
+                Ok(())
+            }
+            Err(NoMemory) => Err(self.failing.run_dry()),
+        }
     }
 
     fn remove(&mut self, name: &[u8]) -> Result<(), Fault>
@@ -246,8 +263,14 @@ impl Disk for MemDisk {
         ensures listed { IsTrue (is_listed (failing_of self.old)) → IsErr result × (failing_of self.new ≡ counted (failing_of self.old)) }
         ensures others { is_listed (failing_of self.old) ≡ false → MatchResult result (λ _. failing_of self.new ≡ counted (failing_of self.old)) (λ _. failing_of self.new ≡ starved (counted (failing_of self.old))) }
     {
-        let change = remove_change(self.alloc, name);
-        self.step(change)
+        self.failing.call()?;
+        match remove_change(self.alloc, name) {
+            Ok(change) => {
+                self.apply(change)?;
+                Ok(())
+            }
+            Err(NoMemory) => Err(self.failing.run_dry()),
+        }
     }
 
     fn sync_names(&mut self) -> Result<(), Fault>
@@ -262,7 +285,9 @@ impl Disk for MemDisk {
         ensures listed { IsTrue (is_listed (failing_of self.old)) → IsErr result × (failing_of self.new ≡ counted (failing_of self.old)) }
         ensures others { is_listed (failing_of self.old) ≡ false → MatchResult result (λ _. failing_of self.new ≡ counted (failing_of self.old)) (λ _. failing_of self.new ≡ starved (counted (failing_of self.old))) }
     {
-        self.step(Ok(Change::SyncNames))
+        self.failing.call()?;
+        self.apply(Change::SyncNames)?;
+        Ok(())
     }
 }
 
@@ -308,7 +333,7 @@ fn remove_change(alloc: Global, name: &[u8]) -> Result<Change, NoMemory>
 
 /// The length of a content, if there is one.
 fn size_of(content: Option<&Bytes>) -> Option<u64>
-    ensures { result ≡ option_map (λ bytes. length bytes.now) content.entry }
+    ensures { result ≡ option_map length (option_copied content.entry) }
 {
     content.map(|bytes| bytes.len() as u64)
 }
@@ -316,7 +341,7 @@ fn size_of(content: Option<&Bytes>) -> Option<u64>
 /// Reads bytes of a content, if there is one, into the front of `out` and answers how many.
 fn read_some(content: Option<&Bytes>, at: u64, out: &mut [u8]) -> usize
     ensures within { result ≤ length out.old }
-    ensures read { IsRead (option_map (λ bytes. bytes.now) content.entry) at result out.old out.new }
+    ensures read { IsRead (option_copied content.entry) at result out.old out.new }
 {
     match content {
         Some(bytes) => read_from(bytes.as_slice(), at, out),

@@ -1,4 +1,4 @@
-ghost use Rattle.std.specs.Prelude.{◌≡◌, ◌⊎◌, Ok, IsErr, MatchOption, None, Some, take};
+ghost use Rattle.std.specs.Prelude.{◌≡◌, IfOk, option_copied, option_map, take};
 ghost use Rattle.acq_outside.specs.Etc.{bytes_at, folder_names, is_folder, names_in};
 
 use crate::failing::Failing;
@@ -35,7 +35,7 @@ impl MemEtc {
 }
 
 impl Etc for MemEtc {
-    ghost use Rattle.std.specs.Prelude.{◌≡◌, ◌≤◌, ◌⊎◌, false, IsTrue, Some, Ok, Err, IfOk, IfSome, IsErrOf, option_map, take};
+    ghost use Rattle.std.specs.Prelude.{◌≡◌, ◌≤◌, false, IsTrue, IsOkUnless, Some, Err, IfOk, IfSome, IsErrOf, option_map, take};
     ghost use Rattle.std.specs.List.Sorted.{IsPermutation};
     ghost use Rattle.acq_outside.specs.Count.{Rose};
     ghost use Rattle.acq_outside.specs.Etc.{bytes_at, folder_names};
@@ -55,7 +55,7 @@ impl Etc for MemEtc {
         // A listed call fails, and no other one does but for want of memory.
         ensures counted { failing_of self.new ≡ counted (failing_of self.old) }
         ensures listed { IsTrue (is_listed (failing_of self.old)) → result ≡ Err OutError.Fault }
-        ensures others { is_listed (failing_of self.old) ≡ false → (result ≡ Err OutError.NoMemory) ⊎ (result ≡ Ok (folder_names (files_of self.old) place)) }
+        ensures others { is_listed (failing_of self.old) ≡ false → IsOkUnless result OutError.NoMemory }
     {
         self.failing.call()?;
         Ok(names_of(alloc, self.files.as_slice(), place)?)
@@ -70,13 +70,11 @@ impl Etc for MemEtc {
         // A listed call fails, and no other one does but for want of memory.
         ensures counted { failing_of self.new ≡ counted (failing_of self.old) }
         ensures listed { IsTrue (is_listed (failing_of self.old)) → result ≡ Err OutError.Fault }
-        ensures others { is_listed (failing_of self.old) ≡ false → (result ≡ Err OutError.NoMemory) ⊎ (result ≡ Ok (option_map (take 1048577) (bytes_at (files_of self.old) place name.now))) }
+        ensures others { is_listed (failing_of self.old) ≡ false → IsOkUnless result OutError.NoMemory }
     {
         self.failing.call()?;
-        match find(self.files.as_slice(), place, name) {
-            Some(bytes) => Ok(Some(front(alloc, bytes.as_slice(), MOST_READ)?)),
-            None => Ok(None),
-        }
+        let found = find(self.files.as_slice(), place, name);
+        Ok(front_of(alloc, found, MOST_READ)?)
     }
 }
 
@@ -86,7 +84,7 @@ fn names_of(
     files: &[(Place, Text, Bytes)],
     place: Place,
 ) -> Result<Row<Text>, NoMemory>
-    ensures { IsErr result ⊎ (result ≡ Ok (folder_names files.now place)) }
+    ensures { IfOk result (λ names. names ≡ folder_names files.now place) }
 {
     let mut names = Row::new(alloc);
     if is_folder(place) {
@@ -108,7 +106,7 @@ fn is_folder(place: Place) -> bool
 
 /// The bytes of a file, `None` where there is no such file.
 fn find<'a>(files: &'a [(Place, Text, Bytes)], place: Place, name: &Text) -> Option<&'a Bytes>
-    ensures { MatchOption result (bytes_at files.now place name.now ≡ None) (λ bytes. bytes_at files.now place name.now ≡ Some bytes.now) }
+    ensures { option_copied result ≡ bytes_at files.now place name.now }
 {
     for file in files {
         if file.0 == place && file.1 == *name {
@@ -118,9 +116,19 @@ fn find<'a>(files: &'a [(Place, Text, Bytes)], place: Place, name: &Text) -> Opt
     None
 }
 
+/// At most the first `most` bytes of a file, if there is one.
+fn front_of(alloc: Global, file: Option<&Bytes>, most: usize) -> Result<Option<Bytes>, NoMemory>
+    ensures { IfOk result (λ bytes. bytes ≡ option_map (take most) (option_copied file.entry)) }
+{
+    match file {
+        Some(bytes) => Ok(Some(front(alloc, bytes.as_slice(), most)?)),
+        None => Ok(None),
+    }
+}
+
 /// At most the first `most` bytes.
 fn front(alloc: Global, bytes: &[u8], most: usize) -> Result<Bytes, NoMemory>
-    ensures { IsErr result ⊎ (result ≡ Ok (take most bytes.now)) }
+    ensures { IfOk result (λ front. front ≡ take most bytes.now) }
 {
     let n = most.min(bytes.len());
     Ok(Bytes::from(Vec::from_slice(alloc, &bytes[..n])?))

@@ -1,4 +1,4 @@
-ghost use Rattle.std.specs.Prelude.{◌≡◌, ◌≢◌, ℕ, ◌+◌, ◌≤◌, List, [], length, Some, IfOk, OnOk, OnErr, IsErrOf, IsTrue, unwrap_or};
+ghost use Rattle.std.specs.Prelude.{◌≡◌, ◌≢◌, ℕ, ◌+◌, ◌<◌, ◌≤◌, ◌^◌, List, [], length, Some, IfOk, OnOk, OnErr, IsErrOf, IsTrue, unwrap_or};
 ghost use Rattle.acq_outside.specs.Count.{Rose};
 ghost use Rattle.acq_outside.specs.Disk.{IsName, with_file};
 ghost use Rattle.acq_outside.specs.Whole.{GrowsTo};
@@ -13,6 +13,7 @@ const PIECE: usize = 65_536;
 /// Puts these bytes in place of a file's content and makes them lasting; an absent file is made.
 ///
 /// After a fault the file may be as before, absent, or hold anything. Other files stay in any case.
+#[tactic(auto, using(crate::proofs::WholeFiles::emptied))]
 pub fn write_whole<D: Disk>(disk: &mut D, name: &[u8], bytes: &[u8]) -> Result<(), Fault>
     requires { IsName name.now }
     ensures count { D.faults disk.old ≤ D.faults disk.new }
@@ -23,10 +24,12 @@ pub fn write_whole<D: Disk>(disk: &mut D, name: &[u8], bytes: &[u8]) -> Result<(
 {
     disk.cut(name, 0)?;
     if bytes.is_empty() {
-        return disk.sync(name);
+        disk.sync(name)?;
+        return Ok(());
     }
     disk.write_at(name, 0, bytes)?;
-    disk.sync(name)
+    disk.sync(name)?;
+    Ok(())
 }
 
 /// A file's whole content, read in pieces, or `None` where there is no such file.
@@ -77,10 +80,15 @@ fn read_through<D: Disk>(
     ensures told { IsTrue (D.tells disk.old) → IfOk result (λ bytes. bytes ≡ unwrap_or (D.files disk.old name.now) []) }
 {
     let mut content = Vec::new(alloc);
-    while read_piece(disk, name, &mut content, piece)? != 0 {}
-    Ok(Bytes::from(content))
+    loop {
+        let n = read_piece(disk, name, &mut content, piece)?;
+        if n == 0 {
+            return Ok(Bytes::from(content));
+        }
+    }
 }
 
+#[tactic(auto, using(crate::proofs::WholeFiles::grown))]
 /// Appends what one read gives behind the content so far, and answers how many bytes it gave.
 fn read_piece<D: Disk>(
     disk: &mut D,
@@ -94,6 +102,7 @@ fn read_piece<D: Disk>(
     ensures fault { IsErrOf result OutError.Fault → Rose (D.faults disk.old) (D.faults disk.new) }
     ensures telling { D.tells disk.new ≡ D.tells disk.old }
     ensures same { D.files disk.new ≡ D.files disk.old }
+    ensures small { length content.old.items < 2 ^ 64 }
     ensures longer { IfOk result (λ n. length content.new.items ≡ length content.old.items + n) }
     ensures told { IsTrue (D.tells disk.old) → IfOk result (λ n. GrowsTo (unwrap_or (D.files disk.old name.now) []) n content.old.items content.new.items) }
 {

@@ -1,0 +1,16 @@
+use Rattle.std.proofs.Common.{◌≡◌, ℕ, ◌-◌, ◌^◌, ◌≤◌, [], length, take, IsTrue, unwrap_or}
+use Rattle.acq_outside.proofs.whole.read_through.Given as goal
+
+-- what is read so far is a front of the file
+abbrev pub invariant-loop-content : goal.invariant-loop-content
+invariant-loop-content g l =
+    record {
+      count : g.D.Disk.faults l.fn.disk ≤ g.D.Disk.faults l.disk;
+      telling : g.D.Disk.tells l.disk ≡ g.D.Disk.tells l.fn.disk;
+      same : g.D.Disk.files l.disk ≡ g.D.Disk.files l.fn.disk;
+      room : 1 ≤ length l.piece;
+      front : IsTrue (g.D.Disk.tells l.fn.disk) → l.content.items ≡ take (length l.content.items) (unwrap_or (g.D.Disk.files l.fn.disk l.name) []);
+    }
+
+abbrev pub decreases-loop-content : goal.decreases-loop-content
+decreases-loop-content g l = 2 ^ 64 - length l.content.items
