@@ -1,4 +1,4 @@
-use Rattle.std.proofs.Common.{◌≡◌, ℕ, ◌-◌, ◌^◌, ◌≤◌, [], length, take, IsTrue, unwrap_or}
+use Rattle.std.proofs.Common.{◌≡◌, ◌-◌, ◌^◌, ◌≤◌, [], length, take, IsTrue, unwrap_or}
 use Rattle.acq_outside.proofs.whole.read_through.Given as goal
 
 -- what is read so far is a front of the file
