@@ -1,38 +1,11 @@
--- Where a text is cut: at the end of its first line, at its first colon, at the blanks of its end.
+-- Where a text is cut: at the end of its first line, and at its first colon.
 use Rattle.std.proofs.Common.{◌≡◌, ℕ, suc, ◌+◌, ◌-◌, ◌<◌, ◌≤◌, Bool, true, false, cond, not, nat_eq, nat_lt, eqb, List, [], ◌∷◌, ◌++◌, length, get_or, take, drop, reverse, ◌||◌, refl, sym, ap, ◌∙◌, arith}
 use Rattle.std.specs.List.{slice_split, position_or_len, list_any, before_first, after_first, onto_first}
 use Rattle.std.specs.Str.Lines.{lines as text_lines, lines_of_parts, strip_carriage_return}
 use Rattle.std.proofs.lemmas.List.{take_more, take_all, drop_all, drop-drop, reverse-append, reverse-reverse, length-drop, length-append}
 use Rattle.std.proofs.lemmas.Bool.{ne_eqb}
 use Rattle.std.proofs.lemmas.List.Splits.{slice_split_first}
-use Rattle.deb822_text.specs.Control.{is_blank, is_colon, begins_with, trimmed_start, trimmed_end, Unknown, field_line, named_line}
-
--- a list is all but its last element, and that
-last_apart : (xs : List ℕ) → 1 ≤ length xs → xs ≡ take (length xs - 1) xs ++ get_or xs (length xs - 1) 0 ∷ []
-last_apart xs long =
-    let at : length xs - 1 < length xs = omega arith in
-    let all : length xs - 1 + 1 ≡ length xs = omega arith in
-    let whole : take (length xs - 1 + 1) xs ≡ xs = rw all (take_all (length xs) xs (omega arith)) in
-    sym whole ∙ take_more xs (length xs - 1) 0 at
-
-trimmed_end-push : (xs : List ℕ) (x : ℕ) → trimmed_end (xs ++ x ∷ []) ≡ reverse (cond (is_blank x) (trimmed_start (reverse xs)) (x ∷ reverse xs))
-trimmed_end-push xs x =
-    let e : reverse (xs ++ x ∷ []) ≡ x ∷ reverse xs = reverse-append xs (x ∷ []) in
-    rw e refl
-
-pub trimmed_end-blank : (xs : List ℕ) → 1 ≤ length xs → is_blank (get_or xs (length xs - 1) 0) ≡ true → trimmed_end (take (length xs - 1) xs) ≡ trimmed_end xs
-trimmed_end-blank xs long blank =
-    let e = trimmed_end-push (take (length xs - 1) xs) (get_or xs (length xs - 1) 0) in
-    let f : trimmed_end (take (length xs - 1) xs ++ get_or xs (length xs - 1) 0 ∷ []) ≡ trimmed_end (take (length xs - 1) xs) = e ∙ rw blank refl in
-    sym f ∙ ap trimmed_end (sym (last_apart xs long))
-
-pub trimmed_end-other : (xs : List ℕ) → 1 ≤ length xs → is_blank (get_or xs (length xs - 1) 0) ≡ false → trimmed_end xs ≡ xs
-trimmed_end-other xs long other =
-    let front = take (length xs - 1) xs in
-    let last = get_or xs (length xs - 1) 0 in
-    let back : reverse (last ∷ reverse front) ≡ front ++ last ∷ [] = ap reverse (sym (reverse-append front (last ∷ []))) ∙ reverse-reverse (front ++ last ∷ []) in
-    let e : trimmed_end (front ++ last ∷ []) ≡ front ++ last ∷ [] = trimmed_end-push front last ∙ rw other back in
-    ap trimmed_end (last_apart xs long) ∙ e ∙ sym (last_apart xs long)
+use Rattle.deb822_text.specs.Control.{is_colon, begins_with, Unknown, field_line, named_line}
 
 -- an element passes where the first that does stands within the list
 pub list_any-within : {X : Type 0} (p : X → Bool) (xs : List X) → position_or_len p xs < length xs → list_any p xs ≡ true
@@ -101,8 +74,6 @@ field_line-bare at line n is none =
 pub begins_with-first : (test : ℕ → Bool) (xs : List ℕ) → 1 ≤ length xs → begins_with test xs ≡ test (get_or xs 0 0)
 begins_with-first test [] long = absurd (omega arith)
 begins_with-first test (x ∷ xs) long = refl
-
-pub ruleset cut_ends = (trimmed_end-blank, trimmed_end-other)
 
 pub ruleset cut_lines = (lines_first, lines_last)
 

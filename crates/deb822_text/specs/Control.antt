@@ -1,18 +1,15 @@
 -- Control text (Debian Policy, section 5.1): the paragraphs of a text, and the line at which a text is refused.
-use Rattle.std.specs.Prelude.{◌≡◌, ℕ, ◌+◌, ◌==◌, ◌||◌, ◌&&◌, not, nat_le, Bool, true, false, if◌then◌else◌, List, [], ◌∷◌, ◌++◌, map, filter, find, reverse, drop, Option, Some, None, Result, Ok, Err}
+use Rattle.std.specs.Prelude.{◌≡◌, ℕ, ◌+◌, ◌==◌, ◌||◌, ◌&&◌, not, nat_le, Bool, true, false, if◌then◌else◌, List, [], ◌∷◌, ◌++◌, map, filter, find, drop, Option, Some, None, Result, Ok, Err}
 use Rattle.std.specs.List.{list_any, list_all, slice_split, before_first, after_first}
 use Rattle.std.specs.Str.{str_eq_ignore_ascii_case}
 use Rattle.std.specs.Str.Lines.{lines as text_lines}
+use Rattle.acq_base.specs.Words.{is_blank, trimmed_end, trimmed}
 use Rattle.deb822_text.specs.declared.paragraph.Field.{Field}
 use Rattle.deb822_text.specs.declared.paragraph.Paragraph.{Paragraph}
 use Rattle.deb822_text.specs.declared.error.TextError.{TextError}
 use Rattle.deb822_text.specs.declared.error.TextError.TheVariants.{BadField, Twice, Loose, NoMemory}
 
 -- ---- one line
-
--- space or tab
-abbrev pub is_blank : ℕ → Bool
-is_blank c = c == 32 || c == 9
 
 abbrev pub is_colon : ℕ → Bool
 is_colon c = c == 58
@@ -39,17 +36,6 @@ is_name_character c = nat_le 33 c && nat_le c 126 && not (is_colon c)
 -- a field's name: printable ASCII but space and colon, at least one, `#` and `-` not first
 abbrev pub is_name : List ℕ → Bool
 is_name name = begins_with may_begin_name name && list_all is_name_character name
-
-abbrev pub trimmed_start : List ℕ → List ℕ
-trimmed_start [] = []
-trimmed_start (c ∷ cs) = if is_blank c then trimmed_start cs else c ∷ cs
-
-abbrev pub trimmed_end : List ℕ → List ℕ
-trimmed_end text = reverse (trimmed_start (reverse text))
-
--- without the blanks at both ends
-abbrev pub trimmed : List ℕ → List ℕ
-trimmed text = trimmed_end (trimmed_start text)
 
 -- what a line is by itself, with its number counted from 1
 pub data Line : Type 0 where

@@ -1,14 +1,6 @@
 ghost use Rattle.std.specs.Prelude.{◌≡◌, ◌==◌, ◌<◌, ◌≤◌, ◌∷◌, length};
 ghost use Rattle.std.specs.List.{position_or_len};
 ghost use Rattle.std.specs.Str.Lines.{lines as text_lines, strip_carriage_return};
-ghost use Rattle.deb822_text.specs.Control.{is_blank, trimmed_start, trimmed_end};
-
-/// Whether a byte is a space or a tab.
-pub fn blank(byte: u8) -> bool
-    ensures { result ≡ is_blank byte }
-{
-    byte == b' ' || byte == b'\t'
-}
 
 /// The first line of a text that isn't empty, without its end, and the text behind it.
 #[tactic(auto, using(crate::proofs::Cuts::cut_lines))]
@@ -45,33 +37,4 @@ fn without_return(line: &[u8]) -> &[u8]
         [front @ .., b'\r'] => front,
         _ => line,
     }
-}
-
-/// A text without the blanks at its front.
-pub fn trim_start(text: &[u8]) -> &[u8]
-    ensures { result.now ≡ trimmed_start text.now }
-{
-    let mut rest = text;
-    while let [first, behind @ ..] = rest {
-        if !blank(*first) {
-            return rest;
-        }
-        rest = behind;
-    }
-    rest
-}
-
-/// A text without the blanks at its end.
-#[tactic(auto, using(crate::proofs::Cuts::cut_ends))]
-pub fn trim_end(text: &[u8]) -> &[u8]
-    ensures { result.now ≡ trimmed_end text.now }
-{
-    let mut rest = text;
-    while let [front @ .., last] = rest {
-        if !blank(*last) {
-            return rest;
-        }
-        rest = front;
-    }
-    rest
 }

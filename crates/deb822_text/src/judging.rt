@@ -1,13 +1,13 @@
 ghost use Rattle.std.specs.Prelude.{◌≡◌, is_some};
 ghost use Rattle.deb822_text.specs.Written.{is_writable, is_writable_paragraph, is_writable_field, is_first_line, is_later_line, are_field_lines, are_distinct, is_line_character, ends_with};
 ghost use Rattle.std.specs.List.{list_all};
-ghost use Rattle.deb822_text.specs.Control.{is_blank, begins_with, field_named};
+ghost use Rattle.acq_base.specs.Words.{is_blank};
+ghost use Rattle.deb822_text.specs.Control.{begins_with, field_named};
 
-use crate::cutting::blank;
 use crate::finding::field_of;
 use crate::line::{all_blank, sound_name};
 use crate::{Field, Paragraph};
-use acq_base::{Row, Text};
+use acq_base::{Row, Text, is_blank};
 
 /// Whether `write` can write these paragraphs, so that reading gives them again.
 ///
@@ -87,7 +87,7 @@ fn starts_blank(line: &[u8]) -> bool
     ensures { result ≡ begins_with is_blank line.now }
 {
     match line {
-        [first, ..] => blank(*first),
+        [first, ..] => is_blank(*first),
         [] => false,
     }
 }
@@ -96,7 +96,7 @@ fn ends_blank(line: &[u8]) -> bool
     ensures { result ≡ ends_with is_blank line.now }
 {
     match line {
-        [.., last] => blank(*last),
+        [.., last] => is_blank(*last),
         [] => false,
     }
 }

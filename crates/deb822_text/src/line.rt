@@ -1,9 +1,11 @@
 ghost use Rattle.std.specs.Prelude.{◌≡◌};
 ghost use Rattle.std.specs.List.{list_all};
-ghost use Rattle.deb822_text.specs.Control.{is_blank, is_name, is_name_character, may_begin_name, line_of, field_line, named_line};
+ghost use Rattle.acq_base.specs.Words.{is_blank};
+ghost use Rattle.deb822_text.specs.Control.{is_name, is_name_character, may_begin_name, line_of, field_line, named_line};
 ghost use Rattle.deb822_text.specs.Seen.{seen};
 
-use crate::cutting::{blank, place_of, trim_end, trim_start};
+use crate::cutting::place_of;
+use acq_base::{is_blank, trim_blanks, trim_blanks_end};
 
 /// What a line is by itself, with its number.
 #[derive(Clone, Copy)]
@@ -25,7 +27,7 @@ pub fn kind_of(line: &[u8], at: u64, comments: bool) -> Kind<'_>
     }
     match line {
         [b'#', ..] if comments => Kind::Comment,
-        [first, text @ ..] if blank(*first) => Kind::Continuation(at, trim_end(text)),
+        [first, text @ ..] if is_blank(*first) => Kind::Continuation(at, trim_blanks_end(text)),
         _ => field_of(line, at),
     }
 }
@@ -34,7 +36,7 @@ pub fn kind_of(line: &[u8], at: u64, comments: bool) -> Kind<'_>
 pub fn all_blank(text: &[u8]) -> bool
     ensures { result ≡ list_all is_blank text.now }
 {
-    text.iter().all(|byte| blank(*byte))
+    text.iter().all(|byte| is_blank(*byte))
 }
 
 /// A line that begins no other way: a field, or of no kind.
@@ -55,7 +57,7 @@ fn named<'a>(at: u64, name: &'a [u8], text: &'a [u8]) -> Kind<'a>
     ensures { seen result ≡ named_line at name.entry.now text.entry.now }
 {
     if sound_name(name) {
-        Kind::Named(at, name, trim_end(trim_start(text)))
+        Kind::Named(at, name, trim_blanks(text))
     } else {
         Kind::Unknown(at)
     }
