@@ -1,5 +1,5 @@
 -- How control text is written (Debian Policy, section 5.1), and which paragraphs can be.
-use Rattle.std.specs.Prelude.{◌≡◌, ℕ, ◌==◌, ◌||◌, ◌&&◌, not, Bool, true, false, IsTrue, List, [], ◌∷◌, ◌++◌, map, reverse, is_some, Result, Ok}
+use Rattle.std.specs.Prelude.{◌≡◌, ℕ, ◌==◌, ◌||◌, ◌&&◌, not, Bool, true, false, if◌then◌else◌, List, [], ◌∷◌, ◌++◌, map, reverse, is_some, Result, Ok}
 use Rattle.std.specs.List.{list_all, flat_map}
 use Rattle.acq_base.specs.Words.{is_blank}
 use Rattle.deb822_text.specs.declared.paragraph.Field.{Field}
@@ -46,8 +46,7 @@ is_writable paragraphs = list_all is_writable_paragraph paragraphs
 
 -- an empty first line stands for itself, and any other behind a space
 abbrev pub first_line_text : List ℕ → List ℕ
-first_line_text [] = 10 ∷ []
-first_line_text (c ∷ cs) = 32 ∷ c ∷ cs ++ 10 ∷ []
+first_line_text line = if is_empty line then 10 ∷ [] else 32 ∷ line ++ 10 ∷ []
 
 abbrev pub later_line_text : List ℕ → List ℕ
 later_line_text line = 32 ∷ line ++ 10 ∷ []
@@ -62,11 +61,13 @@ field_text field = field.name ++ 58 ∷ lines_text field.lines
 abbrev pub paragraph_text : Paragraph → List ℕ
 paragraph_text paragraph = flat_map field_text paragraph.fields
 
--- one empty line between two paragraphs
+-- an empty line, and a paragraph
+abbrev pub next_paragraph_text : Paragraph → List ℕ
+next_paragraph_text paragraph = 10 ∷ paragraph_text paragraph
+
 unfoldable pub text_of : List Paragraph → List ℕ
 text_of [] = []
-text_of (paragraph ∷ []) = paragraph_text paragraph
-text_of (paragraph ∷ next ∷ more) = paragraph_text paragraph ++ 10 ∷ text_of (next ∷ more)
+text_of (paragraph ∷ more) = paragraph_text paragraph ++ flat_map next_paragraph_text more
 
 -- ---- reading again
 

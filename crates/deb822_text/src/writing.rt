@@ -1,5 +1,6 @@
-ghost use Rattle.std.specs.Prelude.{◌≡◌, IfOk, IsTrue};
-ghost use Rattle.deb822_text.specs.Written.{is_writable, text_of, ReadsAs};
+ghost use Rattle.std.specs.Prelude.{◌≡◌, ◌++◌, IfOk, OnOk, IsTrue};
+ghost use Rattle.std.specs.List.{flat_map};
+ghost use Rattle.deb822_text.specs.Written.{is_writable, text_of, ReadsAs, first_line_text, later_line_text, lines_text, field_text, paragraph_text, next_paragraph_text};
 
 use crate::{Field, Paragraph};
 use acq_base::{Bytes, NoMemory, Row, Text};
@@ -13,30 +14,99 @@ pub fn write(alloc: Global, paragraphs: &Row<Paragraph>) -> Result<Bytes, NoMemo
     ensures again { IfOk result (λ bytes. ReadsAs bytes paragraphs.now) }
 {
     let mut text = Text::new(alloc);
-    let mut first = true;
-    for paragraph in paragraphs.as_slice() {
-        if !first {
-            text.push(b'\n')?;
-        }
-        first = false;
-        for field in paragraph.fields.as_slice() {
-            put_field(&mut text, field)?;
-        }
-    }
-    Ok(Row::from(Vec::from_slice(alloc, text.as_bytes())?))
+    put_paragraphs(&mut text, paragraphs.as_slice())?;
+    Ok(text.into_bytes())
 }
 
-fn put_field(text: &mut Text, field: &Field) -> Result<(), NoMemory> {
-    text.append(field.name.as_bytes())?;
-    text.push(b':')?;
-    let mut first = true;
-    for line in field.lines.as_slice() {
-        if !first || !line.is_empty() {
-            text.push(b' ')?;
+#[tactic(auto, unfolding(crate::specs::Written::text_of))]
+fn put_paragraphs(text: &mut Text, paragraphs: &[Paragraph]) -> Result<(), NoMemory>
+    ensures { OnOk result (text.new ≡ text.old ++ text_of paragraphs.now) }
+{
+    match paragraphs.split_first() {
+        None => Ok(()),
+        Some((first, more)) => {
+            put_paragraph(text, first)?;
+            put_more(text, more)
         }
-        first = false;
-        text.append(line.as_bytes())?;
-        text.push(b'\n')?;
+    }
+}
+
+/// Each of the paragraphs behind an empty line.
+fn put_more(text: &mut Text, more: &[Paragraph]) -> Result<(), NoMemory>
+    ensures { OnOk result (text.new ≡ text.old ++ flat_map next_paragraph_text more.now) }
+{
+    for paragraph in more {
+        put_next(text, paragraph)?;
     }
     Ok(())
+}
+
+fn put_next(text: &mut Text, paragraph: &Paragraph) -> Result<(), NoMemory>
+    ensures { OnOk result (text.new ≡ text.old ++ next_paragraph_text paragraph.now) }
+{
+    text.push(b'\n')?;
+    put_paragraph(text, paragraph)
+}
+
+fn put_paragraph(text: &mut Text, paragraph: &Paragraph) -> Result<(), NoMemory>
+    ensures { OnOk result (text.new ≡ text.old ++ paragraph_text paragraph.now) }
+{
+    put_fields(text, paragraph.fields.as_slice())
+}
+
+fn put_fields(text: &mut Text, fields: &[Field]) -> Result<(), NoMemory>
+    ensures { OnOk result (text.new ≡ text.old ++ flat_map field_text fields.now) }
+{
+    for field in fields {
+        put_field(text, field)?;
+    }
+    Ok(())
+}
+
+fn put_field(text: &mut Text, field: &Field) -> Result<(), NoMemory>
+    ensures { OnOk result (text.new ≡ text.old ++ field_text field.now) }
+{
+    text.append(field.name.as_bytes())?;
+    text.push(b':')?;
+    put_lines(text, field.lines.as_slice())
+}
+
+fn put_lines(text: &mut Text, lines: &[Text]) -> Result<(), NoMemory>
+    ensures { OnOk result (text.new ≡ text.old ++ lines_text lines.now) }
+{
+    match lines.split_first() {
+        None => text.push(b'\n'),
+        Some((first, later)) => {
+            put_first(text, first.as_bytes())?;
+            put_later(text, later)
+        }
+    }
+}
+
+#[tactic(auto, using(crate::proofs::Lookups::emptiness))]
+fn put_first(text: &mut Text, line: &[u8]) -> Result<(), NoMemory>
+    ensures { OnOk result (text.new ≡ text.old ++ first_line_text line.now) }
+{
+    if line.is_empty() {
+        return text.push(b'\n');
+    }
+    put_line(text, line)
+}
+
+fn put_later(text: &mut Text, later: &[Text]) -> Result<(), NoMemory>
+    ensures { OnOk result (text.new ≡ text.old ++ flat_map later_line_text later.now) }
+{
+    for line in later {
+        put_line(text, line.as_bytes())?;
+    }
+    Ok(())
+}
+
+/// A line behind a space.
+fn put_line(text: &mut Text, line: &[u8]) -> Result<(), NoMemory>
+    ensures { OnOk result (text.new ≡ text.old ++ later_line_text line.now) }
+{
+    text.push(b' ')?;
+    text.append(line)?;
+    text.push(b'\n')
 }
