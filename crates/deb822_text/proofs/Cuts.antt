@@ -23,7 +23,7 @@ list_any-nowhere p (x ∷ xs) none = elim (p x) as (λ b. suc (length xs) ≤ co
 ] none
 
 -- parts are never none
-split_cons : {X : Type 0} (p : X → Bool) (xs : List X) → (part : List X) × (parts : List (List X)) × (slice_split p xs ≡ part ∷ parts)
+pub split_cons : {X : Type 0} (p : X → Bool) (xs : List X) → (part : List X) × (parts : List (List X)) × (slice_split p xs ≡ part ∷ parts)
 split_cons p [] = ([], [], refl)
 split_cons {X} p (x ∷ xs) = elim (p x) as (λ b. (part : List X) × (parts : List (List X)) × (cond b ([] ∷ slice_split p xs) (onto_first x (slice_split p xs)) ≡ part ∷ parts)) [
   | true ↦ ([], slice_split p xs, refl)

@@ -4,3 +4,5 @@ pub mod Steps
 pub mod Scans
 pub mod Groups
 pub mod Faults
+pub mod Plain
+pub mod Again
