@@ -14,6 +14,7 @@ pub use mem_disk::MemDisk;
 pub use mem_etc::MemEtc;
 pub use mem_sink::MemSink;
 pub use method::Method;
+pub use name::is_name;
 pub use sink::Sink;
 pub use whole::{read_whole, write_whole};
 
@@ -31,6 +32,7 @@ mod mem_disk;
 mod mem_etc;
 mod mem_sink;
 mod method;
+mod name;
 mod sink;
 #[cfg(test)]
 mod tests;

@@ -1,11 +1,13 @@
-ghost use Rattle.std.specs.Prelude.{◌≡◌, ◌≤◌, length, IfOk, option_copied, option_map};
-ghost use Rattle.acq_outside.specs.Disk.{IsRead};
+ghost use Rattle.std.specs.Prelude.{◌≡◌, ◌≤◌, ◌↔◌, length, All, IfOk, IsTrue, option_copied, option_map};
+ghost use Rattle.std.specs.List.{list_any};
+ghost use Rattle.acq_outside.specs.Disk.{IsName, IsRead, same_name};
+ghost use Rattle.acq_outside.specs.History.{names_differ};
 
 use crate::change::Change;
 use crate::failing::Failing;
 use crate::held::read_from;
 use crate::history::History;
-use crate::{Disk, Fault, OutError};
+use crate::{Disk, Fault, OutError, is_name};
 use acq_base::{Bytes, NoMemory, Row, Text};
 use std::alloc::Global;
 
@@ -22,11 +24,18 @@ pub struct MemDisk {
 }
 
 impl MemDisk {
-    ghost use Rattle.std.specs.Prelude.{◌≡◌, ◌≤◌, [], IfOk, OnOk, OnErr, MatchResult};
+    ghost use Rattle.std.specs.Prelude.{◌≡◌, ◌≤◌, ◌↔◌, [], IsTrue, IfOk, OnOk, OnErr, MatchResult};
     ghost use Rattle.acq_outside.specs.Count.{Rose};
     ghost use Rattle.acq_outside.specs.Failing.{fresh, starved};
     ghost use Rattle.acq_outside.specs.History.{IsStart, files_of, changed, after_change};
     ghost use Rattle.acq_outside.specs.MemDisk.{past_of, failing_of};
+
+    /// Whether a disk may begin with these files.
+    pub fn takes(files: &Row<(Text, Bytes)>) -> bool
+        ensures { IsTrue result ↔ IsStart files.now }
+    {
+        are_names(files.as_slice()) && names_differ(files.as_slice())
+    }
 
     /// A disk that begins with these files: names that a disk may have, no two the same, and their bytes. `held` says
     /// whether another process holds it. `failing` holds the numbers of its calls that are to fail, counted from 1.
@@ -289,6 +298,36 @@ impl Disk for MemDisk {
         self.apply(Change::SyncNames)?;
         Ok(())
     }
+}
+
+fn are_names(files: &[(Text, Bytes)]) -> bool
+    ensures { IsTrue result ↔ All (λ file. IsName file.0) files.now }
+{
+    for file in files {
+        if !is_name(file.0.as_bytes()) {
+            return false;
+        }
+    }
+    true
+}
+
+fn names_differ(files: &[(Text, Bytes)]) -> bool
+    ensures { result ≡ names_differ files.now }
+{
+    let mut rest = files;
+    while let Some((file, others)) = rest.split_first() {
+        if has_name(others, &file.0) {
+            return false;
+        }
+        rest = others;
+    }
+    true
+}
+
+fn has_name(files: &[(Text, Bytes)], name: &Text) -> bool
+    ensures { result ≡ list_any (λ file. same_name file.0 name.now) files.now }
+{
+    files.iter().any(|file| file.0 == *name)
 }
 
 fn write_change(alloc: Global, name: &[u8], at: u64, bytes: &[u8]) -> Result<Change, NoMemory>
