@@ -2,4 +2,4 @@ pub mod Files
 pub mod WholeFiles
 pub mod HeldFiles
 pub mod Torn
-pub mod Rows
+pub mod Worlds
