@@ -1,0 +1,40 @@
+-- Keys of apt.conf(5), and the value that pairs give to one.
+use Rattle.std.specs.Prelude.{ℕ, ◌==◌, ◌&&◌, ◌||◌, nat_le, nat_eq, Bool, true, false, if◌then◌else◌, List, [], ◌∷◌, ◌++◌, length, map, Option, Some, None, codes}
+use Rattle.std.specs.List.{list_any, list_all}
+use Rattle.std.specs.Char.{is_ascii_alphanumeric, to_ascii_lowercase}
+use Rattle.std.specs.Cmp.Lexicographic.{pointwise}
+
+-- a key and its value
+abbrev pub Pair : Type 0
+Pair = List ℕ × List ℕ
+
+-- letters, digits and `_-.:/+`
+abbrev pub is_key_character : ℕ → Bool
+is_key_character c = is_ascii_alphanumeric c || list_any (λ d. c == d) (codes "_-.:/+")
+
+abbrev pub is_key : List ℕ → Bool
+is_key text = nat_le 1 (length text) && list_all is_key_character text
+
+-- whether a part of a key between, before or after `::` is empty, each `::` being the first two colons that are left.
+-- The first argument tells whether a part begins at the front
+unfoldable pub empty_part : Bool → List ℕ → Bool
+empty_part begins [] = begins
+empty_part begins (c ∷ []) = false
+empty_part begins (c ∷ d ∷ rest) = if c == 58 && d == 58 then begins || empty_part true rest else empty_part false (d ∷ rest)
+
+abbrev pub has_empty_part : List ℕ → Bool
+has_empty_part key = empty_part true key
+
+-- keys are compared without regard to ASCII case
+unfoldable pub same_key : List ℕ → List ℕ → Bool
+same_key a b = pointwise nat_eq (map to_ascii_lowercase a) (map to_ascii_lowercase b)
+
+-- the later of two values, where there is a later one
+abbrev pub later : {T : Type 0} → Option T → Option T → Option T
+later (Some value) before = Some value
+later None before = before
+
+-- the last value that pairs give to a key
+unfoldable pub value_of : List Pair → List ℕ → Option (List ℕ)
+value_of [] key = None
+value_of (pair ∷ pairs) key = later (value_of pairs key) (if same_key pair.0 key then Some pair.1 else None)
