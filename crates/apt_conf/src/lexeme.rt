@@ -1,4 +1,4 @@
-ghost use Rattle.std.specs.Prelude.{◌≡◌, ◌≢◌, ◌≤◌, [], length, slice_index};
+ghost use Rattle.std.specs.Prelude.{◌≡◌, ◌≢◌, ◌≤◌, ◌^◌, [], length, slice_index};
 ghost use Rattle.apt_conf.specs.Lexemes as lexemes;
 
 /// What stands at the front of a text: white space or a comment, or a token, with its length in bytes.

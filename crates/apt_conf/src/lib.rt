@@ -6,7 +6,7 @@
 
 pub use conf::{Conf, get, new, read_conf, set};
 pub use error::ConfError;
-pub use settings::settings;
+pub use table::settings;
 
 mod conf;
 mod entry;
@@ -15,8 +15,8 @@ mod key;
 mod lexeme;
 mod lookup;
 mod reader;
-mod settings;
 mod statement;
+mod table;
 #[cfg(test)]
 mod tests;
 mod token;
