@@ -1,7 +1,7 @@
 -- Keys of apt.conf(5), and the value that pairs give to one.
-use Rattle.std.specs.Prelude.{ℕ, ◌==◌, ◌&&◌, ◌||◌, nat_le, nat_eq, Bool, true, false, if◌then◌else◌, List, [], ◌∷◌, ◌++◌, length, map, Option, Some, None, codes}
+use Rattle.std.specs.Prelude.{ℕ, ◌+◌, ◌==◌, ◌&&◌, ◌||◌, not, nat_eq, Bool, true, false, if◌then◌else◌, List, [], ◌∷◌, ◌++◌, length, map, Option, Some, None, codes}
 use Rattle.std.specs.List.{list_any, list_all}
-use Rattle.std.specs.Char.{is_ascii_alphanumeric, to_ascii_lowercase}
+use Rattle.std.specs.Char.{is_ascii_alphanumeric, to_ascii_lowercase, eq_ignore_ascii_case}
 use Rattle.std.specs.Cmp.Lexicographic.{pointwise}
 
 -- a key and its value
@@ -13,14 +13,17 @@ abbrev pub is_key_character : ℕ → Bool
 is_key_character c = is_ascii_alphanumeric c || list_any (λ d. c == d) (codes "_-.:/+")
 
 abbrev pub is_key : List ℕ → Bool
-is_key text = nat_le 1 (length text) && list_all is_key_character text
+is_key text = not (length text == 0) && list_all is_key_character text
 
 -- whether a part of a key between, before or after `::` is empty, each `::` being the first two colons that are left.
 -- The first argument tells whether a part begins at the front
+abbrev pub is_parting : ℕ → ℕ → Bool
+is_parting c d = c == 58 && d == 58
+
 unfoldable pub empty_part : Bool → List ℕ → Bool
 empty_part begins [] = begins
 empty_part begins (c ∷ []) = false
-empty_part begins (c ∷ d ∷ rest) = if c == 58 && d == 58 then begins || empty_part true rest else empty_part false (d ∷ rest)
+empty_part begins (c ∷ d ∷ rest) = if is_parting c d then begins || empty_part true rest else empty_part false (d ∷ rest)
 
 abbrev pub has_empty_part : List ℕ → Bool
 has_empty_part key = empty_part true key
@@ -28,6 +31,12 @@ has_empty_part key = empty_part true key
 -- keys are compared without regard to ASCII case
 unfoldable pub same_key : List ℕ → List ℕ → Bool
 same_key a b = pointwise nat_eq (map to_ascii_lowercase a) (map to_ascii_lowercase b)
+
+-- how many first bytes of two texts are the same, ASCII case aside
+unfoldable pub common_length : List ℕ → List ℕ → ℕ
+common_length [] b = 0
+common_length (c ∷ a) [] = 0
+common_length (c ∷ a) (d ∷ b) = if eq_ignore_ascii_case c d then common_length a b + 1 else 0
 
 -- the later of two values, where there is a later one
 abbrev pub later : {T : Type 0} → Option T → Option T → Option T

@@ -1,5 +1,5 @@
 -- What stands at the front of a text of apt.conf(5): white space, a comment, or a word, a quoted value or a mark.
-use Rattle.std.specs.Prelude.{ℕ, suc, ◌+◌, ◌-◌, ◌==◌, ◌&&◌, ◌||◌, not, nat_eq, Bool, if◌then◌else◌, List, [], ◌∷◌, length, slice_index, drop, codes}
+use Rattle.std.specs.Prelude.{ℕ, suc, ◌+◌, ◌-◌, ◌==◌, ◌&&◌, ◌||◌, not, nat_le, nat_eq, Bool, if◌then◌else◌, List, [], ◌∷◌, length, slice_index, drop, codes}
 use Rattle.std.specs.List.{starts_with}
 use Rattle.apt_conf.specs.declared.lexeme.Lexeme.{Lexeme}
 use Rattle.apt_conf.specs.declared.lexeme.Lexeme.TheVariants.{Gap, Word, Quoted, Semicolon, Open, Close, Torn, Unclosed}
@@ -56,13 +56,13 @@ closes_quote text = slice_index text 1 == 10 || (slice_index text 1 == 34 && not
 
 -- the comment to the line's end
 unfoldable pub line_comment : List ℕ → Lexeme
-line_comment text = Gap (length_until is_feed text)
+line_comment text = Gap (length_until is_feed (drop 1 text) + 1)
 
 -- what begins with `/*`
 unfoldable pub block_comment : List ℕ → Lexeme
 block_comment text =
     let inside = length_until closes_comment (drop 2 text) in
-    if inside == length (drop 2 text) then Unclosed else Gap (inside + 4)
+    if nat_le (inside + 4) (length text) then Gap (inside + 4) else Unclosed
 
 -- what begins with `#`, `//` or `/*`
 unfoldable pub comment_at : List ℕ → Lexeme

@@ -8,3 +8,4 @@ pub mod Refusals
 pub mod Values
 pub mod Settings
 pub mod Answers
+pub mod Progress

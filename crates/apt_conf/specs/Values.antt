@@ -1,5 +1,5 @@
 -- What the values of settings read as, each on its own.
-use Rattle.std.specs.Prelude.{ℕ, ◌==◌, ◌&&◌, ◌||◌, not, nat_le, nat_eq, Bool, true, false, if◌then◌else◌, List, [], ◌∷◌, length, Option, Some, None, codes}
+use Rattle.std.specs.Prelude.{ℕ, ◌==◌, ◌&&◌, ◌||◌, not, nat_le, nat_lt, ◌^◌, nat_eq, Bool, true, false, if◌then◌else◌, List, [], ◌∷◌, length, Option, Some, None, codes}
 use Rattle.std.specs.List.{list_any, list_all}
 use Rattle.std.specs.Char.{is_ascii_alphanumeric, is_ascii_digit}
 use Rattle.std.specs.Str.Parse.{digits_value}
@@ -21,14 +21,14 @@ abbrev pub is_architecture_character : ℕ → Bool
 is_architecture_character c = is_ascii_alphanumeric c || list_any (λ d. c == d) (codes "._-+~:")
 
 unfoldable pub is_architecture : List ℕ → Bool
-is_architecture text = nat_le 1 (length text) && list_all is_architecture_character text && not (is_spelled text (codes ".."))
+is_architecture text = not (length text == 0) && list_all is_architecture_character text && not (is_spelled text (codes ".."))
 
 -- letters, digits, `_` and `-`
 abbrev pub is_language_character : ℕ → Bool
 is_language_character c = is_ascii_alphanumeric c || c == 95 || c == 45
 
 unfoldable pub is_language : List ℕ → Bool
-is_language text = nat_le 1 (length text) && list_all is_language_character text
+is_language text = not (length text == 0) && list_all is_language_character text
 
 unfoldable pub is_picked_kind : List ℕ → Bool
 is_picked_kind text = is_spelled text (codes "Packages") || is_spelled text (codes "Sources") || is_spelled text (codes "Translations")
@@ -45,7 +45,7 @@ architecture_of text = if is_architecture text then Some text else None
 
 -- the words of a list, if there is one and each is allowed
 abbrev pub checked : Words → List (List ℕ) → Option (List (List ℕ))
-checked kind found = if nat_le 1 (length found) && list_all (is_allowed kind) found then Some found else None
+checked kind found = if not (length found == 0) && list_all (is_allowed kind) found then Some found else None
 
 abbrev pub listed : Words → List ℕ → Option (List (List ℕ))
 listed kind text = checked kind (words is_blank_or_comma text)
@@ -63,6 +63,10 @@ picked names = record {
   sources = list_any (λ name. is_spelled name (codes "Sources")) names;
   translations = list_any (λ name. is_spelled name (codes "Translations")) names;
 }
+
+-- the number that decimal digits write, if it is below 2^64
+abbrev pub written : List ℕ → Option ℕ
+written text = if nat_le 1 (length text) && nat_lt (digits_value 10 text) (2 ^ 64) then Some (digits_value 10 text) else None
 
 -- 1 to 10 decimal digits, of a number up to this one
 unfoldable pub number_of : ℕ → List ℕ → Option ℕ

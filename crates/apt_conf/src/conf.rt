@@ -28,6 +28,7 @@ impl Model for Conf {
 }
 
 /// The configuration without pairs.
+#[tactic(auto, unfolding(crate::specs::Entries::pairs_in))]
 pub fn new(alloc: Global) -> Conf
     ensures { result ≡ [] }
 {

@@ -1,4 +1,5 @@
-ghost use Rattle.std.specs.Prelude.{◌≡◌, ◌≢◌, ◌≤◌, ◌^◌, [], length, slice_index};
+ghost use Rattle.std.specs.Prelude.{◌≡◌, ◌≢◌, ◌≤◌, ◌<◌, ◌^◌, [], length, slice_index};
+ghost use Rattle.apt_conf.specs.Progress.{IsExtent};
 ghost use Rattle.apt_conf.specs.Lexemes as lexemes;
 
 /// What stands at the front of a text: white space or a comment, or a token, with its length in bytes.
@@ -21,7 +22,8 @@ pub enum Lexeme {
 
 /// The byte at a place, 0 past the end.
 fn byte_at(text: &[u8], place: usize) -> u8
-    ensures { result ≡ slice_index text.now place }
+    ensures value { result ≡ slice_index text.now place }
+    ensures within { 0 < result → place < length text.now }
 {
     match text.get(place) {
         Some(byte) => *byte,
@@ -80,6 +82,7 @@ fn is_command(text: &[u8]) -> bool
 }
 
 /// Whether a text begins with this word, and the word ends there.
+#[tactic(auto, unfolding(crate::specs::Lexemes::is_word))]
 fn is_word(text: &[u8], word: &[u8]) -> bool
     ensures { result ≡ lexemes.is_word word.now text.now }
 {
@@ -107,7 +110,8 @@ fn closes_quote(text: &[u8]) -> bool
 /// How many bytes stand before the next line feed, or all of them.
 #[tactic(auto, unfolding(crate::specs::Lexemes::length_until))]
 fn line_length(text: &[u8]) -> usize
-    ensures { result ≡ lexemes.length_until lexemes.is_feed text.now }
+    ensures value { result ≡ lexemes.length_until lexemes.is_feed text.now }
+    ensures within { result ≤ length text.now }
 {
     let mut rest = text;
     let mut count = 0;
@@ -124,7 +128,8 @@ fn line_length(text: &[u8]) -> usize
 /// How many bytes stand before the next `*/`, or all of them.
 #[tactic(auto, unfolding(crate::specs::Lexemes::length_until))]
 fn block_length(text: &[u8]) -> usize
-    ensures { result ≡ lexemes.length_until lexemes.closes_comment text.now }
+    ensures value { result ≡ lexemes.length_until lexemes.closes_comment text.now }
+    ensures within { result ≤ length text.now }
 {
     let mut rest = text;
     let mut count = 0;
@@ -141,7 +146,8 @@ fn block_length(text: &[u8]) -> usize
 /// How many further bytes a word has.
 #[tactic(auto, unfolding(crate::specs::Lexemes::length_until))]
 fn word_length(text: &[u8]) -> usize
-    ensures { result ≡ lexemes.length_until lexemes.ends_word text.now }
+    ensures value { result ≡ lexemes.length_until lexemes.ends_word text.now }
+    ensures within { result ≤ length text.now }
 {
     let mut rest = text;
     let mut count = 0;
@@ -158,7 +164,8 @@ fn word_length(text: &[u8]) -> usize
 /// How many bytes a quoted value has, of a text that begins with its first quote.
 #[tactic(auto, unfolding(crate::specs::Lexemes::length_until))]
 fn quoted_length(text: &[u8]) -> usize
-    ensures { result ≡ lexemes.length_until lexemes.closes_quote text.now }
+    ensures value { result ≡ lexemes.length_until lexemes.closes_quote text.now }
+    ensures within { result ≤ length text.now }
 {
     let mut rest = text;
     let mut count = 0;
@@ -174,29 +181,35 @@ fn quoted_length(text: &[u8]) -> usize
 
 #[tactic(auto, unfolding(crate::specs::Lexemes::line_comment))]
 fn line_comment(text: &[u8]) -> Lexeme
-    ensures { result ≡ lexemes.line_comment text.now }
+    requires { text.now ≢ [] }
+    ensures value { result ≡ lexemes.line_comment text.now }
+    ensures within { IsExtent (lexemes.extent result) (length text.now) }
 {
-    Lexeme::Gap(line_length(text))
+    Lexeme::Gap(line_length(&text[1..]) + 1)
 }
 
 #[tactic(auto, unfolding(crate::specs::Lexemes::block_comment))]
 fn block_comment(text: &[u8]) -> Lexeme
-    requires { 2 ≤ length text.now }
-    ensures { result ≡ lexemes.block_comment text.now }
+    requires { text.now ≢ [] }
+    ensures value { result ≡ lexemes.block_comment text.now }
+    ensures within { IsExtent (lexemes.extent result) (length text.now) }
 {
-    let inside = &text[2..];
+    let Some((_, inside)) = text.split_at_checked(2) else {
+        return Lexeme::Unclosed;
+    };
     let count = block_length(inside);
-    if count == inside.len() {
-        Lexeme::Unclosed
-    } else {
+    if count + 2 <= inside.len() {
         Lexeme::Gap(count + 4)
+    } else {
+        Lexeme::Unclosed
     }
 }
 
 #[tactic(auto, unfolding(crate::specs::Lexemes::comment_at))]
 fn comment_at(text: &[u8]) -> Lexeme
-    requires { 2 ≤ length text.now }
-    ensures { result ≡ lexemes.comment_at text.now }
+    requires { text.now ≢ [] }
+    ensures value { result ≡ lexemes.comment_at text.now }
+    ensures within { IsExtent (lexemes.extent result) (length text.now) }
 {
     if byte_at(text, 0) == b'#' {
         if is_command(text) {
@@ -213,7 +226,9 @@ fn comment_at(text: &[u8]) -> Lexeme
 
 #[tactic(auto, unfolding(crate::specs::Lexemes::quoted_at))]
 fn quoted_at(text: &[u8]) -> Lexeme
-    ensures { result ≡ lexemes.quoted_at text.now }
+    requires { text.now ≢ [] }
+    ensures value { result ≡ lexemes.quoted_at text.now }
+    ensures within { IsExtent (lexemes.extent result) (length text.now) }
 {
     let count = quoted_length(text);
     if byte_at(text, count + 1) == b'"' {
@@ -226,14 +241,20 @@ fn quoted_at(text: &[u8]) -> Lexeme
 #[tactic(auto, unfolding(crate::specs::Lexemes::token_at))]
 fn token_at(text: &[u8]) -> Lexeme
     requires { text.now ≢ [] }
-    ensures { result ≡ lexemes.token_at text.now }
+    ensures value { result ≡ lexemes.token_at text.now }
+    ensures within { IsExtent (lexemes.extent result) (length text.now) }
 {
-    match byte_at(text, 0) {
-        b'"' => quoted_at(text),
-        b';' => Lexeme::Semicolon,
-        b'{' => Lexeme::Open,
-        b'}' => Lexeme::Close,
-        _ => Lexeme::Word(word_length(&text[1..]) + 1),
+    let first = byte_at(text, 0);
+    if first == b'"' {
+        quoted_at(text)
+    } else if first == b';' {
+        Lexeme::Semicolon
+    } else if first == b'{' {
+        Lexeme::Open
+    } else if first == b'}' {
+        Lexeme::Close
+    } else {
+        Lexeme::Word(word_length(&text[1..]) + 1)
     }
 }
 
@@ -241,7 +262,8 @@ fn token_at(text: &[u8]) -> Lexeme
 #[tactic(auto, unfolding(crate::specs::Lexemes::lexeme_at))]
 pub fn lexeme_at(text: &[u8]) -> Lexeme
     requires { text.now ≢ [] }
-    ensures { result ≡ lexemes.lexeme_at text.now }
+    ensures value { result ≡ lexemes.lexeme_at text.now }
+    ensures within { IsExtent (lexemes.extent result) (length text.now) }
 {
     if is_space(text) {
         Lexeme::Gap(1)
@@ -256,7 +278,7 @@ pub fn lexeme_at(text: &[u8]) -> Lexeme
 
 /// How many bytes it takes.
 pub fn extent(lexeme: Lexeme) -> usize
-    requires { lexemes.extent lexeme ≤ 2 ^ 63 }
+    requires { lexemes.extent lexeme < 2 ^ 64 }
     ensures { result ≡ lexemes.extent lexeme }
 {
     match lexeme {

@@ -1,6 +1,6 @@
-ghost use Rattle.std.specs.Prelude.{◌≡◌, []};
+ghost use Rattle.std.specs.Prelude.{◌≡◌, ◌≤◌, [], length};
 ghost use Rattle.std.specs.Option.{option_copied};
-ghost use Rattle.apt_conf.specs.Keys.{value_of};
+ghost use Rattle.apt_conf.specs.Keys.{common_length as common, value_of};
 ghost use Rattle.apt_conf.specs.Entries.{pairs_in};
 
 use crate::entry::Entry;
@@ -8,13 +8,22 @@ use crate::key::has_empty_part;
 use acq_base::Text;
 
 /// How many first bytes of two texts are the same, ASCII case aside.
-fn common_length(first: &[u8], second: &[u8]) -> usize {
+#[tactic(auto, unfolding(crate::specs::Keys::common_length))]
+fn common_length(first: &[u8], second: &[u8]) -> usize
+    ensures value { result ≡ common first.now second.now }
+    ensures within { result ≤ length first.now }
+    ensures within_second { result ≤ length second.now }
+{
     let mut count = 0;
-    for (a, b) in first.iter().zip(second) {
+    let mut left = first;
+    let mut right = second;
+    while let ([a, left_behind @ ..], [b, right_behind @ ..]) = (left, right) {
         if !a.eq_ignore_ascii_case(b) {
             break;
         }
         count += 1;
+        left = left_behind;
+        right = right_behind;
     }
     count
 }

@@ -1,4 +1,4 @@
-ghost use Rattle.std.specs.Prelude.{◌≡◌, IfOk};
+ghost use Rattle.std.specs.Prelude.{◌≡◌, IfOk, true};
 ghost use Rattle.std.specs.Char.{is_ascii_digit};
 ghost use Rattle.std.specs.List.{list_all, list_any};
 ghost use Rattle.apt_conf.specs.Keys.{same_key};
@@ -29,13 +29,20 @@ fn is_architecture_character(byte: u8) -> bool
     byte.is_ascii_alphanumeric() || b"._-+~:".contains(&byte)
 }
 
+fn all_architecture_characters(text: &[u8]) -> bool
+    ensures { result ≡ list_all values.is_architecture_character text.now }
+{
+    text.iter().all(|byte| is_architecture_character(*byte))
+}
+
 #[tactic(auto, unfolding(crate::specs::Values::is_architecture))]
 pub fn is_architecture(text: &[u8]) -> bool
     ensures { result ≡ values.is_architecture text.now }
 {
-    !text.is_empty()
-        && text.iter().all(|byte| is_architecture_character(*byte))
-        && !is_spelled(text, b"..")
+    if text.is_empty() || !all_architecture_characters(text) {
+        return false;
+    }
+    !is_spelled(text, b"..")
 }
 
 fn is_language_character(byte: u8) -> bool
@@ -44,11 +51,20 @@ fn is_language_character(byte: u8) -> bool
     byte.is_ascii_alphanumeric() || byte == b'_' || byte == b'-'
 }
 
+fn all_language_characters(text: &[u8]) -> bool
+    ensures { result ≡ list_all values.is_language_character text.now }
+{
+    text.iter().all(|byte| is_language_character(*byte))
+}
+
 #[tactic(auto, unfolding(crate::specs::Values::is_language))]
 fn is_language(text: &[u8]) -> bool
     ensures { result ≡ values.is_language text.now }
 {
-    !text.is_empty() && text.iter().all(|byte| is_language_character(*byte))
+    if text.is_empty() {
+        return false;
+    }
+    all_language_characters(text)
 }
 
 #[tactic(auto, unfolding(crate::specs::Values::is_picked_kind))]
@@ -121,6 +137,17 @@ fn is_digits(text: &[u8]) -> bool
     text.iter().all(|byte| byte.is_ascii_digit())
 }
 
+/// The number that decimal digits write, if it fits.
+fn parsed(text: &[u8]) -> Option<u64>
+    requires { list_all is_ascii_digit text.now ≡ true }
+    ensures { result ≡ values.written text.now }
+{
+    match str::from_utf8(text) {
+        Ok(digits) => digits.parse::<u64>().ok(),
+        Err(_) => None,
+    }
+}
+
 /// The number that 1 to 10 decimal digits write, if it is at most `most`.
 #[tactic(auto, unfolding(crate::specs::Values::number_of))]
 pub fn number_of(most: u64, text: &[u8]) -> Option<u64>
@@ -129,11 +156,8 @@ pub fn number_of(most: u64, text: &[u8]) -> Option<u64>
     if text.len() > 10 || !is_digits(text) {
         return None;
     }
-    let number = match str::from_utf8(text) {
-        Ok(digits) => digits.parse::<u64>().ok(),
-        Err(_) => None,
-    };
-    number.filter(|number| *number <= most)
+    let number = parsed(text)?;
+    if number <= most { Some(number) } else { None }
 }
 
 #[tactic(auto, unfolding(crate::specs::Values::by_hash_of))]
