@@ -96,9 +96,9 @@ leaves_steps entries blocks left prefix shorter key h b s =
       at = record {
         measured = shorter_is;
         kept =
-          sym (take-take shorter prefix (last_key [] entries) within)
-          ∙ ap (take shorter) (h.kept ∙ prefix_is)
-          ∙ take_at (prefix_of left) (key ++ codes "::") shorter (sym shorter_is);
+            sym (take-take shorter prefix (last_key [] entries) within)
+            ∙ ap (take shorter) (h.kept ∙ prefix_is)
+            ∙ take_at (prefix_of left) (key ++ codes "::") shorter (sym shorter_is);
       };
     }
 
@@ -114,14 +114,14 @@ both_steps old between new blocks entered longer pairs place p a = record {
 
 -- within the depth that blocks may have
 pub allowed_steps : (old new : List Entry) (blocks inner : List (List ℕ)) (longer line : ℕ) (key : List ℕ) (pairs : List Pair) → length blocks < 16 → Advances old new inner longer Start (at_start pairs (blocks ++ key ∷ []))
-    → Steps old new inner longer Start (Ok tt) (on_line line (entered blocks key pairs))
+    → Steps {T = Unit {0}} old new inner longer Start (Ok tt) (on_line line (entered blocks key pairs))
 allowed_steps old new blocks inner longer line key pairs lt a =
     let t : nat_lt (length blocks) 16 ≡ true = grind (arith, nat_tests) in
     rw t a
 
 -- where a block is open
 pub left_steps : (entries : List Entry) (blocks outer : List (List ℕ)) (shorter line : ℕ) (key : List ℕ) → blocks ≡ outer ++ key ∷ [] → Advances entries entries outer shorter Start (at_start [] (take (length blocks - 1) blocks))
-    → Steps entries entries outer shorter Start (Ok tt) (on_line line (left blocks))
+    → Steps {T = Unit {0}} entries entries outer shorter Start (Ok tt) (on_line line (left blocks))
 left_steps entries blocks outer shorter line key b a =
     let n : length blocks ≡ length outer + 1 = ap length b ∙ length-append outer (key ∷ []) in
     let t : nat_eq (length blocks) 0 ≡ false = grind (arith, nat_tests) in

@@ -1,3 +1,6 @@
 pub mod LineLemmas
 pub mod NumberLemmas
 pub mod EntryLemmas
+pub mod KeyLemmas
+pub mod TokenLemmas
+pub mod ReadingLemmas

@@ -1,12 +1,13 @@
 -- What one step of reading does, for the functions of this crate alone.
-use Rattle.std.specs.Prelude.{◌≡◌, ℕ, ◌≤◌, List, [], ◌∷◌, ◌++◌, length, take, Result, Ok, Err}
+use Rattle.std.specs.Prelude.{◌≡◌, ℕ, ◌≤◌, List, [], ◌∷◌, ◌++◌, length, take, Option, Some, None, Result, Ok, Err}
 use Rattle.apt_conf.specs.declared.error.ConfError.{ConfError}
 use Rattle.apt_conf.specs.declared.entry.Entry.{Entry}
 use Rattle.apt_conf.specs.declared.statement.Part.{Part}
+use Rattle.apt_conf.specs.declared.token.Token.{Token}
 use Rattle.apt_conf.specs.Answers.{Fails}
 use Rattle.apt_conf.specs.Keys.{Pair}
 use Rattle.apt_conf.specs.Entries.{last_key, pairs_in}
-use Rattle.apt_conf.specs.Statements.{Place, Moved, prefix_of}
+use Rattle.apt_conf.specs.Statements.{Place, Moved, prefix_of, moved}
 
 -- a lexeme takes a byte at least, and no more than there are
 pub record IsExtent (extent len : ℕ) : Type 0 where
@@ -25,10 +26,15 @@ pub record Advances (old new : List Entry) (blocks : List (List ℕ)) (prefix : 
   pub part_is : part ≡ m.place.part
   pub at : IsAt new blocks prefix
 
-abbrev pub Steps : List Entry → List Entry → List (List ℕ) → ℕ → Part → Result (Unit {0}) ConfError → Result Moved ConfError → Type 0
+abbrev pub Steps : {T : Type 0} → List Entry → List Entry → List (List ℕ) → ℕ → Part → Result T ConfError → Result Moved ConfError → Type 0
 Steps old new blocks prefix part (Ok x) (Ok m) = Advances old new blocks prefix part m
 Steps old new blocks prefix part (Ok x) (Err e) = ⊥
 Steps old new blocks prefix part (Err e) read = Fails e read
+
+-- white space and comments lead nowhere
+abbrev pub taken : Place → Option Token → Option Moved
+taken place (Some token) = moved place token
+taken place None = Some (record { pairs = []; place = place })
 
 -- entries were only added
 abbrev pub Keeps : List Entry → List Entry → Type 0

@@ -17,7 +17,10 @@ fn common_length(first: &[u8], second: &[u8]) -> usize
     let mut count = 0;
     let mut left = first;
     let mut right = second;
-    while let ([a, left_behind @ ..], [b, right_behind @ ..]) = (left, right) {
+    while let [a, left_behind @ ..] = left {
+        let [b, right_behind @ ..] = right else {
+            break;
+        };
         if !a.eq_ignore_ascii_case(b) {
             break;
         }

@@ -1,10 +1,11 @@
-ghost use Rattle.std.specs.Prelude.{◌≡◌, ◌≤◌, length, OnErr};
+ghost use Rattle.std.specs.Prelude.{◌≡◌, ◌≢◌, ◌≤◌, [], length, IfOk, OnErr};
+ghost use Rattle.apt_conf.specs.Lexemes as lexemes;
 ghost use Rattle.apt_conf.specs.Lexemes.{length_until};
-ghost use Rattle.apt_conf.specs.Progress.{Keeps, Reads};
+ghost use Rattle.apt_conf.specs.Progress.{IsAt, IsExtent, Keeps, Reads, Steps, taken};
 ghost use Rattle.apt_conf.specs.Reading.{pairs_of, pair_of, is_equals_sign};
 ghost use Rattle.apt_conf.specs.Statements as statements;
-ghost use Rattle.apt_conf.specs.Statements.{start, pairs_from};
-ghost use Rattle.apt_conf.specs.Tokens.{last_line as lines_of, tokens_of};
+ghost use Rattle.apt_conf.specs.Statements.{start, on_line, pairs_from};
+ghost use Rattle.apt_conf.specs.Tokens as tokens;
 
 use crate::ConfError;
 use crate::entry::Entry;
@@ -17,11 +18,45 @@ use crate::token::token_at;
 use acq_base::Text;
 use std::alloc::Global;
 
+/// Takes what stands at the front of a rest of a text that begins on this line, and answers how many bytes it has.
+fn take_lexeme(
+    entries: &mut Vec<Entry>,
+    position: &mut Position,
+    alloc: Global,
+    last: u64,
+    line: u64,
+    rest: &[u8],
+) -> Result<usize, ConfError>
+    requires at { IsAt entries.old.items position.old.blocks.items position.old.prefix }
+    requires some { rest.now ≢ [] }
+    ensures keeps { Keeps entries.old.items entries.new.items }
+    ensures extent { IfOk result (λ n. n ≡ lexemes.extent (lexemes.lexeme_at rest.now)) }
+    ensures positive { 1 ≤ lexemes.extent (lexemes.lexeme_at rest.now) }
+    ensures within { IfOk result (λ n. IsExtent n (length rest.now)) }
+    ensures steps { Steps entries.old.items entries.new.items position.new.blocks.items position.new.prefix position.new.part result
+        (on_line (tokens.token_line last line (lexemes.lexeme_at rest.now))
+        (taken (record { blocks = position.old.blocks.items; part = position.old.part })
+        (tokens.front_token (lexemes.lexeme_at rest.now) rest.now))) }
+{
+    let lexeme = lexeme_at(rest);
+    let count = extent(lexeme);
+    if let Some(token) = token_at(alloc, lexeme, rest)? {
+        take_token(
+            entries,
+            position,
+            alloc,
+            token,
+            token_line(last, line, lexeme),
+        )?;
+    }
+    Ok(count)
+}
+
 /// Adds the pairs of a text to entries.
 fn read_text(entries: &mut Vec<Entry>, alloc: Global, text: &[u8]) -> Result<(), ConfError>
     requires { length text.now ≤ 1048576 }
     ensures keeps { Keeps entries.old.items entries.new.items }
-    ensures reads { Reads entries.old.items entries.new.items result (pairs_from (lines_of text.now) start (tokens_of text.now)) }
+    ensures reads { Reads entries.old.items entries.new.items result (pairs_from (tokens.last_line text.now) start (tokens.tokens_of text.now)) }
 {
     let last = last_line(text);
     let mut position = Position {
@@ -32,17 +67,8 @@ fn read_text(entries: &mut Vec<Entry>, alloc: Global, text: &[u8]) -> Result<(),
     let mut rest = text;
     let mut line = 1;
     while !rest.is_empty() {
-        let lexeme = lexeme_at(rest);
-        if let Some(token) = token_at(alloc, lexeme, rest)? {
-            take_token(
-                entries,
-                &mut position,
-                alloc,
-                token,
-                token_line(last, line, lexeme),
-            )?;
-        }
-        let (front, behind) = rest.split_at(extent(lexeme));
+        let count = take_lexeme(entries, &mut position, alloc, last, line, rest)?;
+        let (front, behind) = rest.split_at(count);
         line = line_behind(line, front);
         rest = behind;
     }

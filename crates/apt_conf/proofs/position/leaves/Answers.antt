@@ -8,4 +8,4 @@ returns-in-Some c =
     let outer = c.pop.new.self.items in
     let shorter : c.args.position.now.prefix - (c.len.result + 2) ≡ c.args.position.now.prefix - (length c.in-Some.key + 2) = omega (arith, c.len.ensures) in
     left_steps c.args.entries.now blocks outer _ c.args.line c.in-Some.key c.in-Some.ensures.items
-      (leaves_steps c.args.entries.now blocks outer _ _ c.in-Some.key c.requires c.in-Some.ensures.items shorter)
+    (leaves_steps c.args.entries.now blocks outer _ _ c.in-Some.key c.requires c.in-Some.ensures.items shorter)
