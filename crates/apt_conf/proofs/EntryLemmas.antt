@@ -126,3 +126,10 @@ left_steps entries blocks outer shorter line key b a =
     let n : length blocks ≡ length outer + 1 = ap length b ∙ length-append outer (key ∷ []) in
     let t : nat_eq (length blocks) 0 ≡ false = grind (arith, nat_tests) in
     rw t a
+
+-- a pair of its own
+pub pushed_pair : (old new : List Entry) (key value rest text : List ℕ) → rest ≡ key → text ≡ value → new ≡ old ++ entry_of 0 rest (Some text) ∷ [] → pairs_in [] new ≡ pairs_in [] old ++ given key value
+pushed_pair old new key value rest text r t e =
+    ap (pairs_in []) e ∙ pairs_in-push [] old (entry_of 0 rest (Some text))
+    ∙ ap (λ (k : List ℕ). pairs_in [] old ++ given k text) r
+    ∙ ap (λ (v : List ℕ). pairs_in [] old ++ given key v) t

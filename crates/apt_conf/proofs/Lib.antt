@@ -4,3 +4,4 @@ pub mod EntryLemmas
 pub mod KeyLemmas
 pub mod TokenLemmas
 pub mod ReadingLemmas
+pub mod LookupLemmas

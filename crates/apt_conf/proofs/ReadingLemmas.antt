@@ -104,7 +104,7 @@ pub ends_closed : (last line : ℕ) (old new : List Entry) (blocks : List (List 
 unfolding pairs_from tokens_from
 ends_closed last line old new blocks part [] read none closed before =
     all_read (pairs_in [] old) (pairs_in [] new) read old new refl refl
-      (sym (ap (λ (b : Bool). with_front (pairs_in [] new) (if b then Ok [] else Err (BadConf last))) closed) ∙ before)
+    (sym (ap (λ (b : Bool). with_front (pairs_in [] new) (if b then Ok [] else Err (BadConf last))) closed) ∙ before)
 ends_closed last line old new blocks part (c ∷ rest) read none closed before = absurd (omega arith)
 
 pub ends_open : (last line : ℕ) (old new : List Entry) (blocks : List (List ℕ)) (part : Part) (rest : List ℕ) (read : Result (List Pair) ConfError) → length rest ≡ 0 → is_closed (at_place blocks part) ≡ false
@@ -112,7 +112,7 @@ pub ends_open : (last line : ℕ) (old new : List Entry) (blocks : List (List �
 unfolding pairs_from tokens_from
 ends_open last line old new blocks part [] read none «open» before =
     fails_in_all (BadConf last) (pairs_in [] old) read
-      (sym before ∙ ap (λ (b : Bool). with_front (pairs_in [] new) (if b then Ok [] else Err (BadConf last))) «open»)
+    (sym before ∙ ap (λ (b : Bool). with_front (pairs_in [] new) (if b then Ok [] else Err (BadConf last))) «open»)
 ends_open last line old new blocks part (c ∷ rest) read none «open» before = absurd (omega arith)
 
 -- a step leads to a place that fits the entries

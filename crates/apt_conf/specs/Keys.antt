@@ -1,5 +1,5 @@
 -- Keys of apt.conf(5), and the value that pairs give to one.
-use Rattle.std.specs.Prelude.{ℕ, ◌+◌, ◌==◌, ◌&&◌, ◌||◌, not, nat_eq, Bool, true, false, if◌then◌else◌, List, [], ◌∷◌, ◌++◌, length, map, Option, Some, None, codes}
+use Rattle.std.specs.Prelude.{ℕ, ◌+◌, ◌==◌, ◌&&◌, ◌||◌, not, nat_lt, nat_eq, Bool, true, false, if◌then◌else◌, List, [], ◌∷◌, ◌++◌, length, drop, map, Option, Some, None, codes}
 use Rattle.std.specs.List.{list_any, list_all}
 use Rattle.std.specs.Char.{is_ascii_alphanumeric, to_ascii_lowercase, eq_ignore_ascii_case}
 use Rattle.std.specs.Cmp.Lexicographic.{pointwise}
@@ -36,7 +36,17 @@ same_key a b = pointwise nat_eq (map to_ascii_lowercase a) (map to_ascii_lowerca
 unfoldable pub common_length : List ℕ → List ℕ → ℕ
 common_length [] b = 0
 common_length (c ∷ a) [] = 0
-common_length (c ∷ a) (d ∷ b) = if eq_ignore_ascii_case c d then common_length a b + 1 else 0
+common_length (c ∷ a) (d ∷ b) = if eq_ignore_ascii_case d c then common_length a b + 1 else 0
+
+-- how many first bytes of a key another key has that goes on with `rest` behind its first `shared` bytes, where
+-- `matched` of them are known, and whether it is that key
+unfoldable pub compared : List ℕ → ℕ → ℕ → List ℕ → ℕ × Bool
+compared key shared matched rest =
+    if nat_lt matched shared then (matched, false)
+    else (
+      shared + common_length (drop shared key) rest,
+      common_length (drop shared key) rest == length (drop shared key) && common_length (drop shared key) rest == length rest,
+    )
 
 -- the later of two values, where there is a later one
 abbrev pub later : {T : Type 0} → Option T → Option T → Option T

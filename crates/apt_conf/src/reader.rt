@@ -1,4 +1,4 @@
-ghost use Rattle.std.specs.Prelude.{◌≡◌, ◌≢◌, ◌≤◌, [], length, IfOk, OnErr};
+ghost use Rattle.std.specs.Prelude.{◌≡◌, ◌≢◌, ◌≤◌, [], length, IfOk, Ok, OnErr};
 ghost use Rattle.apt_conf.specs.Lexemes as lexemes;
 ghost use Rattle.apt_conf.specs.Lexemes.{length_until};
 ghost use Rattle.apt_conf.specs.Progress.{IsAt, IsExtent, Keeps, Reads, Steps, taken};
@@ -131,14 +131,28 @@ pub fn read_pair(entries: &mut Vec<Entry>, alloc: Global, word: &[u8]) -> Result
     if count == word.len() {
         return Err(ConfError::BadConf(1));
     }
-    let (key, behind) = word.split_at(count);
+    let (key, _) = word.split_at(count);
     if !is_key(key) {
         return Err(ConfError::BadConf(1));
     }
+    let (_, value) = word.split_at(count + 1);
+    push_pair(entries, alloc, key, value)
+}
+
+/// Adds a pair to entries, or leaves them.
+fn push_pair(
+    entries: &mut Vec<Entry>,
+    alloc: Global,
+    key: &[u8],
+    value: &[u8],
+) -> Result<(), ConfError>
+    ensures reads { Reads entries.old.items entries.new.items result (Ok (statements.given key.now value.now)) }
+    ensures err { OnErr result (entries.new.items ≡ entries.old.items) }
+{
     let entry = Entry {
         shared: 0,
         rest: Text::from_bytes(alloc, key)?,
-        value: Some(Text::from_bytes(alloc, &behind[1..])?),
+        value: Some(Text::from_bytes(alloc, value)?),
     };
     entries.push(entry)?;
     Ok(())

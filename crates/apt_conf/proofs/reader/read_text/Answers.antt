@@ -16,7 +16,7 @@ returns-in_err-count-clause-reads c =
     let r = err_from_is_err_and c.from_residual.result c.from_residual.ensures.1 in
     let last = c.last_line-last.result in
     let refused : Fails c.in_err-count.field-0.0 (pairs_from last start (tokens_from last 1 0 c.args.text.now)) =
-      stops c.in_err-count.field-0.0 last c.loop-rest.line _ c.loop-rest.entries.items p.blocks.items p.part c.loop-rest.rest.now _ _ some refl c.in_err-count.ensures.positive c.in_err-count.ensures.steps c.loop-rest.invariant.reads in
+    stops c.in_err-count.field-0.0 last c.loop-rest.line _ c.loop-rest.entries.items p.blocks.items p.part c.loop-rest.rest.now _ _ some refl c.in_err-count.ensures.positive c.in_err-count.ensures.steps c.loop-rest.invariant.reads in
     rw (r.1, r.2) (subst (λ (n : ℕ). Fails c.in_err-count.field-0.0 (pairs_from n start (tokens_from n 1 0 c.args.text.now))) c.last_line-last.ensures refused)
 
 pub loop-rest-preserved : goal.loop-rest-preserved
@@ -27,7 +27,7 @@ loop-rest-preserved c =
     let steps = c.in_ok-count.ensures.steps in
     record {
       reads = goes_on_at c.in_ok-count.count c.last_line-last.result c.loop-rest.line c.line_behind-line.result c.in_ok-count.count c.loop-rest.entries.items c.take_lexeme.new.entries.items p.blocks.items q.blocks.items q.prefix p.part q.part
-        c.loop-rest.rest.now c.split_at.result.0.now c.split_at.result.1.now _ some c.in_ok-count.ensures.extent c.in_ok-count.ensures.within.some steps c.line_behind-line.ensures.value c.split_at.ensures.front c.split_at.ensures.back c.loop-rest.invariant.reads;
+          c.loop-rest.rest.now c.split_at.result.0.now c.split_at.result.1.now _ some c.in_ok-count.ensures.extent c.in_ok-count.ensures.within.some steps c.line_behind-line.ensures.value c.split_at.ensures.front c.split_at.ensures.back c.loop-rest.invariant.reads;
       at = steps_at c.in_ok-count.count c.loop-rest.entries.items c.take_lexeme.new.entries.items q.blocks.items q.prefix q.part _ steps;
       keeps = Keeps-then c.args.entries.now.items c.loop-rest.entries.items c.take_lexeme.new.entries.items c.loop-rest.invariant.keeps c.in_ok-count.ensures.keeps;
       within = omega (arith, c.loop-rest.invariant.within, c.in_ok-count.ensures.within, c.split_at.ensures.front_len, c.split_at.ensures.back_len, c.line_behind-line.ensures.bound);
