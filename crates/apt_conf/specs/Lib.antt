@@ -1,0 +1,11 @@
+pub mod Lexemes
+pub mod Tokens
+pub mod Keys
+pub mod Statements
+pub mod Entries
+pub mod Reading
+pub mod Refusals
+pub mod Values
+pub mod Settings
+pub mod Answers
+pub mod Progress

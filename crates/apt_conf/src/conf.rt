@@ -1,0 +1,69 @@
+ghost use Rattle.std.specs.Prelude.{◌≡◌, ◌⊎◌, ◌++◌, [], Ok, Err, OnOk, OnErr, IfOk, IsErrOf};
+ghost use Rattle.std.specs.Option.{option_copied};
+ghost use Rattle.apt_conf.specs.Keys.{value_of};
+ghost use Rattle.apt_conf.specs.Reading.{pairs_of, pair_of, answer};
+
+use crate::ConfError;
+use crate::entry::Entry;
+use crate::lookup::find_value;
+use crate::reader::{read_file, read_pair};
+use acq_base::Text;
+use std::alloc::Global;
+use std::marker::Model;
+
+/// A configuration. Contracts see the list of its pairs of keys and values, in the order in which they were given.
+#[derive(Debug, Drop)]
+pub struct Conf {
+    entries: Vec<Entry>,
+}
+
+impl Model for Conf {
+    ghost use Rattle.std.specs.Prelude.{List, []};
+    ghost use Rattle.apt_conf.specs.Keys.{Pair};
+    ghost use Rattle.apt_conf.specs.Entries.{pairs_in};
+
+    ghost Value = { List Pair };
+
+    ghost view = { λ conf. pairs_in [] conf.entries.items };
+}
+
+/// The configuration without pairs.
+#[tactic(auto, unfolding(crate::specs::Entries::pairs_in))]
+pub fn new(alloc: Global) -> Conf
+    ensures { result ≡ [] }
+{
+    Conf {
+        entries: Vec::new(alloc),
+    }
+}
+
+/// Adds the pairs of a file of apt.conf(5).
+///
+/// It is refused with `LongFile` where it has more than 1,048,576 bytes, which is looked at first, and else with
+/// `BadConf` at the line where reading stops. A configuration that was refused stays as it was, and can be used on.
+pub fn read_conf(conf: &mut Conf, alloc: Global, bytes: &[u8]) -> Result<(), ConfError>
+    ensures answer { (result ≡ Err ConfError.NoMemory) ⊎ (result ≡ answer (pairs_of bytes.now)) }
+    ensures ok { OnOk result (IfOk (pairs_of bytes.now) (λ pairs. conf.new ≡ conf.old ++ pairs)) }
+    ensures err { OnErr result (conf.new ≡ conf.old) }
+{
+    read_file(&mut conf.entries, alloc, bytes)
+}
+
+/// Adds the pair of an option word `KEY=VALUE`, split at its first `=`.
+///
+/// It is refused with `BadConf(1)` where it has no `=`, or where no key stands before the first one. A configuration
+/// that was refused stays as it was.
+pub fn set(conf: &mut Conf, alloc: Global, pair: &[u8]) -> Result<(), ConfError>
+    ensures answer { (result ≡ Err ConfError.NoMemory) ⊎ (result ≡ answer (pair_of pair.now)) }
+    ensures ok { OnOk result (IfOk (pair_of pair.now) (λ pairs. conf.new ≡ conf.old ++ pairs)) }
+    ensures err { OnErr result (conf.new ≡ conf.old) }
+{
+    read_pair(&mut conf.entries, alloc, pair)
+}
+
+/// The last value given to a key, which is compared without regard to ASCII case. It takes no memory.
+pub fn get<'a>(conf: &'a Conf, key: &[u8]) -> Option<&'a Text>
+    ensures { option_copied result ≡ value_of conf.now key.now }
+{
+    find_value(conf.entries.as_slice(), key)
+}

@@ -1,0 +1,12 @@
+use acq_base::Text;
+
+/// An entry of a configuration. Its key takes over the first `shared` bytes of the key of the entry before it, and goes
+/// on with `rest`. An entry without a value only moves the key, as the front of a block does.
+///
+/// So a configuration takes no more memory than its texts, however long the keys of blocks with many statements are.
+#[derive(Debug, Drop)]
+pub struct Entry {
+    pub shared: usize,
+    pub rest: Text,
+    pub value: Option<Text>,
+}

@@ -1,0 +1,209 @@
+ghost use Rattle.std.specs.Prelude.{◌≡◌, ◌⊎◌, ◌≤◌, ◌∷◌, [], Err, IfOk};
+ghost use Rattle.apt_conf.specs.Answers.{Gives};
+ghost use Rattle.apt_conf.specs.Settings as of;
+
+use crate::ConfError;
+use crate::conf::{Conf, get};
+use crate::values::{
+    Words, boolean_of, but_none, by_hash_of, is_architecture, listed, number_of, picked,
+};
+use acq_base::{ByHash, Dates, NoMemory, Pick, Row, Settings, Text, TryCopy};
+use std::alloc::Global;
+
+/// The settings of a configuration: of each key its last value, or its default.
+///
+/// | Key | Value | Default |
+/// |---|---|---|
+/// | `APT::Architecture` | one architecture | `amd64` |
+/// | `APT::Architectures` | architectures | the one above |
+/// | `Acquire::Languages` | languages, or `none` alone | `en` |
+/// | `Acquire::Pick` | of `Packages`, `Sources`, `Translations` | all three |
+/// | `Acquire::Min-ValidTime`, `Acquire::Max-ValidTime` | 0 to 4294967295 seconds | 0 |
+/// | `Acquire::Max-FutureTime` | 0 to 4294967295 seconds | 10 |
+/// | `Acquire::Retries` | 0 to 10 | 1 |
+/// | `Acquire::By-Hash` | `yes`, `no` or `force` | `yes` |
+/// | `Acquire::PDiffs` | boolean | yes |
+/// | `Acquire::PDiffs::FileLimit` | 0 to 1000 patches | 100 |
+/// | `Acquire::PDiffs::SizeLimit` | 0 to 1000 percent | 100 |
+/// | `APT::Get::List-Cleanup` | boolean | yes |
+///
+/// Blanks and commas separate the words of a list, which has at least one. The first value in this order that isn't
+/// allowed is refused with `BadValue` and its key.
+pub fn settings(conf: &Conf, alloc: Global) -> Result<Settings, ConfError>
+    ensures { (result ≡ Err ConfError.NoMemory) ⊎ (result ≡ of.settings_of conf.now) }
+{
+    read_settings(conf, alloc)
+}
+
+#[tactic(auto, unfolding(crate::specs::Settings::settings_of))]
+fn read_settings(conf: &Conf, alloc: Global) -> Result<Settings, ConfError>
+    ensures { Gives result (of.settings_of conf.now) }
+{
+    let arch = architecture(conf, alloc)?;
+    let archs = architectures(conf, alloc, &arch)?;
+    let langs = languages(conf, alloc)?;
+    let pick = pick(conf, alloc)?;
+    let dates = dates(conf, alloc)?;
+    let retries = small_number(conf, alloc, b"Acquire::Retries", 10, 1)?;
+    let by_hash = by_hash(conf, alloc)?;
+    let pdiffs = boolean(conf, alloc, b"Acquire::PDiffs", true)?;
+    let file_limit = small_number(conf, alloc, b"Acquire::PDiffs::FileLimit", 1000, 100)?;
+    let size_limit = small_number(conf, alloc, b"Acquire::PDiffs::SizeLimit", 1000, 100)?;
+    let cleanup = boolean(conf, alloc, b"APT::Get::List-Cleanup", true)?;
+    Ok(Settings {
+        arch,
+        archs,
+        langs,
+        pick,
+        dates,
+        retries,
+        by_hash,
+        pdiffs,
+        file_limit,
+        size_limit,
+        cleanup,
+    })
+}
+
+/// What a value reads as, or that it isn't allowed for its key.
+fn allowed<T: Drop>(alloc: Global, key: &[u8], value: Option<T>) -> Result<T, ConfError>
+    ensures { Gives result (of.allowed key.now value) }
+{
+    match value {
+        Some(value) => Ok(value),
+        None => Err(ConfError::BadValue(Text::from_bytes(alloc, key)?)),
+    }
+}
+
+#[tactic(auto, unfolding(crate::specs::Settings::architecture))]
+fn architecture(conf: &Conf, alloc: Global) -> Result<Text, ConfError>
+    ensures { Gives result (of.architecture conf.now) }
+{
+    match get(conf, b"APT::Architecture") {
+        None => Ok(Text::from_bytes(alloc, b"amd64")?),
+        Some(value) => {
+            let value = if is_architecture(value.as_bytes()) {
+                Some(value.copy(alloc)?)
+            } else {
+                None
+            };
+            allowed(alloc, b"APT::Architecture", value)
+        }
+    }
+}
+
+/// The row of one text.
+fn row_of(alloc: Global, text: &[u8]) -> Result<Row<Text>, NoMemory>
+    ensures { IfOk result (λ row. row ≡ text.now ∷ []) }
+{
+    let mut row = Row::new(alloc);
+    row.push(Text::from_bytes(alloc, text)?)?;
+    Ok(row)
+}
+
+#[tactic(auto, unfolding(crate::specs::Settings::architectures))]
+fn architectures(conf: &Conf, alloc: Global, own: &Text) -> Result<Row<Text>, ConfError>
+    ensures { Gives result (of.architectures own.now conf.now) }
+{
+    match get(conf, b"APT::Architectures") {
+        None => Ok(row_of(alloc, own.as_bytes())?),
+        Some(value) => {
+            let found = listed(alloc, Words::Architectures, value.as_bytes())?;
+            allowed(alloc, b"APT::Architectures", found)
+        }
+    }
+}
+
+#[tactic(auto, unfolding(crate::specs::Settings::languages))]
+fn languages(conf: &Conf, alloc: Global) -> Result<Row<Text>, ConfError>
+    ensures { Gives result (of.languages conf.now) }
+{
+    match get(conf, b"Acquire::Languages") {
+        None => Ok(row_of(alloc, b"en")?),
+        Some(value) => {
+            let found = listed(alloc, Words::Languages, value.as_bytes())?;
+            allowed(
+                alloc,
+                b"Acquire::Languages",
+                found.map(|found| but_none(alloc, found)),
+            )
+        }
+    }
+}
+
+#[tactic(auto, unfolding(crate::specs::Settings::pick))]
+fn pick(conf: &Conf, alloc: Global) -> Result<Pick, ConfError>
+    ensures { Gives result (of.pick conf.now) }
+{
+    match get(conf, b"Acquire::Pick") {
+        None => Ok(Pick {
+            packages: true,
+            sources: true,
+            translations: true,
+        }),
+        Some(value) => {
+            let found = listed(alloc, Words::Kinds, value.as_bytes())?;
+            allowed(
+                alloc,
+                b"Acquire::Pick",
+                found.map(|found| picked(found.as_slice())),
+            )
+        }
+    }
+}
+
+#[tactic(auto, unfolding(crate::specs::Settings::dates))]
+fn dates(conf: &Conf, alloc: Global) -> Result<Dates, ConfError>
+    ensures { Gives result (of.dates conf.now) }
+{
+    let min = number(conf, alloc, b"Acquire::Min-ValidTime", 4294967295, 0)?;
+    let max = number(conf, alloc, b"Acquire::Max-ValidTime", 4294967295, 0)?;
+    let future = number(conf, alloc, b"Acquire::Max-FutureTime", 4294967295, 10)?;
+    Ok(Dates { min, max, future })
+}
+
+#[tactic(auto, unfolding(crate::specs::Settings::number))]
+fn number(conf: &Conf, alloc: Global, key: &[u8], most: u64, default: u64) -> Result<u64, ConfError>
+    requires { default ≤ most }
+    ensures read { Gives result (of.number most default conf.now key.now) }
+    ensures bound { IfOk result (λ number. number ≤ most) }
+{
+    match get(conf, key) {
+        None => Ok(default),
+        Some(value) => allowed(alloc, key, number_of(most, value.as_bytes())),
+    }
+}
+
+fn small_number(
+    conf: &Conf,
+    alloc: Global,
+    key: &[u8],
+    most: u32,
+    default: u32,
+) -> Result<u32, ConfError>
+    requires { default ≤ most }
+    ensures { Gives result (of.number most default conf.now key.now) }
+{
+    let number = number(conf, alloc, key, u64::from(most), u64::from(default))?;
+    Ok(number as u32)
+}
+
+#[tactic(auto, unfolding(crate::specs::Settings::by_hash))]
+fn by_hash(conf: &Conf, alloc: Global) -> Result<ByHash, ConfError>
+    ensures { Gives result (of.by_hash conf.now) }
+{
+    match get(conf, b"Acquire::By-Hash") {
+        None => Ok(ByHash::Yes),
+        Some(value) => allowed(alloc, b"Acquire::By-Hash", by_hash_of(value.as_bytes())),
+    }
+}
+
+#[tactic(auto, unfolding(crate::specs::Settings::boolean))]
+fn boolean(conf: &Conf, alloc: Global, key: &[u8], default: bool) -> Result<bool, ConfError>
+    ensures { Gives result (of.boolean default conf.now key.now) }
+{
+    match get(conf, key) {
+        None => Ok(default),
+        Some(value) => allowed(alloc, key, boolean_of(value.as_bytes())),
+    }
+}

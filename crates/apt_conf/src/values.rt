@@ -1,0 +1,221 @@
+ghost use Rattle.std.specs.Prelude.{◌≡◌, IfOk, true};
+ghost use Rattle.std.specs.Char.{is_ascii_digit};
+ghost use Rattle.std.specs.List.{list_all, list_any};
+ghost use Rattle.apt_conf.specs.Keys.{same_key};
+ghost use Rattle.apt_conf.specs.Values as values;
+
+use acq_base::{ByHash, NoMemory, Pick, Row, Text, listed_words};
+use std::alloc::Global;
+use std::str;
+
+/// Which words a list may have.
+#[derive(Clone, Copy, Debug, PartialEq, Eq)]
+pub enum Words {
+    Architectures,
+    Languages,
+    Kinds,
+}
+
+/// Whether a text is exactly this word.
+pub fn is_spelled(text: &[u8], word: &[u8]) -> bool
+    ensures { result ≡ values.is_spelled text.now word.now }
+{
+    text == word
+}
+
+fn is_architecture_character(byte: u8) -> bool
+    ensures { result ≡ values.is_architecture_character byte }
+{
+    byte.is_ascii_alphanumeric() || b"._-+~:".contains(&byte)
+}
+
+fn all_architecture_characters(text: &[u8]) -> bool
+    ensures { result ≡ list_all values.is_architecture_character text.now }
+{
+    text.iter().all(|byte| is_architecture_character(*byte))
+}
+
+#[tactic(auto, unfolding(crate::specs::Values::is_architecture))]
+pub fn is_architecture(text: &[u8]) -> bool
+    ensures { result ≡ values.is_architecture text.now }
+{
+    if text.is_empty() || !all_architecture_characters(text) {
+        return false;
+    }
+    !is_spelled(text, b"..")
+}
+
+fn is_language_character(byte: u8) -> bool
+    ensures { result ≡ values.is_language_character byte }
+{
+    byte.is_ascii_alphanumeric() || byte == b'_' || byte == b'-'
+}
+
+fn all_language_characters(text: &[u8]) -> bool
+    ensures { result ≡ list_all values.is_language_character text.now }
+{
+    text.iter().all(|byte| is_language_character(*byte))
+}
+
+#[tactic(auto, unfolding(crate::specs::Values::is_language))]
+fn is_language(text: &[u8]) -> bool
+    ensures { result ≡ values.is_language text.now }
+{
+    if text.is_empty() {
+        return false;
+    }
+    all_language_characters(text)
+}
+
+#[tactic(auto, unfolding(crate::specs::Values::is_picked_kind))]
+fn is_picked_kind(text: &[u8]) -> bool
+    ensures { result ≡ values.is_picked_kind text.now }
+{
+    is_spelled(text, b"Packages")
+        || is_spelled(text, b"Sources")
+        || is_spelled(text, b"Translations")
+}
+
+/// Whether a word may stand in a list.
+fn is_allowed(words: Words, word: &[u8]) -> bool
+    ensures { result ≡ values.is_allowed words word.now }
+{
+    match words {
+        Words::Architectures => is_architecture(word),
+        Words::Languages => is_language(word),
+        Words::Kinds => is_picked_kind(word),
+    }
+}
+
+fn all_allowed(words: Words, found: &[Text]) -> bool
+    ensures { result ≡ list_all (values.is_allowed words) found.now }
+{
+    found.iter().all(|word| is_allowed(words, word.as_bytes()))
+}
+
+/// The words of a list, if there is one and each is allowed.
+pub fn listed(alloc: Global, words: Words, text: &[u8]) -> Result<Option<Row<Text>>, NoMemory>
+    ensures { IfOk result (λ found. found ≡ values.listed words text.now) }
+{
+    let found = listed_words(alloc, text)?;
+    if found.is_empty() || !all_allowed(words, found.as_slice()) {
+        return Ok(None);
+    }
+    Ok(Some(found))
+}
+
+/// The languages that words name: `none` alone stands for none.
+pub fn but_none(alloc: Global, languages: Row<Text>) -> Row<Text>
+    ensures { result ≡ values.but_none languages }
+{
+    match languages.as_slice() {
+        [only] if is_spelled(only.as_bytes(), b"none") => Row::new(alloc),
+        _ => languages,
+    }
+}
+
+fn names(words: &[Text], kind: &[u8]) -> bool
+    ensures { result ≡ list_any (λ name. values.is_spelled name kind.now) words.now }
+{
+    words.iter().any(|name| is_spelled(name.as_bytes(), kind))
+}
+
+/// The kinds that words name.
+pub fn picked(words: &[Text]) -> Pick
+    ensures { result ≡ values.picked words.now }
+{
+    Pick {
+        packages: names(words, b"Packages"),
+        sources: names(words, b"Sources"),
+        translations: names(words, b"Translations"),
+    }
+}
+
+fn is_digits(text: &[u8]) -> bool
+    ensures { result ≡ list_all is_ascii_digit text.now }
+{
+    text.iter().all(|byte| byte.is_ascii_digit())
+}
+
+/// The number that decimal digits write, if it fits.
+fn parsed(text: &[u8]) -> Option<u64>
+    requires { list_all is_ascii_digit text.now ≡ true }
+    ensures { result ≡ values.written text.now }
+{
+    match str::from_utf8(text) {
+        Ok(digits) => digits.parse::<u64>().ok(),
+        Err(_) => None,
+    }
+}
+
+/// The number that 1 to 10 decimal digits write, if it is at most `most`.
+#[tactic(auto, unfolding(crate::specs::Values::number_of))]
+pub fn number_of(most: u64, text: &[u8]) -> Option<u64>
+    ensures { result ≡ values.number_of most text.now }
+{
+    if text.len() > 10 || !is_digits(text) {
+        return None;
+    }
+    let number = parsed(text)?;
+    if number <= most { Some(number) } else { None }
+}
+
+#[tactic(auto, unfolding(crate::specs::Values::by_hash_of))]
+pub fn by_hash_of(text: &[u8]) -> Option<ByHash>
+    ensures { result ≡ values.by_hash_of text.now }
+{
+    if is_spelled(text, b"yes") {
+        Some(ByHash::Yes)
+    } else if is_spelled(text, b"no") {
+        Some(ByHash::No)
+    } else if is_spelled(text, b"force") {
+        Some(ByHash::Force)
+    } else {
+        None
+    }
+}
+
+/// Whether a text is this word, ASCII case aside.
+#[tactic(auto, unfolding(crate::specs::Keys::same_key))]
+fn is_word(text: &[u8], word: &[u8]) -> bool
+    ensures { result ≡ same_key text.now word.now }
+{
+    text.eq_ignore_ascii_case(word)
+}
+
+#[tactic(auto, unfolding(crate::specs::Values::means_yes))]
+fn means_yes(text: &[u8]) -> bool
+    ensures { result ≡ values.means_yes text.now }
+{
+    is_word(text, b"yes")
+        || is_word(text, b"true")
+        || is_word(text, b"with")
+        || is_word(text, b"on")
+        || is_word(text, b"enable")
+        || is_word(text, b"1")
+}
+
+#[tactic(auto, unfolding(crate::specs::Values::means_no))]
+fn means_no(text: &[u8]) -> bool
+    ensures { result ≡ values.means_no text.now }
+{
+    is_word(text, b"no")
+        || is_word(text, b"false")
+        || is_word(text, b"without")
+        || is_word(text, b"off")
+        || is_word(text, b"disable")
+        || is_word(text, b"0")
+}
+
+#[tactic(auto, unfolding(crate::specs::Values::boolean_of))]
+pub fn boolean_of(text: &[u8]) -> Option<bool>
+    ensures { result ≡ values.boolean_of text.now }
+{
+    if means_yes(text) {
+        Some(true)
+    } else if means_no(text) {
+        Some(false)
+    } else {
+        None
+    }
+}
