@@ -1,0 +1,80 @@
+ghost use Rattle.std.specs.Prelude.{◌≡◌, ◌++◌, IfOk, OnOk, map};
+ghost use Rattle.std.specs.List.{slice_split};
+ghost use Rattle.uri_names.specs.Folder as spec;
+
+use acq_base::{NoMemory, Text, TryCopy, Uri};
+use std::alloc::Global;
+
+/// The URI of a path below a base: the path is appended to the base's, and dot segments are removed (RFC 3986,
+/// section 5.2.4).
+#[tactic(auto, unfolding(crate::specs::Folder::below_of))]
+pub fn below(alloc: Global, base: &Uri, path: &[u8]) -> Result<Uri, NoMemory>
+    ensures { IfOk result (λ uri. uri ≡ spec.below_of base.now path.now) }
+{
+    let mut whole = base.path.copy(alloc)?;
+    whole.append(path)?;
+    Ok(Uri {
+        scheme: base.scheme,
+        host: base.host.copy(alloc)?,
+        port: base.port,
+        path: without_dot_segments(alloc, whole.as_bytes())?,
+    })
+}
+
+/// A path without its dot segments; one that doesn't begin with `/` stays.
+#[tactic(auto, unfolding(crate::specs::Folder::remove_dot_segments))]
+fn without_dot_segments(alloc: Global, path: &[u8]) -> Result<Text, NoMemory>
+    ensures { IfOk result (λ text. text ≡ spec.remove_dot_segments path.now) }
+{
+    match path {
+        [b'/', rest @ ..] => {
+            let segments = resolved(alloc, rest)?;
+            joined(alloc, segments.as_slice())
+        }
+        _ => Text::from_bytes(alloc, path),
+    }
+}
+
+/// The segments of a path that stay once dot segments are removed.
+#[tactic(auto, unfolding(crate::specs::Folder::resolved))]
+fn resolved(alloc: Global, path: &[u8]) -> Result<Vec<&[u8]>, NoMemory>
+    ensures { IfOk result (λ segments. map (λ segment. segment.now) segments.items ≡ spec.resolved (slice_split spec.is_slash path.now)) }
+{
+    let mut kept = Vec::new(alloc);
+    let mut last: &[u8] = b"";
+    for segment in path.split(|byte| *byte == b'/') {
+        enter(&mut kept, segment)?;
+        last = segment;
+    }
+    if matches!(last, b"." | b"..") {
+        kept.push(b"")?;
+    }
+    Ok(kept)
+}
+
+/// Enters one segment: `.` stays out, and `..` takes the segment before it along.
+#[tactic(auto, unfolding(crate::specs::Folder::enter))]
+fn enter<'a>(kept: &mut Vec<&'a [u8]>, segment: &'a [u8]) -> Result<(), NoMemory>
+    ensures { OnOk result (map (λ s. s.now) kept.new.items ≡ spec.enter (map (λ s. s.now) kept.old.items) segment.now) }
+{
+    match segment {
+        b"." => {}
+        b".." => {
+            kept.pop();
+        }
+        _ => kept.push(segment)?,
+    }
+    Ok(())
+}
+
+/// Each segment after a `/`.
+fn joined(alloc: Global, segments: &[&[u8]]) -> Result<Text, NoMemory>
+    ensures { IfOk result (λ text. text ≡ spec.joined (map (λ segment. segment.now) segments.now)) }
+{
+    let mut path = Text::new(alloc);
+    for segment in segments {
+        path.push(b'/')?;
+        path.append(segment)?;
+    }
+    Ok(path)
+}
