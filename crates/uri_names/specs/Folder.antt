@@ -19,16 +19,14 @@ enter kept segment =
     else (if is_dot_dot segment then take (length kept - 1) kept
     else kept ++ segment ∷ [])
 
--- a dot segment at the end leaves the slash before it
-abbrev pub closing : List ℕ → List (List ℕ)
-closing segment = if is_dot segment || is_dot_dot segment then [] ∷ [] else []
+-- the last segment is a dot segment
+unfoldable pub ends_in_dots : List (List ℕ) → Bool
+ends_in_dots segments =
+    let last = slice_index_or segments (length segments - 1) [] in is_dot last || is_dot_dot last
 
-abbrev pub last_of : List (List ℕ) → List ℕ
-last_of segments = slice_index_or segments (length segments - 1) []
-
--- the segments without dot segments
+-- the segments without dot segments; one at the end leaves the slash before it
 unfoldable pub resolved : List (List ℕ) → List (List ℕ)
-resolved segments = fold enter [] segments ++ closing (last_of segments)
+resolved segments = fold enter [] segments ++ (if ends_in_dots segments then [] ∷ [] else [])
 
 -- each segment after a `/`
 abbrev pub joined : List (List ℕ) → List ℕ

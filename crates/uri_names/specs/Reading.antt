@@ -1,6 +1,7 @@
 -- Reading a URI and the base URI of a source.
-use Rattle.std.specs.Prelude.{ℕ, ◌==◌, ◌&&◌, ◌||◌, Bool, not, nat_le, nat_lt, if◌then◌else◌, List, [], ◌∷◌, ◌++◌, length, codes, bytes_eq, Option, Some, None, is_some, ok_or, Result, Ok, Err}
+use Rattle.std.specs.Prelude.{ℕ, ◌==◌, ◌&&◌, ◌||◌, Bool, not, nat_le, if◌then◌else◌, List, [], ◌∷◌, ◌++◌, length, codes, bytes_eq, Option, Some, None, is_some, ok_or, Result, Ok, Err}
 use Rattle.std.specs.List.{list_all, list_any, before_first}
+use Rattle.std.specs.Char.{is_ascii_graphic}
 use Rattle.acq_base.specs.declared.uri.Uri.{Uri}
 use Rattle.url.specs.Input.{lowercase, trim_end}
 use Rattle.url.specs.Parts.{Parts}
@@ -20,13 +21,9 @@ is_scheme_name name = bytes_eq (lowercase name) (codes "http") || bytes_eq (lowe
 unfoldable pub has_scheme : List ℕ → Bool
 has_scheme text = list_any is_colon text && is_scheme_name (before_first is_colon text)
 
--- ASCII without blanks and control characters
-abbrev pub is_visible : ℕ → Bool
-is_visible c = nat_lt 32 c && nat_lt c 127
-
--- what a URI text may be at all: at most 4,096 bytes of visible ASCII
+-- what a URI text may be at all: at most 4,096 bytes of ASCII without blanks and control characters
 unfoldable pub is_uri_text : List ℕ → Bool
-is_uri_text text = nat_le (length text) 4096 && list_all is_visible text
+is_uri_text text = nat_le (length text) 4096 && list_all is_ascii_graphic text
 
 -- the URI that a parsed URL is: it has no fragment, and its text keeps the bound of every sound URI
 unfoldable pub uri_of_url : Parts → Option Uri

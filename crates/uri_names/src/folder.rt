@@ -1,9 +1,9 @@
-ghost use Rattle.std.specs.Prelude.{◌≡◌, ◌++◌, IfOk, OnOk, map};
+ghost use Rattle.std.specs.Prelude.{◌≡◌, ◌++◌, ◌||◌, IfOk, OnOk, map};
 ghost use Rattle.std.specs.List.{slice_split};
 ghost use Rattle.uri_names.specs.Folder as spec;
 
 use acq_base::{NoMemory, Text, TryCopy, Uri};
-use std::alloc::Global;
+use std::alloc::{AllocError, Global};
 
 /// The URI of a path below a base: the path is appended to the base's, and dot segments are removed (RFC 3986,
 /// section 5.2.4).
@@ -28,28 +28,52 @@ fn without_dot_segments(alloc: Global, path: &[u8]) -> Result<Text, NoMemory>
 {
     match path {
         [b'/', rest @ ..] => {
-            let segments = resolved(alloc, rest)?;
-            joined(alloc, segments.as_slice())
+            let segments = segments_of(alloc, rest)?;
+            let kept = resolved(alloc, segments.as_slice())?;
+            joined(alloc, kept.as_slice())
         }
         _ => Text::from_bytes(alloc, path),
     }
 }
 
-/// The segments of a path that stay once dot segments are removed.
+/// The segments of a path behind its first `/`.
+fn segments_of(alloc: Global, path: &[u8]) -> Result<Vec<&[u8]>, AllocError>
+    ensures { IfOk result (λ segments. map (λ segment. segment.now) segments.items ≡ slice_split spec.is_slash path.now) }
+{
+    path.split(|byte| *byte == b'/').collect(alloc)
+}
+
+/// The segments that stay once dot segments are removed.
 #[tactic(auto, unfolding(crate::specs::Folder::resolved))]
-fn resolved(alloc: Global, path: &[u8]) -> Result<Vec<&[u8]>, NoMemory>
-    ensures { IfOk result (λ segments. map (λ segment. segment.now) segments.items ≡ spec.resolved (slice_split spec.is_slash path.now)) }
+fn resolved<'a>(alloc: Global, segments: &[&'a [u8]]) -> Result<Vec<&'a [u8]>, NoMemory>
+    ensures { IfOk result (λ kept. map (λ segment. segment.now) kept.items
+        ≡ spec.resolved (map (λ segment. segment.now) segments.now)) }
 {
     let mut kept = Vec::new(alloc);
-    let mut last: &[u8] = b"";
-    for segment in path.split(|byte| *byte == b'/') {
+    for segment in segments {
         enter(&mut kept, segment)?;
-        last = segment;
     }
-    if matches!(last, b"." | b"..") {
-        kept.push(b"")?;
+    if ends_in_dots(segments) {
+        kept.push(b"".as_slice())?;
     }
     Ok(kept)
+}
+
+/// Whether the last segment is `.` or `..`.
+#[tactic(auto, unfolding(crate::specs::Folder::ends_in_dots))]
+fn ends_in_dots(segments: &[&[u8]]) -> bool
+    ensures { result ≡ spec.ends_in_dots (map (λ segment. segment.now) segments.now) }
+{
+    match segments.last() {
+        Some(segment) => is_dots(segment),
+        None => false,
+    }
+}
+
+fn is_dots(segment: &[u8]) -> bool
+    ensures { result ≡ (spec.is_dot segment.now || spec.is_dot_dot segment.now) }
+{
+    matches!(segment, b"." | b"..")
 }
 
 /// Enters one segment: `.` stays out, and `..` takes the segment before it along.

@@ -1,5 +1,7 @@
-ghost use Rattle.std.specs.Prelude.{◌≡◌, ◌⊎◌, ◌-◌, ◌==◌, None, Some, Ok, Err, IfOk, length, ok_or};
-ghost use Rattle.std.specs.List.{position_or_len, suffix_len};
+ghost use Rattle.std.specs.Prelude.{◌≡◌, ◌⊎◌, ◌-◌, ◌==◌, None, Some, Ok, Err, IfOk, length, ok_or, bytes_eq};
+ghost use Rattle.std.specs.List.{list_all, list_any, position_or_len, suffix_len};
+ghost use Rattle.std.specs.Char.{is_ascii_graphic};
+ghost use Rattle.url.specs.Input.{lowercase};
 ghost use Rattle.url.specs.Parser.{parse_url};
 ghost use Rattle.uri_names.specs.Parts as parts;
 ghost use Rattle.uri_names.specs.Reading as spec;
@@ -23,7 +25,7 @@ const TEXT_BYTES: usize = 4096;
 /// case; else `BadUri` where the text isn't at most 4,096 bytes of ASCII without blanks and control characters, or
 /// is no URL by the URL Standard, or one with a user name, a password, a fragment, or a character in its path and query
 /// that RFC 3986 doesn't list, or an http URL without a host, or a file URL with a host or a query.
-#[tactic(auto, unfolding(crate::specs::Reading::read_uri_of))]
+#[tactic(auto, unfolding(crate::specs::Reading::read_uri_of), using(crate::proofs::Texts::utf8_if_visible))]
 pub fn read_uri(alloc: Global, text: &[u8]) -> Result<Uri, UriError>
     ensures { (result ≡ Err UriError.NoMemory) ⊎ (result ≡ spec.read_uri_of text.now) }
 {
@@ -48,24 +50,43 @@ pub fn read_base(alloc: Global, text: &[u8]) -> Result<Uri, UriError>
     folder(alloc, uri)
 }
 
-/// Whether what stands before the first `:` is `http` or `file`.
-#[tactic(auto, unfolding(crate::specs::Reading::has_scheme))]
+/// Whether what stands before the first `:` names a scheme of this profile.
+#[tactic(auto, unfolding(crate::specs::Reading::has_scheme), using(crate::proofs::Texts::colon_is_there))]
 fn has_scheme(text: &[u8]) -> bool
     ensures { result ≡ spec.has_scheme text.now }
 {
     let colon = first_colon(text);
-    if colon == text.len() {
+    if colon >= text.len() {
         return false;
     }
     let (name, _) = text.split_at(colon);
-    name.eq_ignore_ascii_case(b"http") || name.eq_ignore_ascii_case(b"file")
+    is_scheme_name(name)
+}
+
+/// Whether a name is `http` or `file`, in either case.
+fn is_scheme_name(name: &[u8]) -> bool
+    ensures { result ≡ spec.is_scheme_name name.now }
+{
+    is_name(name, b"http") || is_name(name, b"file")
+}
+
+/// Whether a name is this one, ASCII case aside.
+fn is_name(name: &[u8], wanted: &[u8]) -> bool
+    ensures { result ≡ bytes_eq (lowercase name.now) (lowercase wanted.now) }
+{
+    name.eq_ignore_ascii_case(wanted)
 }
 
 /// The place of the first `:`, or the length where there is none.
 fn first_colon(text: &[u8]) -> usize
     ensures { result ≡ position_or_len spec.is_colon text.now }
 {
-    text.iter().position(|byte| *byte == b':').unwrap_or(text.len())
+    for (i, byte) in text.iter().enumerate() {
+        if *byte == b':' {
+            return i;
+        }
+    }
+    text.len()
 }
 
 /// Whether a text is at most 4,096 bytes of ASCII without blanks and control characters.
@@ -73,7 +94,14 @@ fn first_colon(text: &[u8]) -> usize
 pub fn is_uri_text(text: &[u8]) -> bool
     ensures { result ≡ spec.is_uri_text text.now }
 {
-    text.len() <= TEXT_BYTES && text.iter().all(|byte| *byte > 32 && *byte < 127)
+    text.len() <= TEXT_BYTES && is_graphic(text)
+}
+
+/// Whether a text is ASCII without blanks and control characters.
+fn is_graphic(text: &[u8]) -> bool
+    ensures { result ≡ list_all is_ascii_graphic text.now }
+{
+    text.iter().all(|byte| byte.is_ascii_graphic())
 }
 
 /// The URI that the URL Standard reads in a text.
@@ -114,12 +142,32 @@ fn short(alloc: Global, uri: Option<Uri>) -> Result<Uri, UriError>
 fn folder(alloc: Global, uri: Uri) -> Result<Uri, UriError>
     ensures { (result ≡ Err UriError.NoMemory) ⊎ (result ≡ spec.folder_of uri) }
 {
-    let Uri { scheme, host, port, path } = uri;
-    if path.as_bytes().contains(&b'?') {
+    let Uri {
+        scheme,
+        host,
+        port,
+        path,
+    } = uri;
+    if has_query(path.as_bytes()) {
         return Err(UriError::BadUri);
     }
     let path = with_one_slash(alloc, path.as_bytes())?;
-    short(alloc, Some(Uri { scheme, host, port, path }))
+    short(
+        alloc,
+        Some(Uri {
+            scheme,
+            host,
+            port,
+            path,
+        }),
+    )
+}
+
+/// Whether a path has a `?` in it, and so a query behind it.
+fn has_query(path: &[u8]) -> bool
+    ensures { result ≡ list_any (λ c. c == 63) path.now }
+{
+    path.contains(&b'?')
 }
 
 /// The path with exactly one `/` at its end.

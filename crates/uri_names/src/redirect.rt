@@ -1,4 +1,6 @@
 ghost use Rattle.std.specs.Prelude.{◌≡◌, None, Some, IfOk};
+ghost use Rattle.std.specs.Char.{is_ascii};
+ghost use Rattle.std.specs.List.{list_all};
 ghost use Rattle.url.specs.Parser.{parse_url};
 ghost use Rattle.uri_names.specs.Redirect as spec;
 
@@ -18,7 +20,7 @@ const TEXT_BYTES: usize = 4096;
 ///
 /// None where the place isn't at most 4,096 bytes of ASCII without blanks and control characters, where it can't be
 /// joined, where `read_uri` would refuse what it leads to, or where that has more than 4,096 bytes.
-#[tactic(auto, unfolding(crate::specs::Redirect::resolve_of))]
+#[tactic(auto, unfolding(crate::specs::Redirect::resolve_of), using(crate::proofs::Texts::utf8_if_visible, crate::proofs::Texts::utf8_if_ascii))]
 pub fn resolve(alloc: Global, from: &Uri, place: &[u8]) -> Result<Option<Uri>, NoMemory>
     ensures { IfOk result (λ found. found ≡ spec.resolve_of from.now place.now) }
 {
@@ -26,13 +28,19 @@ pub fn resolve(alloc: Global, from: &Uri, place: &[u8]) -> Result<Option<Uri>, N
         return Ok(None);
     }
     let text = uri_text(alloc, from)?;
-    if !text.as_bytes().is_ascii() {
+    if !is_ascii_text(text.as_bytes()) {
         return Ok(None);
     }
     match (str::from_utf8(text.as_bytes()), str::from_utf8(place)) {
         (Ok(text), Ok(place)) => join(alloc, text, place),
         _ => Ok(None),
     }
+}
+
+fn is_ascii_text(text: &[u8]) -> bool
+    ensures { result ≡ list_all is_ascii text.now }
+{
+    text.iter().all(|byte| byte.is_ascii())
 }
 
 /// Where the place leads from the URL that a text reads as.
