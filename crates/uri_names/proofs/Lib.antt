@@ -1,1 +1,4 @@
 pub mod Texts
+pub mod Shapes
+pub mod SoundParts
+pub mod Normals

@@ -4,3 +4,4 @@ pub mod Reading
 pub mod Folder
 pub mod Redirect
 pub mod Names
+pub mod Normal

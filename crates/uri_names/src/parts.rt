@@ -1,6 +1,7 @@
-ghost use Rattle.std.specs.Prelude.{◌≡◌, IfOk};
+ghost use Rattle.std.specs.Prelude.{◌≡◌, ◌≤◌, IfOk, IfSome};
 ghost use Rattle.std.specs.List.{list_all};
-ghost use Rattle.acq_base.specs.Uri.{is_uri_character as is_uri_byte};
+ghost use Rattle.acq_base.specs.Uri.{is_uri_character as is_uri_byte, IsSound};
+ghost use Rattle.uri_names.specs.Normal.{IsNormal};
 ghost use Rattle.uri_names.specs.Parts as spec;
 
 use crate::names::uri_text;
@@ -9,8 +10,18 @@ use std::alloc::Global;
 use url::Url;
 
 /// The URI that a URL is, its fragment aside, if it is one of this profile.
-#[tactic(auto, unfolding(crate::specs::Parts::uri_of_parts))]
+#[tactic(auto, using(crate::proofs::Normals::normal_from))]
 pub fn uri_of_url(alloc: Global, url: &Url) -> Result<Option<Uri>, NoMemory>
+    ensures value { IfOk result (λ found. found ≡ spec.uri_of_parts url.now) }
+    ensures normal { IfOk result (λ found. IfSome found IsNormal) }
+{
+    let _valid = url.scheme();
+    uri_of_parts(alloc, url)
+}
+
+/// The URI that a URL is, its fragment aside.
+#[tactic(auto, unfolding(crate::specs::Parts::uri_of_parts))]
+fn uri_of_parts(alloc: Global, url: &Url) -> Result<Option<Uri>, NoMemory>
     ensures { IfOk result (λ found. found ≡ spec.uri_of_parts url.now) }
 {
     if !url.username().is_empty() || url.password().is_some() {
@@ -86,8 +97,11 @@ fn is_uri_character(byte: u8) -> bool
 }
 
 /// The URI, where its text has at most so many bytes.
+#[tactic(auto, using(crate::proofs::SoundParts::sound_if_short))]
 pub fn within(alloc: Global, limit: usize, uri: Option<Uri>) -> Result<Option<Uri>, NoMemory>
-    ensures { IfOk result (λ found. found ≡ spec.within limit uri) }
+    ensures value { IfOk result (λ found. found ≡ spec.within limit uri) }
+    ensures normal { IfSome uri IsNormal → IfOk result (λ found. IfSome found IsNormal) }
+    ensures sound { IfSome uri IsNormal → limit ≤ 16384 → IfOk result (λ found. IfSome found IsSound) }
 {
     let Some(uri) = uri else {
         return Ok(None);

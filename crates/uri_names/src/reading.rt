@@ -1,8 +1,10 @@
-ghost use Rattle.std.specs.Prelude.{◌≡◌, ◌⊎◌, ◌-◌, ◌==◌, None, Some, Ok, Err, IfOk, length, ok_or, bytes_eq};
+ghost use Rattle.std.specs.Prelude.{◌≡◌, ◌⊎◌, ◌-◌, ◌==◌, None, Some, Ok, Err, IfOk, IfSome, length, ok_or, bytes_eq};
 ghost use Rattle.std.specs.List.{list_all, list_any, position_or_len, suffix_len};
 ghost use Rattle.std.specs.Char.{is_ascii_graphic};
 ghost use Rattle.url.specs.Input.{lowercase};
 ghost use Rattle.url.specs.Parser.{parse_url};
+ghost use Rattle.acq_base.specs.Uri.{IsSound};
+ghost use Rattle.uri_names.specs.Normal.{IsNormal};
 ghost use Rattle.uri_names.specs.Parts as parts;
 ghost use Rattle.uri_names.specs.Reading as spec;
 
@@ -27,7 +29,9 @@ const TEXT_BYTES: usize = 4096;
 /// that RFC 3986 doesn't list, or an http URL without a host, or a file URL with a host or a query.
 #[tactic(auto, unfolding(crate::specs::Reading::read_uri_of), using(crate::proofs::Texts::utf8_if_visible))]
 pub fn read_uri(alloc: Global, text: &[u8]) -> Result<Uri, UriError>
-    ensures { (result ≡ Err UriError.NoMemory) ⊎ (result ≡ spec.read_uri_of text.now) }
+    ensures value { (result ≡ Err UriError.NoMemory) ⊎ (result ≡ spec.read_uri_of text.now) }
+    ensures sound { IfOk result IsSound }
+    ensures normal { IfOk result IsNormal }
 {
     if !has_scheme(text) {
         return Err(UriError::Scheme);
@@ -106,7 +110,9 @@ fn is_graphic(text: &[u8]) -> bool
 
 /// The URI that the URL Standard reads in a text.
 fn read_url(alloc: Global, text: &str) -> Result<Uri, UriError>
-    ensures { (result ≡ Err UriError.NoMemory) ⊎ (result ≡ spec.judged (parse_url None text.now)) }
+    ensures value { (result ≡ Err UriError.NoMemory) ⊎ (result ≡ spec.judged (parse_url None text.now)) }
+    ensures sound { IfOk result IsSound }
+    ensures normal { IfOk result IsNormal }
 {
     match Url::parse(alloc, text) {
         Ok(url) => judge(alloc, &url),
@@ -118,7 +124,9 @@ fn read_url(alloc: Global, text: &str) -> Result<Uri, UriError>
 /// The URI that a URL is, or `BadUri` where it has a fragment or isn't of this profile.
 #[tactic(auto, unfolding(crate::specs::Reading::uri_of_url))]
 fn judge(alloc: Global, url: &Url) -> Result<Uri, UriError>
-    ensures { (result ≡ Err UriError.NoMemory) ⊎ (result ≡ ok_or (spec.uri_of_url url.now) UriError.BadUri) }
+    ensures value { (result ≡ Err UriError.NoMemory) ⊎ (result ≡ ok_or (spec.uri_of_url url.now) UriError.BadUri) }
+    ensures sound { IfOk result IsSound }
+    ensures normal { IfOk result IsNormal }
 {
     if url.fragment().is_some() {
         return Err(UriError::BadUri);
@@ -129,7 +137,9 @@ fn judge(alloc: Global, url: &Url) -> Result<Uri, UriError>
 
 /// The URI, or `BadUri` where there is none, or one too long to be sound.
 fn short(alloc: Global, uri: Option<Uri>) -> Result<Uri, UriError>
-    ensures { (result ≡ Err UriError.NoMemory) ⊎ (result ≡ ok_or (parts.within SOUND_BYTES uri) UriError.BadUri) }
+    ensures value { (result ≡ Err UriError.NoMemory) ⊎ (result ≡ ok_or (parts.within SOUND_BYTES uri) UriError.BadUri) }
+    ensures sound { IfSome uri IsNormal → IfOk result IsSound }
+    ensures normal { IfSome uri IsNormal → IfOk result IsNormal }
 {
     match within(alloc, SOUND_BYTES, uri)? {
         Some(uri) => Ok(uri),

@@ -1,7 +1,9 @@
-ghost use Rattle.std.specs.Prelude.{◌≡◌, None, Some, IfOk};
+ghost use Rattle.std.specs.Prelude.{◌≡◌, None, Some, IfOk, IfSome};
 ghost use Rattle.std.specs.Char.{is_ascii};
 ghost use Rattle.std.specs.List.{list_all};
 ghost use Rattle.url.specs.Parser.{parse_url};
+ghost use Rattle.acq_base.specs.Uri.{IsSound};
+ghost use Rattle.uri_names.specs.Normal.{IsNormal};
 ghost use Rattle.uri_names.specs.Redirect as spec;
 
 use crate::names::uri_text;
@@ -22,7 +24,9 @@ const TEXT_BYTES: usize = 4096;
 /// joined, where `read_uri` would refuse what it leads to, or where that has more than 4,096 bytes.
 #[tactic(auto, unfolding(crate::specs::Redirect::resolve_of), using(crate::proofs::Texts::utf8_if_visible, crate::proofs::Texts::utf8_if_ascii))]
 pub fn resolve(alloc: Global, from: &Uri, place: &[u8]) -> Result<Option<Uri>, NoMemory>
-    ensures { IfOk result (λ found. found ≡ spec.resolve_of from.now place.now) }
+    ensures value { IfOk result (λ found. found ≡ spec.resolve_of from.now place.now) }
+    ensures sound { IfOk result (λ found. IfSome found IsSound) }
+    ensures normal { IfOk result (λ found. IfSome found IsNormal) }
 {
     if !is_uri_text(place) {
         return Ok(None);
@@ -45,7 +49,9 @@ fn is_ascii_text(text: &[u8]) -> bool
 
 /// Where the place leads from the URL that a text reads as.
 fn join(alloc: Global, text: &str, place: &str) -> Result<Option<Uri>, NoMemory>
-    ensures { IfOk result (λ found. found ≡ spec.joined_with (parse_url None text.now) place.now) }
+    ensures value { IfOk result (λ found. found ≡ spec.joined_with (parse_url None text.now) place.now) }
+    ensures sound { IfOk result (λ found. IfSome found IsSound) }
+    ensures normal { IfOk result (λ found. IfSome found IsNormal) }
 {
     match Url::parse(alloc, text) {
         Ok(base) => join_to(alloc, &base, place),
@@ -56,7 +62,9 @@ fn join(alloc: Global, text: &str, place: &str) -> Result<Option<Uri>, NoMemory>
 
 /// Where the place leads from a URL.
 fn join_to(alloc: Global, base: &Url, place: &str) -> Result<Option<Uri>, NoMemory>
-    ensures { IfOk result (λ found. found ≡ spec.place_of (parse_url (Some base.now) place.now)) }
+    ensures value { IfOk result (λ found. found ≡ spec.place_of (parse_url (Some base.now) place.now)) }
+    ensures sound { IfOk result (λ found. IfSome found IsSound) }
+    ensures normal { IfOk result (λ found. IfSome found IsNormal) }
 {
     match base.join(place) {
         Ok(url) => {
