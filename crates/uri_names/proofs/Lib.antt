@@ -2,3 +2,8 @@ pub mod Texts
 pub mod Shapes
 pub mod SoundParts
 pub mod Normals
+pub mod Segments
+pub mod Lengths
+pub mod BelowSound
+pub mod Moved
+pub mod Bases

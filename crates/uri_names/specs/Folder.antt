@@ -1,7 +1,8 @@
 -- What lies below a base URI.
-use Rattle.std.specs.Prelude.{ℕ, ◌-◌, ◌==◌, ◌||◌, Bool, if◌then◌else◌, List, [], ◌∷◌, ◌++◌, length, take, drop, codes, bytes_eq, fold, slice_index_or}
-use Rattle.std.specs.List.{flat_map, slice_split}
+use Rattle.std.specs.Prelude.{ℕ, ◌-◌, ◌==◌, ◌||◌, Bool, if◌then◌else◌, List, [], ◌∷◌, ◌++◌, length, take, drop, codes, bytes_eq, fold, slice_index_or, All, IsTrue}
+use Rattle.std.specs.List.{flat_map, slice_split, list_any}
 use Rattle.acq_base.specs.declared.uri.Uri.{Uri}
+use Rattle.acq_base.specs.Uri.{is_alphanumeric}
 
 abbrev pub is_slash : ℕ → Bool
 is_slash c = c == 47
@@ -37,6 +38,13 @@ unfoldable pub remove_dot_segments : List ℕ → List ℕ
 remove_dot_segments path =
     if bytes_eq (take 1 path) (codes "/") then joined (resolved (slice_split is_slash (drop 1 path)))
     else path
+
+-- the characters of a path that is appended: letters, digits and `._-+~:/`
+abbrev pub is_below_character : ℕ → Bool
+is_below_character c = is_alphanumeric c || list_any (λ d. c == d) (codes "._-+~:/")
+
+abbrev pub AreBelowCharacters : List ℕ → Type 0
+AreBelowCharacters path = All (λ c. IsTrue (is_below_character c)) path
 
 -- the URI of a path below a base: the path is appended, and dot segments are removed
 unfoldable pub below_of : Uri → List ℕ → Uri

@@ -1,5 +1,5 @@
 -- URIs in the spelling of the URL Standard.
-use Rattle.std.specs.Prelude.{◌≡◌, Some, None}
+use Rattle.std.specs.Prelude.{◌≡◌, ◌≢◌, ℕ, List, [], ◌∷◌, ◌++◌, All, Some, None}
 use Rattle.acq_base.specs.declared.uri.Uri.{Uri}
 use Rattle.url.specs.Parts.{Parts, IsValid}
 use Rattle.uri_names.specs.Parts.{uri_of_parts}
@@ -11,3 +11,10 @@ pub record IsNormal (uri : Uri) : Type 0 where
   pub valid : IsValid url
   pub whole : url.fragment ≡ None
   pub same : uri_of_parts url ≡ Some uri
+
+-- what `read_base` gives: no query, and a `/` at the end
+pub record IsBase (uri : Uri) : Type 0 where
+  pub normal : IsNormal uri
+  pub plain : All (λ c. c ≢ 63) uri.path
+  pub front : List ℕ
+  pub ended : uri.path ≡ front ++ 47 ∷ []

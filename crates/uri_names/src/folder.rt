@@ -1,14 +1,28 @@
-ghost use Rattle.std.specs.Prelude.{◌≡◌, ◌++◌, ◌||◌, IfOk, OnOk, map};
+ghost use Rattle.std.specs.Prelude.{◌≡◌, ◌+◌, ◌≤◌, ◌++◌, ◌||◌, IfOk, OnOk, length, map};
 ghost use Rattle.std.specs.List.{slice_split};
+ghost use Rattle.acq_base.specs.Uri.{uri_text, IsSound};
 ghost use Rattle.uri_names.specs.Folder as spec;
+ghost use Rattle.uri_names.specs.Normal.{IsBase, IsNormal};
 
 use acq_base::{NoMemory, Text, TryCopy, Uri};
 use std::alloc::{AllocError, Global};
 
 /// The URI of a path below a base: the path is appended to the base's, and dot segments are removed (RFC 3986,
 /// section 5.2.4).
-#[tactic(auto, unfolding(crate::specs::Folder::below_of))]
+///
+/// A base and a path of letters, digits and `._-+~:/` give a sound URI, where its text isn't too long for one.
 pub fn below(alloc: Global, base: &Uri, path: &[u8]) -> Result<Uri, NoMemory>
+    ensures value { IfOk result (λ uri. uri ≡ spec.below_of base.now path.now) }
+    ensures short { IfOk result (λ uri. length (uri_text uri) ≤ length (uri_text base.now) + length path.now) }
+    ensures sound { IsSound base.now → spec.AreBelowCharacters path.now
+        → IfOk result (λ uri. length (uri_text uri) ≤ 16384 → IsSound uri) }
+    ensures normal { IsBase base.now → spec.AreBelowCharacters path.now → IfOk result IsNormal }
+{
+    appended(alloc, base, path)
+}
+
+#[tactic(auto, unfolding(crate::specs::Folder::below_of))]
+fn appended(alloc: Global, base: &Uri, path: &[u8]) -> Result<Uri, NoMemory>
     ensures { IfOk result (λ uri. uri ≡ spec.below_of base.now path.now) }
 {
     let mut whole = base.path.copy(alloc)?;

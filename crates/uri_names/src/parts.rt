@@ -1,7 +1,7 @@
 ghost use Rattle.std.specs.Prelude.{◌≡◌, ◌≤◌, IfOk, IfSome};
 ghost use Rattle.std.specs.List.{list_all};
 ghost use Rattle.acq_base.specs.Uri.{is_uri_character as is_uri_byte, IsSound};
-ghost use Rattle.uri_names.specs.Normal.{IsNormal};
+ghost use Rattle.uri_names.specs.Normal.{IsBase, IsNormal};
 ghost use Rattle.uri_names.specs.Parts as spec;
 
 use crate::names::uri_text;
@@ -101,6 +101,7 @@ fn is_uri_character(byte: u8) -> bool
 pub fn within(alloc: Global, limit: usize, uri: Option<Uri>) -> Result<Option<Uri>, NoMemory>
     ensures value { IfOk result (λ found. found ≡ spec.within limit uri) }
     ensures normal { IfSome uri IsNormal → IfOk result (λ found. IfSome found IsNormal) }
+    ensures base { IfSome uri IsBase → IfOk result (λ found. IfSome found IsBase) }
     ensures sound { IfSome uri IsNormal → limit ≤ 16384 → IfOk result (λ found. IfSome found IsSound) }
 {
     let Some(uri) = uri else {

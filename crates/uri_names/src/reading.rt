@@ -4,7 +4,7 @@ ghost use Rattle.std.specs.Char.{is_ascii_graphic};
 ghost use Rattle.url.specs.Input.{lowercase};
 ghost use Rattle.url.specs.Parser.{parse_url};
 ghost use Rattle.acq_base.specs.Uri.{IsSound};
-ghost use Rattle.uri_names.specs.Normal.{IsNormal};
+ghost use Rattle.uri_names.specs.Normal.{IsBase, IsNormal};
 ghost use Rattle.uri_names.specs.Parts as parts;
 ghost use Rattle.uri_names.specs.Reading as spec;
 
@@ -48,7 +48,9 @@ pub fn read_uri(alloc: Global, text: &[u8]) -> Result<Uri, UriError>
 /// Reads the base URI of a source: as `read_uri`, with `BadUri` for a query too. The path then ends with exactly one `/`.
 #[tactic(auto, unfolding(crate::specs::Reading::read_base_of))]
 pub fn read_base(alloc: Global, text: &[u8]) -> Result<Uri, UriError>
-    ensures { (result ≡ Err UriError.NoMemory) ⊎ (result ≡ spec.read_base_of text.now) }
+    ensures value { (result ≡ Err UriError.NoMemory) ⊎ (result ≡ spec.read_base_of text.now) }
+    ensures sound { IfOk result IsSound }
+    ensures base { IfOk result IsBase }
 {
     let uri = read_uri(alloc, text)?;
     folder(alloc, uri)
@@ -140,6 +142,7 @@ fn short(alloc: Global, uri: Option<Uri>) -> Result<Uri, UriError>
     ensures value { (result ≡ Err UriError.NoMemory) ⊎ (result ≡ ok_or (parts.within SOUND_BYTES uri) UriError.BadUri) }
     ensures sound { IfSome uri IsNormal → IfOk result IsSound }
     ensures normal { IfSome uri IsNormal → IfOk result IsNormal }
+    ensures base { IfSome uri IsBase → IfOk result IsBase }
 {
     match within(alloc, SOUND_BYTES, uri)? {
         Some(uri) => Ok(uri),
@@ -148,9 +151,11 @@ fn short(alloc: Global, uri: Option<Uri>) -> Result<Uri, UriError>
 }
 
 /// The URI with one `/` at its end, or `BadUri` where it has a query.
-#[tactic(auto, unfolding(crate::specs::Reading::folder_of))]
+#[tactic(auto, unfolding(crate::specs::Reading::folder_of), using(crate::proofs::Bases::base_from))]
 fn folder(alloc: Global, uri: Uri) -> Result<Uri, UriError>
-    ensures { (result ≡ Err UriError.NoMemory) ⊎ (result ≡ spec.folder_of uri) }
+    ensures value { (result ≡ Err UriError.NoMemory) ⊎ (result ≡ spec.folder_of uri) }
+    ensures sound { IsNormal uri → IfOk result IsSound }
+    ensures base { IsNormal uri → IfOk result IsBase }
 {
     let Uri {
         scheme,
