@@ -1,4 +1,5 @@
-ghost use Rattle.std.specs.Prelude.{◌≡◌, ◌++◌, IfOk, MatchResult, OnOk};
+ghost use Rattle.std.specs.Prelude.{◌≡◌, ◌<◌, ◌++◌, false, IfOk, OnOk};
+ghost use Rattle.std.specs.Fmt.{digit_glyph};
 ghost use Rattle.std.specs.List.{flat_map};
 ghost use Rattle.acq_base.specs.Uri as spec;
 ghost use Rattle.uri_names.specs.Names.{host_key_of};
@@ -83,8 +84,6 @@ fn append_escaped(name: &mut Text, bytes: &[u8]) -> Result<(), NoMemory>
     Ok(())
 }
 
-const HEX_DIGITS: [u8; 16] = *b"0123456789abcdef";
-
 /// Appends what stands in a list name for one byte of a URI.
 fn append_escape(name: &mut Text, byte: u8) -> Result<(), NoMemory>
     ensures { OnOk result (name.new ≡ name.old ++ spec.name_byte byte) }
@@ -93,10 +92,18 @@ fn append_escape(name: &mut Text, byte: u8) -> Result<(), NoMemory>
         b'/' => name.push(b'_'),
         b'.' | b'-' | b'+' | b':' => name.push(byte),
         _ if byte.is_ascii_alphanumeric() => name.push(byte),
-        _ => {
-            let high = HEX_DIGITS[byte as usize / 16];
-            let low = HEX_DIGITS[byte as usize % 16];
-            name.append(&[b'%', high, low])
-        }
+        _ => name.append(&[b'%', hex_digit(byte / 16), hex_digit(byte % 16)]),
+    }
+}
+
+/// A lower-case hexadecimal digit.
+fn hex_digit(value: u8) -> u8
+    requires { value < 16 }
+    ensures { result ≡ digit_glyph false value }
+{
+    if value < 10 {
+        b'0' + value
+    } else {
+        b'a' + (value - 10)
     }
 }
