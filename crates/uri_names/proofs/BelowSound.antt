@@ -48,11 +48,11 @@ removed_all C slash text all =
     rw (removed text) (joined_all C slash _ (resolved_all (AllOf C) (slice_split is_slash text) (All-nil C) (All-weaker (AllOf C) (UnlessDots (AllOf C)) (λ s holds none. holds) _ parts)))
 
 -- a path that begins with a slash
-record IsRooted (path : List ℕ) : Type 0 where
-  rest : List ℕ
-  is : path ≡ 47 ∷ rest
+pub record IsRooted (path : List ℕ) : Type 0 where
+  pub rest : List ℕ
+  pub is : path ≡ 47 ∷ rest
 
-root : (path : List ℕ) → slice_get path 0 ≡ Some 47 → IsRooted path
+pub root : (path : List ℕ) → slice_get path 0 ≡ Some 47 → IsRooted path
 root [] e = cc
 root (c ∷ path) e = record { rest = path; is = ap (λ x. x ∷ path) (same_Some c 47 e) }
 

@@ -7,3 +7,5 @@ pub mod Lengths
 pub mod BelowSound
 pub mod Moved
 pub mod Bases
+pub mod ListNames
+pub mod SameName

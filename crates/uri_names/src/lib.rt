@@ -7,7 +7,7 @@
 
 pub use error::UriError;
 pub use folder::below;
-pub use names::{host_key, list_name, uri_text};
+pub use names::{host_key, list_name, names_are_apart, uri_text};
 pub use reading::{read_base, read_uri};
 pub use redirect::resolve;
 

@@ -1,7 +1,8 @@
-ghost use Rattle.std.specs.Prelude.{◌≡◌, ◌<◌, ◌++◌, false, IfOk, OnOk};
+ghost use Rattle.std.specs.Prelude.{◌≡◌, ◌+◌, ◌<◌, ◌≤◌, ◌++◌, false, length, Contains, IfOk, OnOk};
 ghost use Rattle.std.specs.Fmt.{digit_glyph};
 ghost use Rattle.std.specs.List.{flat_map};
 ghost use Rattle.acq_base.specs.Uri as spec;
+ghost use Rattle.acq_base.specs.declared.uri.Uri.{Uri};
 ghost use Rattle.uri_names.specs.Names.{host_key_of};
 
 use acq_base::{ListName, NoMemory, Scheme, Text, TryCopy, Uri};
@@ -59,8 +60,24 @@ pub fn host_key(alloc: Global, uri: &Uri) -> Result<Text, NoMemory>
 
 /// The name under which the file of a URI is installed: host, port where it isn't 80, and path, in which `/` becomes
 /// `_`, letters, digits and `.-+:` stay, and any other byte becomes `%` and two lower-case hexadecimal digits.
-#[tactic(auto, unfolding(acq_base::specs::Uri::name_of_parts))]
+///
+/// The name of a sound URI holds a `_`, and is at most seven bytes shorter than the URI's text.
 pub fn list_name(alloc: Global, uri: &Uri) -> Result<ListName, NoMemory>
+    ensures value { IfOk result (λ name. name.0 ≡ spec.list_name uri.now) }
+    ensures marked { spec.IsSound uri.now → IfOk result (λ name. Contains name.0 95) }
+    ensures short { IfOk result (λ name. length (spec.uri_text uri.now) ≤ 7 + length name.0) }
+{
+    escaped(alloc, uri)
+}
+
+/// Two sound URIs with one list name are one URI, so no two of them share a file.
+#[tactic(auto, using(crate::proofs::SameName::same_name))]
+pub fn names_are_apart()
+    ensures { (a b : Uri) → spec.IsSound a → spec.IsSound b → spec.list_name a ≡ spec.list_name b → a ≡ b }
+{}
+
+#[tactic(auto, unfolding(acq_base::specs::Uri::name_of_parts))]
+fn escaped(alloc: Global, uri: &Uri) -> Result<ListName, NoMemory>
     ensures { IfOk result (λ name. name.0 ≡ spec.list_name uri.now) }
 {
     let mut name = Text::new(alloc);
