@@ -9,3 +9,5 @@ pub mod Moved
 pub mod Bases
 pub mod ListNames
 pub mod SameName
+pub mod TextOf
+pub mod ReadsBack

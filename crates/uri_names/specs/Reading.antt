@@ -1,8 +1,9 @@
 -- Reading a URI and the base URI of a source.
-use Rattle.std.specs.Prelude.{ℕ, ◌==◌, ◌&&◌, ◌||◌, Bool, not, nat_le, if◌then◌else◌, List, [], ◌∷◌, ◌++◌, length, codes, bytes_eq, Option, Some, None, is_some, ok_or, Result, Ok, Err}
+use Rattle.std.specs.Prelude.{◌≡◌, ℕ, ◌≤◌, ◌==◌, ◌&&◌, ◌||◌, Bool, not, nat_le, if◌then◌else◌, List, [], ◌∷◌, ◌++◌, length, codes, bytes_eq, Option, Some, None, is_some, ok_or, Result, Ok, Err}
 use Rattle.std.specs.List.{list_all, list_any, before_first}
 use Rattle.std.specs.Char.{is_ascii_graphic}
 use Rattle.acq_base.specs.declared.uri.Uri.{Uri}
+use Rattle.acq_base.specs.Uri.{uri_text}
 use Rattle.url.specs.Input.{lowercase, trim_end}
 use Rattle.url.specs.Parts.{Parts}
 use Rattle.url.specs.Parser.{Parsed, parse_url}
@@ -57,3 +58,7 @@ folder_of_read (Err error) = Err error
 -- the base URI of a source: a URI without query, whose path ends with exactly one `/`
 unfoldable pub read_base_of : List ℕ → Result Uri UriError
 read_base_of text = folder_of_read (read_uri_of text)
+
+-- the text of the URI, where it isn't too long to be read, is read as that URI
+abbrev pub ReadsBack : Uri → Type 0
+ReadsBack uri = length (uri_text uri) ≤ 4096 → read_uri_of (uri_text uri) ≡ Ok uri
