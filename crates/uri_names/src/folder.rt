@@ -3,6 +3,7 @@ ghost use Rattle.std.specs.List.{slice_split};
 ghost use Rattle.acq_base.specs.Uri.{uri_text, IsSound};
 ghost use Rattle.uri_names.specs.Folder as spec;
 ghost use Rattle.uri_names.specs.Normal.{IsBase, IsNormal};
+ghost use Rattle.uri_names.specs.Reading.{ReadsBack};
 
 use acq_base::{NoMemory, Text, TryCopy, Uri};
 use std::alloc::{AllocError, Global};
@@ -17,6 +18,7 @@ pub fn below(alloc: Global, base: &Uri, path: &[u8]) -> Result<Uri, NoMemory>
     ensures sound { IsSound base.now → spec.AreBelowCharacters path.now
         → IfOk result (λ uri. length (uri_text uri) ≤ 16384 → IsSound uri) }
     ensures normal { IsBase base.now → spec.AreBelowCharacters path.now → IfOk result IsNormal }
+    ensures again { IsBase base.now → spec.AreBelowCharacters path.now → IfOk result ReadsBack }
 {
     appended(alloc, base, path)
 }

@@ -32,6 +32,7 @@ pub fn read_uri(alloc: Global, text: &[u8]) -> Result<Uri, UriError>
     ensures value { (result ≡ Err UriError.NoMemory) ⊎ (result ≡ spec.read_uri_of text.now) }
     ensures sound { IfOk result IsSound }
     ensures normal { IfOk result IsNormal }
+    ensures again { IfOk result spec.ReadsBack }
 {
     if !has_scheme(text) {
         return Err(UriError::Scheme);
@@ -51,6 +52,7 @@ pub fn read_base(alloc: Global, text: &[u8]) -> Result<Uri, UriError>
     ensures value { (result ≡ Err UriError.NoMemory) ⊎ (result ≡ spec.read_base_of text.now) }
     ensures sound { IfOk result IsSound }
     ensures base { IfOk result IsBase }
+    ensures again { IfOk result spec.ReadsBack }
 {
     let uri = read_uri(alloc, text)?;
     folder(alloc, uri)

@@ -4,6 +4,7 @@ ghost use Rattle.std.specs.List.{list_all};
 ghost use Rattle.url.specs.Parser.{parse_url};
 ghost use Rattle.acq_base.specs.Uri.{IsSound};
 ghost use Rattle.uri_names.specs.Normal.{IsNormal};
+ghost use Rattle.uri_names.specs.Reading.{ReadsBack};
 ghost use Rattle.uri_names.specs.Redirect as spec;
 
 use crate::names::uri_text;
@@ -27,6 +28,7 @@ pub fn resolve(alloc: Global, from: &Uri, place: &[u8]) -> Result<Option<Uri>, N
     ensures value { IfOk result (λ found. found ≡ spec.resolve_of from.now place.now) }
     ensures sound { IfOk result (λ found. IfSome found IsSound) }
     ensures normal { IfOk result (λ found. IfSome found IsNormal) }
+    ensures again { IfOk result (λ found. IfSome found ReadsBack) }
 {
     if !is_uri_text(place) {
         return Ok(None);
