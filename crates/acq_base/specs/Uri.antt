@@ -1,9 +1,8 @@
 -- URIs of this profile: their text, what makes one sound, and the list name that each has.
-use Rattle.std.specs.Prelude.{◌≡◌, ◌≢◌, ℕ, ◌/◌, ◌%◌, ◌^◌, ◌<◌, ◌≤◌, ◌==◌, ◌||◌, ◌&&◌, nat_le, nat_eq, Bool, if◌then◌else◌, List, [], ◌∷◌, ◌++◌, length, codes, slice_get, slice_index, take, drop, All, Contains, Some, IsTrue}
+use Rattle.std.specs.Prelude.{◌≡◌, ◌≢◌, ℕ, ◌/◌, ◌%◌, ◌^◌, ◌<◌, ◌≤◌, ◌==◌, ◌||◌, ◌&&◌, nat_le, nat_eq, Bool, false, if◌then◌else◌, List, [], ◌∷◌, ◌++◌, length, codes, slice_get, take, drop, All, Contains, Some, IsTrue}
 use Rattle.std.specs.List.{list_any, flat_map}
 use Rattle.std.specs.Cmp.Lexicographic.{pointwise}
-use Rattle.std.specs.Fmt.{decimal}
-use Rattle.hex.specs.Hex.{lower_digits}
+use Rattle.std.specs.Fmt.{decimal, digit_glyph}
 use Rattle.acq_base.specs.declared.uri.Scheme.{Scheme}
 use Rattle.acq_base.specs.declared.uri.Scheme.TheVariants.{Http, File}
 use Rattle.acq_base.specs.declared.uri.Uri.{Uri}
@@ -67,7 +66,7 @@ abbrev pub name_byte : ℕ → List ℕ
 name_byte c =
     if c == 47 then 95 ∷ []
     else if is_alphanumeric c || list_any (λ d. c == d) (codes ".-+:") then c ∷ []
-    else 37 ∷ slice_index lower_digits (c / 16) ∷ slice_index lower_digits (c % 16) ∷ []
+    else 37 ∷ digit_glyph false (c / 16) ∷ digit_glyph false (c % 16) ∷ []
 
 unfoldable pub name_of_parts : Scheme → List ℕ → ℕ → List ℕ → List ℕ
 name_of_parts Http host port path = flat_map name_byte (host ++ port_text port ++ path)

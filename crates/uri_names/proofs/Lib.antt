@@ -1,0 +1,13 @@
+pub mod Texts
+pub mod Shapes
+pub mod SoundParts
+pub mod Normals
+pub mod Segments
+pub mod Lengths
+pub mod BelowSound
+pub mod Moved
+pub mod Bases
+pub mod ListNames
+pub mod SameName
+pub mod TextOf
+pub mod ReadsBack

@@ -1,0 +1,7 @@
+pub mod Errors
+pub mod Parts
+pub mod Reading
+pub mod Folder
+pub mod Redirect
+pub mod Names
+pub mod Normal
