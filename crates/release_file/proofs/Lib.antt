@@ -4,4 +4,5 @@ pub mod Days
 pub mod Judged
 pub mod Joined
 pub mod SumLines
+pub mod Listings
 pub mod LastPart

@@ -17,14 +17,14 @@ use Rattle.release_file.specs.declared.error.ReleaseError.TheVariants.{BadSums}
 use Rattle.release_file.specs.declared.release.Listed.{Listed}
 
 -- equal texts are equal, and a text equals itself
-same_text-true : (a b : List ℕ) → same_text a b ≡ true → a ≡ b
+pub same_text-true : (a b : List ℕ) → same_text a b ≡ true → a ≡ b
 same_text-true a b h = (bytes_decides a b).0 h
 
-same_text-refl : (a : List ℕ) → same_text a a ≡ true
+pub same_text-refl : (a : List ℕ) → same_text a a ≡ true
 same_text-refl a = (bytes_decides a a).1 refl
 
 -- the sum of a path with one more entry
-sum_in-push : (entries : List Listed) (entry : Listed) (path : List ℕ) → sum_in (entries ++ entry ∷ []) path ≡ sum_beside (sum_in entries path) entry path
+pub sum_in-push : (entries : List Listed) (entry : Listed) (path : List ℕ) → sum_in (entries ++ entry ∷ []) path ≡ sum_beside (sum_in entries path) entry path
 sum_in-push [] entry path = refl
 sum_in-push (first ∷ entries) entry path =
     elim (cases_Bool (same_text first.path path)) [
@@ -32,7 +32,7 @@ sum_in-push (first ∷ entries) entry path =
       | inr isnt ↦ rw isnt (sum_in-push entries entry path)
     ]
 
-abbrev keeps : Listed → Listed → Bool
+abbrev pub keeps : Listed → Listed → Bool
 keeps entry other = not (same_text entry.path other.path)
 
 filter-push : (p : Listed → Bool) (xs : List Listed) (x : Listed) → filter p (xs ++ x ∷ []) ≡ filter p xs ++ (if p x then x ∷ [] else [])
@@ -67,9 +67,9 @@ firsts-push (first ∷ entries) entry =
 filter_map-push : (f : List ℕ → Option Listed) (xs : List (List ℕ)) (x : List ℕ) → filter_map f (xs ++ x ∷ []) ≡ filter_map f xs ++ option_to_list (f x)
 filter_map-push f [] x = elim (f x) as (λ o. cons_option o [] ≡ option_to_list o) [ None ↦ refl | Some y ↦ refl ]
 filter_map-push f (y ∷ ys) x = elim (f y) as (λ o. cons_option o (filter_map f (ys ++ x ∷ [])) ≡ cons_option o (filter_map f ys) ++ option_to_list (f x)) [
-    | None ↦ filter_map-push f ys x
-    | Some z ↦ ap (λ t. z ∷ t) (filter_map-push f ys x)
-  ]
+  | None ↦ filter_map-push f ys x
+  | Some z ↦ ap (λ t. z ∷ t) (filter_map-push f ys x)
+]
 
 -- the entries of the lines above a place
 abbrev pub entries_above : List (List ℕ) → ℕ → List Listed
@@ -120,7 +120,7 @@ goes_on first lines i at files files' sum sum' line entry h within here some agr
     let grown : entries_above lines (i + 1) ≡ above ++ entry ∷ [] = entries_above-more lines i line within ∙ ap (λ o. above ++ option_to_list o) line_is in
     let may : may_follow above (listed_of_line line) ≡ true = rw (← some) (ap (λ o. agrees o entry.sum) (sym (h.sums entry.path)) ∙ sym agreed) in
     let next : first_bad above at (drop i lines) ≡ first_bad (above ++ entry ∷ []) (line_below at) (drop (suc i) lines) =
-        ap (first_bad above at) cut ∙ first_bad-cons above at line (drop (suc i) lines) may ∙ ap (λ o. first_bad (above ++ option_to_list o) (line_below at) (drop (suc i) lines)) (sym some) in
+    ap (first_bad above at) cut ∙ first_bad-cons above at line (drop (suc i) lines) may ∙ ap (λ o. first_bad (above ++ option_to_list o) (line_below at) (drop (suc i) lines)) (sym some) in
     let next_place : i + 1 ≡ suc i = omega arith in
     let after : drop (i + 1) lines ≡ drop (suc i) lines = ap (λ k. drop k lines) next_place in
     record {

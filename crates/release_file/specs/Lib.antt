@@ -3,3 +3,4 @@ pub mod Dates
 pub mod Entries
 pub mod Refused
 pub mod Release
+pub mod Listing

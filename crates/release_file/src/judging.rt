@@ -122,19 +122,24 @@ fn judge_age(date: i64, installed: Option<i64>) -> Result<(), DateError>
 fn end_of_validity(release: &Release, dates: &Dates) -> Option<i128>
     ensures { result ≡ valid_until release.now dates.now }
 {
-    capped(
-        release.date,
-        dates.max,
-        extended(release.date, dates.min, release.until),
-    )
+    let date = release.date;
+    let until = widened(release.until);
+    capped(date, dates.max, extended(date, dates.min, until))
+}
+
+/// The same moment in a type that has room for sums.
+fn widened(moment: Option<i64>) -> Option<i128>
+    ensures { result ≡ moment }
+{
+    Some(i128::from(moment?))
 }
 
 /// The given end, but not before `min` seconds from the date on have passed.
 #[tactic(auto, unfolding(crate::specs::Dates::at_least))]
-fn extended(date: i64, min: u64, until: Option<i64>) -> Option<i128>
+fn extended(date: i64, min: u64, until: Option<i128>) -> Option<i128>
     ensures { result ≡ at_least date min until }
 {
-    let until = i128::from(until?);
+    let until = until?;
     if min == 0 {
         return Some(until);
     }

@@ -1,6 +1,8 @@
-ghost use Rattle.std.specs.Prelude.{◌≡◌, ◌⊎◌, ◌∷◌, ◌++◌, Err, IfOk, OnOk, option_copied};
+ghost use Rattle.std.specs.Prelude.{◌≡◌, ◌≢◌, ◌⊎◌, ◌↔◌, ℕ, List, ◌∷◌, ◌++◌, Some, Err, IfOk, OnOk, Contains, AllPairs, option_copied};
 ghost use Rattle.std.specs.List.{join_with_byte};
-ghost use Rattle.release_file.specs.Release.{release_of, release_of_paragraphs, release_of_fields, date_of, date_of_lines, until_of, by_hash_of, is_yes, head_of, text_of};
+ghost use Rattle.acq_base.specs.declared.sum.Sum.{Sum};
+ghost use Rattle.release_file.specs.Listing.{entries_of};
+ghost use Rattle.release_file.specs.Release.{release_of, listed_sum, release_of_paragraphs, release_of_fields, date_of, date_of_lines, until_of, by_hash_of, is_yes, head_of, text_of};
 
 use crate::date::read_date;
 use crate::sums::read_files;
@@ -14,8 +16,20 @@ use std::alloc::Global;
 /// It is one paragraph of control text without comments. The fields Date and SHA256 must be there; Valid-Until,
 /// Acquire-By-Hash, Origin, Label, Suite and Codename may be; all others are read over. Of several refusals the first
 /// in the order of [`ReleaseError`] is answered, unless memory runs out.
-#[tactic(auto, unfolding(crate::specs::Release::release_of))]
 pub fn read_release(alloc: Global, bytes: &[u8]) -> Result<Release, ReleaseError>
+    ensures value { (result ≡ Err ReleaseError.NoMemory) ⊎ (result ≡ release_of bytes.now) }
+    // A path is listed with a sum exactly where a sum line says so.
+    ensures listed { IfOk result (λ release. (path : List ℕ) (sum : Sum) → (listed_sum release path ≡ Some sum)
+        ↔ Contains (entries_of bytes.now) (record { path = path; sum = sum })) }
+    // No path stands twice.
+    ensures distinct { IfOk result (λ release. AllPairs (λ a b. a.path ≢ b.path) release.files) }
+{
+    release_from(alloc, bytes)
+}
+
+/// The Release that the bytes are.
+#[tactic(auto, unfolding(crate::specs::Release::release_of))]
+fn release_from(alloc: Global, bytes: &[u8]) -> Result<Release, ReleaseError>
     ensures { (result ≡ Err ReleaseError.NoMemory) ⊎ (result ≡ release_of bytes.now) }
 {
     let paragraphs = read(alloc, bytes, false)?;

@@ -1,0 +1,198 @@
+-- A Release that is read lists a path with a sum exactly where a sum line says so, and no path twice.
+use Rattle.std.proofs.Common.{◌≡◌, ◌≢◌, ◌∙◌, ◌⊎◌, ◌↔◌, ◌==◌, ◌&&◌, ℕ, Bool, true, false, not, List, [], ◌∷◌, ◌++◌, codes, drop, filter, Option, Some, None, Result, Ok, Err, IfOk, All, refl, sym, ap, subst, inl, inr, arith, append_assoc, ⊎_elim, length}
+use Rattle.std.specs.Prelude.{option_to_list, if◌then◌else◌, Contains, AllPairs}
+use Rattle.std.specs.List.{filter_map, cons_option}
+use Rattle.std.specs.Cmp.Lexicographic.{bytes_decides}
+use Rattle.std.proofs.lemmas.Bool.{cases_Bool, and_parts, false≢true}
+use Rattle.std.proofs.lemmas.Bool.Decides.{nat_tests}
+use Rattle.std.proofs.lemmas.List.{append-nil}
+use Rattle.std.proofs.lemmas.List.Elements.{Contains-append_left, Contains-append_right, Contains-push, Contains-push_cases, filter_passes}
+use Rattle.std.proofs.lemmas.List.Kept.{AllPairs-cons, AllPairs-filter}
+use Rattle.acq_base.specs.declared.sum.Sum.{Sum}
+use Rattle.release_file.specs.DateText.{same_text}
+use Rattle.release_file.specs.Entries.{sum_beside}
+use Rattle.release_file.specs.Release.{listed_of_line, same_sum, sum_in, agrees, may_follow, line_below, first_bad, firsts, refused_at, files_of_lines, files_of_field, files_of, ◌>>=◌, date_of, until_of, release_of_fields, release_of_paragraphs, release_of_text, release_of, listed_sum}
+use Rattle.release_file.specs.Listing.{later_lines, sum_lines_of, sum_lines, entries_of}
+use Rattle.deb822_text.specs.Control.{paragraphs_of, field_named}
+use Rattle.deb822_text.specs.declared.error.TextError.{TextError}
+use Rattle.deb822_text.specs.declared.paragraph.Field.{Field}
+use Rattle.deb822_text.specs.declared.paragraph.Paragraph.{Paragraph}
+use Rattle.release_file.specs.declared.error.ReleaseError.TheVariants.{BadSums, NoMemory}
+use Rattle.release_file.specs.declared.release.Release.{Release}
+use Rattle.release_file.specs.declared.error.ReleaseError.{ReleaseError}
+use Rattle.release_file.specs.declared.release.Listed.{Listed}
+use Rattle.release_file.proofs.SumLines.{same_text-true, same_text-refl, keeps, sum_in-push}
+
+-- ---- sums by path
+
+same_sum-true : (a b : Sum) → same_sum a b ≡ true → a ≡ b
+same_sum-true a b h =
+    let parts = and_parts (a.size == b.size) (same_text a.sha.0 b.sha.0) h in
+    let size : a.size ≡ b.size = grind (arith, nat_tests) in
+    let sha = same_text-true a.sha.0 b.sha.0 parts.1 in
+    ap (λ n. record { size = n; sha = a.sha }) size ∙ ap (λ bytes. record { size = b.size; sha = record { 0 = bytes } }) sha
+
+-- a filter by another path keeps the sum of this one
+sum_in-filter : (first : Listed) (path : List ℕ) (files : List Listed) → same_text first.path path ≡ false → sum_in (filter (keeps first) files) path ≡ sum_in files path
+sum_in-filter first path [] other = refl
+sum_in-filter first path (file ∷ files) other =
+    elim (cases_Bool (same_text first.path file.path)) [
+      | inl is ↦
+          let same = same_text-true first.path file.path is in
+          let skipped : same_text file.path path ≡ false = ap (λ p. same_text p path) (sym same) ∙ other in
+          rw (is, skipped) (sum_in-filter first path files other)
+      | inr isnt ↦ rw isnt (ap (λ o. if same_text file.path path then Some file.sum else o) (sum_in-filter first path files other))
+    ]
+
+-- leaving out repeated paths keeps the sum of each
+sum_in-firsts : (entries : List Listed) (path : List ℕ) → sum_in (firsts entries) path ≡ sum_in entries path
+sum_in-firsts [] path = refl
+sum_in-firsts (entry ∷ entries) path =
+    elim (cases_Bool (same_text entry.path path)) [
+      | inl is ↦ rw is refl
+      | inr isnt ↦
+          let kept = sum_in-filter entry path (firsts entries) isnt in
+          rw isnt (kept ∙ sum_in-firsts entries path)
+    ]
+
+-- a path's sum is that of an entry
+sum_in-Contains : (entries : List Listed) (path : List ℕ) (sum : Sum) → sum_in entries path ≡ Some sum → Contains entries (record { path = path; sum = sum })
+sum_in-Contains [] path sum h = absurd (cc)
+sum_in-Contains (entry ∷ entries) path sum h =
+    elim (cases_Bool (same_text entry.path path)) [
+      | inl is ↦
+          let same : entry.path ≡ path = same_text-true entry.path path is in
+          let found : Some entry.sum ≡ Some sum = rw is at h in
+          let sum_is : entry.sum ≡ sum = cc in
+          subst (λ e. Contains (entry ∷ entries) e) (ap (λ p. record { path = p; sum = entry.sum }) same ∙ ap (λ s. record { path = path; sum = s }) sum_is) (Contains-append_left (entry ∷ []) entries entry (Contains-push [] entry))
+      | inr isnt ↦
+          let more : sum_in entries path ≡ Some sum = rw isnt at h in
+          Contains-append_right (entry ∷ []) entries (record { path = path; sum = sum }) (sum_in-Contains entries path sum more)
+    ]
+
+-- ---- no two entries contradict each other
+
+pub record IsConsistent (entries : List Listed) : Type 0 where
+  pub one : (path : List ℕ) (sum : Sum) → Contains entries (record { path = path; sum = sum }) → sum_in entries path ≡ Some sum
+
+agreed : (old : Option Sum) (entry : Listed) → agrees old entry.sum ≡ true → sum_beside old entry entry.path ≡ Some entry.sum
+agreed None entry h = rw same_text-refl refl
+agreed (Some sum) entry h = ap (λ s. Some s) (same_sum-true sum entry.sum h)
+
+consistent-push : (above : List Listed) (entry : Listed) → IsConsistent above → agrees (sum_in above entry.path) entry.sum ≡ true → IsConsistent (above ++ entry ∷ [])
+consistent-push above entry h agree = record {
+  one = λ path sum among.
+      sum_in-push above entry path ∙
+      ⊎_elim
+      (λ old. ap (λ o. sum_beside o entry path) (h.one path sum old))
+      (λ new. subst (λ e. sum_beside (sum_in above e.path) entry e.path ≡ Some e.sum) new (agreed (sum_in above entry.path) entry agree))
+      (Contains-push_cases above entry (record { path = path; sum = sum }) among);
+}
+
+-- a line that may stand there
+follows : (above : List Listed) (at : ℕ) (lines : List (List ℕ)) (read : Option Listed) → IsConsistent above → (if may_follow above read then first_bad (above ++ option_to_list read) (line_below at) lines else Some at) ≡ None → IsConsistent (above ++ option_to_list read) × (first_bad (above ++ option_to_list read) (line_below at) lines ≡ None)
+follows above at lines None h none = absurd (cc)
+follows above at lines (Some entry) h none =
+    elim (cases_Bool (agrees (sum_in above entry.path) entry.sum)) [
+      | inl is ↦ (consistent-push above entry h is, rw is at none)
+      | inr isnt ↦ let bad : Some at ≡ None = rw isnt at none in absurd (cc)
+    ]
+
+append-read : (above entries : List Listed) (read : Option Listed) → (above ++ option_to_list read) ++ entries ≡ above ++ cons_option read entries
+append-read above entries None = ap (λ t. t ++ entries) (append-nil above)
+append-read above entries (Some entry) = append_assoc above (entry ∷ []) entries
+
+-- so it is of lines that may all stand
+consistent-lines : (above : List Listed) (at : ℕ) (lines : List (List ℕ)) → IsConsistent above → first_bad above at lines ≡ None → IsConsistent (above ++ filter_map listed_of_line lines)
+consistent-lines above at [] h none = subst IsConsistent (sym (append-nil above)) h
+consistent-lines above at (line ∷ lines) h none =
+    let next = follows above at lines (listed_of_line line) h none in
+    subst IsConsistent (append-read above (filter_map listed_of_line lines) (listed_of_line line)) (consistent-lines (above ++ option_to_list (listed_of_line line)) (line_below at) lines next.0 next.1)
+
+consistent-nil : IsConsistent []
+consistent-nil = record { one = λ path sum among. absurd (omega (arith, among.1)) }
+
+-- ---- no path stands twice
+
+apart : (a b : List ℕ) → not (same_text a b) ≡ true → a ≢ b
+apart a b h e =
+    let same : same_text a b ≡ true = subst (λ t. same_text a t ≡ true) e (same_text-refl a) in
+    false≢true (rw same at h)
+
+distinct-firsts : (entries : List Listed) → AllPairs (λ a b. a.path ≢ b.path) (firsts entries)
+distinct-firsts [] = λ i j d below within same. absurd (omega arith)
+distinct-firsts (entry ∷ entries) =
+    AllPairs-cons (λ a b. a.path ≢ b.path) entry (filter (keeps entry) (firsts entries)) (λ k d within. apart entry.path _ (filter_passes (keeps entry) (firsts entries) k d within)) (AllPairs-filter (λ a b. a.path ≢ b.path) (keeps entry) (firsts entries) (distinct-firsts entries))
+
+-- ---- what a Release that is read lists
+
+pub record IsListing (lines : List (List ℕ)) (files : List Listed) : Type 0 where
+  pub given : (path : List ℕ) (sum : Sum) → (sum_in files path ≡ Some sum) ↔ Contains (filter_map listed_of_line lines) (record { path = path; sum = sum })
+  pub distinct : AllPairs (λ a b. a.path ≢ b.path) files
+
+listing : (lines : List (List ℕ)) (at : ℕ) → first_bad [] at lines ≡ None → IsListing lines (firsts (filter_map listed_of_line lines))
+listing lines at none =
+    let entries = filter_map listed_of_line lines in
+    let consistent = consistent-lines [] at lines consistent-nil none in
+    record {
+      given = λ path sum.
+          ((λ found. sum_in-Contains entries path sum (sym (sum_in-firsts entries path) ∙ found)), (λ among. sum_in-firsts entries path ∙ consistent.one path sum among));
+      distinct = distinct-firsts entries;
+    }
+
+listing-lines : (at : ℕ) (lines : List (List ℕ)) (files : List Listed) → files_of_lines at lines ≡ Ok files → IsListing lines files
+unfolding files_of_lines
+listing-lines at lines files e = by (first_bad [] at lines) refl e
+  where
+    by : (bad : Option ℕ) → first_bad [] at lines ≡ bad → refused_at bad (firsts (filter_map listed_of_line lines)) ≡ Ok files → IsListing lines files
+    by None none same = let files_are : firsts (filter_map listed_of_line lines) ≡ files = cc in subst (IsListing lines) files_are (listing lines at none)
+    by (Some line) some same = absurd (cc)
+
+listing-field : (lines : List (List ℕ)) (at : ℕ) (files : List Listed) → files_of_field lines at ≡ Ok files → IsListing (drop 1 lines) files
+unfolding files_of_field
+listing-field [] at files e = absurd (cc)
+listing-field (first ∷ lines) at files e =
+    elim (cases_Bool (length first == 0)) [
+      | inl is ↦ listing-lines (line_below at) lines files (rw is at e)
+      | inr isnt ↦ let bad : Err (BadSums at) ≡ Ok files = rw isnt at e in absurd (cc)
+    ]
+
+listing-files : (field : Option Field) (files : List Listed) → files_of field ≡ Ok files → IsListing (later_lines field) files
+unfolding files_of
+listing-files None files e = absurd (cc)
+listing-files (Some field) files e = listing-field field.lines field.at files e
+
+bind-IfOk : {A B : Type 0} (r : Result A ReleaseError) (f : A → Result B ReleaseError) (P : B → Type 0) → ((x : A) → r ≡ Ok x → IfOk (f x) P) → IfOk (r >>= f) P
+bind-IfOk (Ok x) f P h = h x refl
+bind-IfOk (Err e) f P h = tt
+
+listing-fields : (fields : List Field) → IfOk (release_of_fields fields) (λ release. IsListing (later_lines (field_named fields (codes "SHA256"))) release.files)
+unfolding release_of_fields
+listing-fields fields =
+    bind-IfOk (date_of (field_named fields (codes "Date"))) _ _ (λ date _.
+    bind-IfOk (until_of (field_named fields (codes "Valid-Until"))) _ _ (λ until _.
+    bind-IfOk (files_of (field_named fields (codes "SHA256"))) _ _ (λ files e. listing-files (field_named fields (codes "SHA256")) files e)))
+
+listing-text : (text : Result (List Paragraph) TextError) → IfOk (release_of_text text) (λ release. IsListing (sum_lines_of text) release.files)
+unfolding release_of_paragraphs
+listing-text (Err e) = tt
+listing-text (Ok []) = tt
+listing-text (Ok (paragraph ∷ [])) = listing-fields paragraph.fields
+listing-text (Ok (paragraph ∷ next ∷ more)) = tt
+
+listing-bytes : (bytes : List ℕ) → IfOk (release_of bytes) (λ release. IsListing (sum_lines bytes) release.files)
+unfolding release_of sum_lines
+listing-bytes bytes = listing-text (paragraphs_of bytes false)
+
+pub listing-read : (bytes : List ℕ) (r : Result Release ReleaseError) → (r ≡ Err NoMemory) ⊎ (r ≡ release_of bytes) → IfOk r (λ release. IsListing (sum_lines bytes) release.files)
+listing-read bytes r (inl e) = subst (λ r. IfOk r (λ release. IsListing (sum_lines bytes) release.files)) (sym e) tt
+listing-read bytes r (inr e) = subst (λ r. IfOk r (λ release. IsListing (sum_lines bytes) release.files)) (sym e) (listing-bytes bytes)
+
+pub listed-read : (bytes : List ℕ) (r : Result Release ReleaseError) → IfOk r (λ release. IsListing (sum_lines bytes) release.files) → IfOk r (λ release. (path : List ℕ) (sum : Sum) → (listed_sum release path ≡ Some sum) ↔ Contains (entries_of bytes) (record { path = path; sum = sum }))
+unfolding listed_sum
+listed-read bytes (Ok release) h = h.given
+listed-read bytes (Err e) h = tt
+
+pub distinct-read : (bytes : List ℕ) (r : Result Release ReleaseError) → IfOk r (λ release. IsListing (sum_lines bytes) release.files) → IfOk r (λ release. AllPairs (λ a b. a.path ≢ b.path) release.files)
+distinct-read bytes (Ok release) h = h.distinct
+distinct-read bytes (Err e) h = tt
