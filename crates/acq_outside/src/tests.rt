@@ -1,8 +1,13 @@
+ghost use Rattle.std.specs.Prelude.{◌≤◌, IfOk};
+ghost use Rattle.acq_base.specs.Uri.{IsSound};
+ghost use Rattle.acq_outside.specs.Disk.{IsName};
+ghost use Rattle.acq_outside.specs.MapMethod.{HasSoundAnswers};
+
 use crate::{
-    Clock, Disk, Etc, Fault, FixedClock, MOST_READ, MapMethod, MemDisk, MemEtc, MemSink, Method,
-    OutError, Place, Sink, is_name, read_whole, write_whole,
+    Clock, Disk, Etc, Fault, FixedClock, MapMethod, MemDisk, MemEtc, MemSink, Method, OutError,
+    Place, Sink, is_name, read_whole, write_whole,
 };
-use acq_base::{Answer, Bytes, Job, Mirror, NoMemory, Reply, Row, Scheme, Text, Uri};
+use acq_base::{Answer, Bytes, Job, Mirror, NoMemory, Reply, Row, Scheme, Text, TryCopy, Uri};
 use std::alloc::Global;
 use std::process::Abort;
 use std::test::Fail;
@@ -38,5 +43,197 @@ fn a_sink_keeps_what_its_successful_writes_wrote(rt: HostRuntime) -> Result<(), 
     assert_eq!(rt; three_writes(&mut sink), [Ok(()), Err(Fault), Ok(())]);
     assert_eq!(rt; sink.written().as_slice(), b"abd".as_slice());
     assert_eq!(rt; sink.dry(), 0);
+    Ok(())
+}
+
+/// `file:///LETTER`
+fn uri(alloc: Global, letter: u8) -> Result<Uri, NoMemory>
+    requires { (97 ≤ letter) × (letter ≤ 122) }
+    ensures { IfOk result IsSound }
+{
+    let mut path = Text::from_bytes(alloc, b"/")?;
+    path.push(letter)?;
+    Ok(Uri {
+        scheme: Scheme::File,
+        host: Text::new(alloc),
+        port: 0,
+        path,
+    })
+}
+
+fn mirror(alloc: Global) -> Result<Mirror, NoMemory>
+    ensures { IfOk result (λ mirror. HasSoundAnswers mirror.rows) }
+{
+    let mut rows = Row::new(alloc);
+    rows.push((uri(alloc, b'a')?, Answer::Served(bytes(alloc, b"abc")?)))?;
+    rows.push((uri(alloc, b'b')?, Answer::Moved(None)))?;
+    rows.push((uri(alloc, b'c')?, Answer::Absent(410)))?;
+    Ok(Mirror { rows })
+}
+
+fn fetched<M: Method>(
+    alloc: Global,
+    method: &mut M,
+    letter: u8,
+    max: u64,
+) -> Result<Reply, NoMemory>
+    requires { (97 ≤ letter) × (letter ≤ 122) }
+{
+    let job = Job {
+        no: 0,
+        uri: uri(alloc, letter)?,
+        max,
+        from: 0,
+    };
+    Ok(method.fetch(alloc, &job))
+}
+
+#[test]
+fn a_method_answers_as_its_mirror_within_the_limit(rt: HostRuntime) -> Result<(), Fail> {
+    let alloc = rt.alloc();
+    let mut method = MapMethod::new(mirror(alloc)?, only(alloc, 3)?);
+    let table = [
+        (b'a', 3, Reply::Served(bytes(alloc, b"abc")?)),
+        (b'a', 2, Reply::TooBig),
+        (
+            b'a',
+            3,
+            Reply::Fault {
+                before: 0,
+                after: 1,
+            },
+        ),
+        (b'b', 3, Reply::Moved(None)),
+        (b'c', 3, Reply::Absent(410)),
+        (b'd', 3, Reply::Absent(404)),
+    ];
+    for (letter, max, reply) in table {
+        assert!(rt; b'a' <= letter && letter <= b'z');
+        assert_eq!(rt; fetched(alloc, &mut method, letter, max)?, reply);
+    }
+    assert_eq!(rt; method.faults(), 1);
+    Ok(())
+}
+
+fn names<E: Etc>(alloc: Global, etc: &mut E, place: Place) -> Result<Row<Text>, OutError> {
+    etc.names(alloc, place)
+}
+
+fn content<E: Etc>(
+    alloc: Global,
+    etc: &mut E,
+    place: Place,
+    name: &Text,
+) -> Result<Option<Bytes>, OutError> {
+    etc.read(alloc, place, name)
+}
+
+#[test]
+fn a_folder_gives_its_names_and_files(rt: HostRuntime) -> Result<(), Fail> {
+    let alloc = rt.alloc();
+    let one = Text::from_bytes(alloc, b"a.list")?;
+    let two = Text::from_bytes(alloc, b"b.sources")?;
+    let empty = Text::new(alloc);
+    let mut files = Row::new(alloc);
+    files.push((
+        Place::SourcesList,
+        empty.copy(alloc)?,
+        bytes(alloc, b"deb")?,
+    ))?;
+    files.push((Place::SourcesParts, one.copy(alloc)?, bytes(alloc, b"1")?))?;
+    files.push((Place::SourcesParts, two.copy(alloc)?, bytes(alloc, b"2")?))?;
+    assert!(rt; MemEtc::takes(&files));
+    let mut etc = MemEtc::new(files, only(alloc, 3)?);
+    let found = names(alloc, &mut etc, Place::SourcesParts)?;
+    assert_eq!(rt; found.len(), 2);
+    assert_eq!(rt; names(alloc, &mut etc, Place::SourcesList)?.len(), 0);
+    assert_eq!(rt;
+        content(alloc, &mut etc, Place::SourcesParts, &two),
+        Err(OutError::Fault)
+    );
+    assert_eq!(rt;
+        content(alloc, &mut etc, Place::SourcesParts, &two)?,
+        Some(bytes(alloc, b"2")?)
+    );
+    assert_eq!(rt;
+        content(alloc, &mut etc, Place::SourcesList, &empty)?,
+        Some(bytes(alloc, b"deb")?)
+    );
+    assert_eq!(rt; content(alloc, &mut etc, Place::ConfParts, &one)?, None);
+    Ok(())
+}
+
+const LIST: &[u8] = b"a_list";
+
+const PARTIAL: &[u8] = b"partial/a_list";
+
+/// Writes behind the file's last byte.
+#[tactic(auto, using(crate::proofs::Files::sized))]
+fn append<D: Disk>(disk: &mut D, name: &[u8], bytes: &[u8]) -> Result<(), Fault>
+    requires { IsName name.now }
+{
+    if let Some(len) = disk.size(name)? {
+        disk.write_at(name, len, bytes)?;
+    }
+    Ok(())
+}
+
+/// A list on its way is written, read in pieces, moved to its place and removed again.
+fn story<D: Disk>(rt: &impl Abort, alloc: Global, disk: &mut D) -> Result<(), Fail> {
+    assert!(rt; is_name(LIST));
+    assert!(rt; is_name(PARTIAL));
+    write_whole(disk, PARTIAL, b"abc")?;
+    append(disk, PARTIAL, b"de")?;
+    disk.sync(PARTIAL)?;
+    let mut piece = [0u8; 3];
+    assert_eq!(rt; disk.read_at(PARTIAL, 1, &mut piece)?, 3);
+    assert_eq!(rt; piece, *b"bcd");
+    assert_eq!(rt; disk.read_at(PARTIAL, 4, &mut piece)?, 1);
+    assert_eq!(rt; piece, *b"ecd");
+    assert_eq!(rt; disk.read_at(PARTIAL, 5, &mut piece)?, 0);
+    disk.rename(PARTIAL, LIST)?;
+    disk.sync_names()?;
+    assert_eq!(rt; disk.size(PARTIAL)?, None);
+    assert_eq!(rt; disk.size(LIST)?, Some(5));
+    disk.cut(LIST, 0)?;
+    assert_eq!(rt; read_whole(alloc, disk, LIST)?, Some(bytes(alloc, b"")?));
+    write_whole(disk, PARTIAL, b"x")?;
+    let names = disk.names(alloc)?;
+    assert_eq!(rt; names.len(), 2);
+    assert_eq!(rt; names.as_slice()[0].as_bytes(), LIST);
+    assert_eq!(rt; names.as_slice()[1].as_bytes(), PARTIAL);
+    disk.remove(LIST)?;
+    disk.remove(LIST)?;
+    assert_eq!(rt; read_whole(alloc, disk, LIST)?, None);
+    Ok(())
+}
+
+#[test]
+fn a_disk_holds_what_its_calls_made(rt: HostRuntime) -> Result<(), Fail> {
+    let alloc = rt.alloc();
+    let mut disk = MemDisk::new(alloc, Row::new(alloc), false, Row::new(alloc))?;
+    story(&rt, alloc, &mut disk)
+}
+
+#[test]
+fn a_listed_call_of_a_disk_fails_and_changes_nothing(rt: HostRuntime) -> Result<(), Fail> {
+    let alloc = rt.alloc();
+    assert!(rt; is_name(LIST));
+    let mut files = Row::new(alloc);
+    files.push((Text::from_bytes(alloc, LIST)?, bytes(alloc, b"old")?))?;
+    assert!(rt; MemDisk::takes(&files));
+    let mut disk = MemDisk::new(alloc, files, false, only(alloc, 2)?)?;
+    assert_eq!(rt; disk.size(LIST), Ok(Some(3)));
+    assert_eq!(rt; write_whole(&mut disk, LIST, b"new"), Err(Fault));
+    assert_eq!(rt;
+        read_whole(alloc, &mut disk, LIST)?,
+        Some(bytes(alloc, b"old")?)
+    );
+    write_whole(&mut disk, LIST, b"new")?;
+    assert_eq!(rt;
+        read_whole(alloc, &mut disk, LIST)?,
+        Some(bytes(alloc, b"new")?)
+    );
+    assert_eq!(rt; disk.dry(), 0);
     Ok(())
 }
