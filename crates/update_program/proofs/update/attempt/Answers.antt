@@ -1,0 +1,13 @@
+-- A run that came to its outcome either told it or wanted memory to.
+use Rattle.std.proofs.Common.{inl, inr}
+use Rattle.std.proofs.lemmas.Int.{to_z-of_z}
+use Rattle.update_program.specs.Run.{IsRun}
+use Rattle.update_program.proofs.update.attempt.Goals as goal
+
+pub returns-in-Ok-clause-ended : goal.returns-in-Ok-clause-ended
+returns-in-Ok-clause-ended g c =
+    let ran = simp (to_z-of_z, c.ranges.now) at c.in-Ok.ensures.ran in
+    elim c.tell.ensures.told [
+      inl said ↦ inl (record { outcome = c.in-Ok.outcome; run = ran; said = said })
+    | inr said ↦ inr (inr said)
+    ]

@@ -1,0 +1,7 @@
+pub mod Words
+pub mod Request
+pub mod Outcome
+pub mod Heard
+pub mod Lines
+pub mod Files
+pub mod Run
