@@ -27,5 +27,7 @@ mod refusal;
 mod row;
 mod settings;
 mod sum;
+#[cfg(test)]
+mod tests;
 mod text;
 mod uri;
