@@ -5,6 +5,7 @@ use std::alloc::Global;
 
 /// A value that can be copied where memory allows.
 pub trait TryCopy: Sized {
+    /// An equal value with memory of its own.
     fn copy(&self, alloc: Global) -> Result<Self, NoMemory>
         ensures { IfOk result (λ copy. copy ≡ self.now) };
 }

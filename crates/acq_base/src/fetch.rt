@@ -1,22 +1,26 @@
 use crate::{Bytes, NoMemory, Row, TryCopy, Uri};
 use std::alloc::Global;
 
-/// One fetch for a worker: at most `max` bytes of what the URI names, its bytes before `from` left out.
+/// One fetch for a worker. Its URI is sound.
 #[derive(Debug, PartialEq, Drop)]
 pub struct Job {
+    /// The number of the item that asks. An item has one job out at a time.
     pub no: u64,
     pub uri: Uri,
+    /// The most bytes that the whole file may have.
     pub max: u64,
+    /// How many bytes at the file's front are left out of the answer.
     pub from: u64,
 }
 
 /// What a mirror has under a URI: a file, another place, or a refusal with its HTTP status (RFC 9110, section 15).
-///
-/// `Moved(None)` is a place that is no URI of this profile.
 #[derive(Debug, PartialEq, Drop)]
 pub enum Answer {
+    /// The file's bytes.
     Served(Bytes),
+    /// The place to ask instead, or `None` where that is no URI of this profile.
     Moved(Option<Uri>),
+    /// The status of the refusal.
     Absent(u16),
 }
 
@@ -29,8 +33,11 @@ pub struct Mirror {
 /// What a method answers to a job.
 #[derive(Debug, PartialEq, Drop)]
 pub enum Reply {
+    /// The file's bytes.
     Served(Bytes),
+    /// The place to ask instead, or `None` where that is no URI of this profile.
     Moved(Option<Uri>),
+    /// The status of the refusal.
     Absent(u16),
     /// More bytes than the job allows.
     TooBig,
@@ -38,6 +45,7 @@ pub enum Reply {
     Garbled(u64),
     /// The method failed, and its count of faults rose from `before` to `after`.
     Fault { before: u64, after: u64 },
+    /// Memory ran out.
     NoMemory,
 }
 

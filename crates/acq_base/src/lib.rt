@@ -2,6 +2,10 @@
 //!
 //! Contracts see a `Text` as the list of its bytes and a `Row` as the list of its cells, so a struct of them reads as
 //! plain data. What takes memory is handed an allocator and may answer `NoMemory`.
+//!
+//! The definitions that the contracts of all layers cite stand in specs/: `Sum` has a file's sum and the texts of one,
+//! `Uri` a URI's text, its list name and what makes it sound, `Plan` and `Fetch` what makes plans, mirrors and replies
+//! sound, `Words` blanks and words.
 #![tactic(auto)]
 
 pub use blank::{is_blank, listed_words, trim_blanks, trim_blanks_end, trim_blanks_start, words};

@@ -4,16 +4,20 @@ use std::alloc::Global;
 /// What an index lists: binary packages of an architecture, source packages, or descriptions in a language.
 #[derive(Debug, PartialEq, Drop)]
 pub enum Kind {
+    /// The architecture.
     Packages(Text),
     Sources,
+    /// The language.
     Translation(Text),
 }
 
-/// One list that the configuration plans for a source. The path is below the folder of the source's Release.
+/// One list that the configuration plans for a source.
 #[derive(Debug, PartialEq, Drop)]
 pub struct Target {
+    /// Where it is below the folder of the source's Release, as the Release lists it.
     pub path: Text,
     pub uri: Uri,
+    /// The list name of the URI.
     pub name: ListName,
     pub kind: Kind,
 }
@@ -30,15 +34,21 @@ pub enum ByHash {
 #[derive(Debug, PartialEq, Drop)]
 pub struct Source {
     pub base: Uri,
+    /// The suite, or an exact path that ends in `/`.
     pub suite: Text,
     pub release: Uri,
+    /// The list name of the Release's URI.
     pub release_name: ListName,
     pub by_hash: ByHash,
+    /// Whether an installed list may be brought up to date by patches.
     pub pdiffs: bool,
+    /// In the order in which they are planned.
     pub targets: Row<Target>,
 }
 
 /// All sources that a configuration names, in the order in which it first names them.
+///
+/// A sound plan has at most 4,096 sources and targets together, under distinct names of at most 240 bytes.
 #[derive(Debug, PartialEq, Drop)]
 pub struct Plan {
     pub sources: Row<Source>,

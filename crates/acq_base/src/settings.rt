@@ -23,14 +23,19 @@ pub struct Pick {
 /// The settings of apt.conf(5) that take effect.
 #[derive(Debug, PartialEq, Drop)]
 pub struct Settings {
+    /// The architecture of this system.
     pub arch: Text,
+    /// The architectures whose lists are wanted where a source names none.
     pub archs: Row<Text>,
+    /// The languages whose translations are wanted.
     pub langs: Row<Text>,
     pub pick: Pick,
     pub dates: Dates,
     /// How often a failed fetch is tried again, 0 to 10.
     pub retries: u32,
+    /// What holds of a source that says nothing of it.
     pub by_hash: ByHash,
+    /// The same for patches of lists.
     pub pdiffs: bool,
     /// The most patches for one list, 0 for no limit.
     pub file_limit: u32,

@@ -11,7 +11,8 @@ pub enum Scheme {
 /// A URI of this profile, in parts (RFC 3986).
 ///
 /// For `File` the host is empty and the port is 0. The path is what an origin-form request sends (RFC 9112, section
-/// 3.2.1), with a query where a redirect gave one.
+/// 3.2.1), with a query where a redirect gave one. The readers give sound URIs, on which every call that takes one may
+/// rely.
 #[derive(Debug, Drop)]
 pub struct Uri {
     pub scheme: Scheme,

@@ -1,6 +1,6 @@
 -- Reading what was written gives the paragraphs again.
-use Rattle.std.proofs.Common.{◌≡◌, ℕ, ◌+◌, Bool, true, false, cond, not, List, [], ◌∷◌, ◌++◌, ◌&&◌, ◌||◌, map, is_some, Option, Some, None, Result, Ok, Err, refl, sym, ap, subst, ◌∙◌, append_assoc}
-use Rattle.std.specs.List.{list_all, list_any, flat_map}
+use Rattle.std.proofs.Common.{◌≡◌, ℕ, ◌+◌, Bool, true, false, cond, not, List, [], ◌∷◌, ◌++◌, ◌&&◌, ◌||◌, map, is_some, Option, Some, None, Ok, refl, sym, ap, subst, ◌∙◌, append_assoc}
+use Rattle.std.specs.List.{list_all, flat_map}
 use Rattle.std.specs.Str.Lines.{lines as text_lines}
 use Rattle.std.specs.Str.{str_eq_ignore_ascii_case, str_to_ascii_lowercase}
 use Rattle.std.specs.Prelude.{bytes_eq}
@@ -11,8 +11,8 @@ use Rattle.std.proofs.lemmas.List.Folds.{list_any-append}
 use Rattle.deb822_text.specs.declared.paragraph.Field.{Field}
 use Rattle.deb822_text.specs.declared.paragraph.Paragraph.{Paragraph}
 use Rattle.deb822_text.specs.Control.{Line, Separator, Continuation, Named, is_empty, is_name, has_name, field_named, line_of, lines_from, lines_of, paragraphs_of}
-use Rattle.deb822_text.specs.Scan.{State, start, names_of, closed, fault_at, step, scan}
-use Rattle.deb822_text.specs.Written.{is_line_character, is_first_line, is_later_line, are_field_lines, is_writable_field, are_distinct, is_writable_paragraph, is_writable, first_line_text, later_line_text, lines_text, field_text, paragraph_text, next_paragraph_text, text_of, unplaced_field, unplaced_paragraph, unplaced, ReadsAs}
+use Rattle.deb822_text.specs.Scan.{State, start, names_of, fault_at, step, scan}
+use Rattle.deb822_text.specs.Written.{is_line_character, is_first_line, is_later_line, are_field_lines, is_writable_field, are_distinct, is_writable_paragraph, is_writable, first_line_text, later_line_text, lines_text, field_text, paragraph_text, next_paragraph_text, text_of, unplaced_field, unplaced, ReadsAs}
 use Rattle.deb822_text.proofs.Steps.{is_empty-push, add_line-push, names_of-push}
 use Rattle.deb822_text.proofs.Groups.{scan-start}
 use Rattle.deb822_text.proofs.Plain.{lines_plain, line_of-later, later_plain, line_of-name, behind_colon, first_text, trimmed-behind, header_plain}

@@ -1,8 +1,8 @@
 -- Where a text is cut: at the end of its first line, and at its first colon.
-use Rattle.std.proofs.Common.{◌≡◌, ℕ, suc, ◌+◌, ◌-◌, ◌<◌, ◌≤◌, Bool, true, false, cond, not, nat_eq, nat_lt, eqb, List, [], ◌∷◌, ◌++◌, length, get_or, take, drop, reverse, ◌||◌, refl, sym, ap, ◌∙◌, arith}
-use Rattle.std.specs.List.{slice_split, position_or_len, list_any, before_first, after_first, onto_first}
+use Rattle.std.proofs.Common.{◌≡◌, ℕ, suc, ◌+◌, ◌<◌, ◌≤◌, Bool, true, false, cond, not, nat_eq, List, [], ◌∷◌, length, get_or, take, drop, ◌||◌, refl, sym, ap, ◌∙◌, arith}
+use Rattle.std.specs.List.{slice_split, position_or_len, list_any, onto_first}
 use Rattle.std.specs.Str.Lines.{lines as text_lines, lines_of_parts, strip_carriage_return}
-use Rattle.std.proofs.lemmas.List.{take_more, take_all, drop_all, drop-drop, reverse-append, reverse-reverse, length-drop, length-append}
+use Rattle.std.proofs.lemmas.List.{take_all, drop_all, drop-drop}
 use Rattle.std.proofs.lemmas.Bool.{ne_eqb}
 use Rattle.std.proofs.lemmas.List.Splits.{slice_split_first}
 use Rattle.deb822_text.specs.Control.{is_colon, begins_with, Unknown, field_line, named_line}

@@ -1,17 +1,16 @@
 -- A scan is refused at the first line that no reading allows, in terms of all lines before it.
-use Rattle.std.proofs.Common.{◌≡◌, ℕ, suc, ◌+◌, ◌-◌, ◌≤◌, Bool, true, false, cond, not, nat_eq, List, [], ◌∷◌, ◌++◌, length, drop, reverse, map, Option, Some, None, Result, Ok, Err, ◌⊎◌, inl, inr, refl, sym, ap, subst, ◌∙◌, append_assoc, arith}
+use Rattle.std.proofs.Common.{◌≡◌, ℕ, ◌+◌, ◌-◌, Bool, true, false, cond, not, List, [], ◌∷◌, ◌++◌, length, drop, reverse, Option, Some, None, Result, Ok, Err, ◌⊎◌, inl, inr, refl, sym, ap, subst, ◌∙◌, append_assoc, arith}
 use Rattle.std.specs.Prelude.{Any, OnOk, IfErr}
-use Rattle.std.specs.List.{after_last, suffix_len, prefix_len, list_any}
+use Rattle.std.specs.List.{after_last, suffix_len, prefix_len}
 use Rattle.std.specs.Cmp.Lexicographic.{bytes_decides}
 use Rattle.std.specs.Str.{str_eq_ignore_ascii_case, str_to_ascii_lowercase}
-use Rattle.std.proofs.lemmas.Bool.{cases_Bool, false≢true}
+use Rattle.std.proofs.lemmas.Bool.{false≢true}
 use Rattle.std.proofs.lemmas.List.{append-nil, drop_all, drop-append-le, reverse-append, length-append}
 use Rattle.std.proofs.lemmas.List.Folds.{Any-from_list_any, list_any-from_Any}
-use Rattle.std.proofs.lemmas.List.Sums.{suffix_len-le-length}
 use Rattle.deb822_text.specs.declared.paragraph.Field.{Field}
 use Rattle.deb822_text.specs.declared.paragraph.Paragraph.{Paragraph}
 use Rattle.deb822_text.specs.declared.error.TextError.{TextError}
-use Rattle.deb822_text.specs.declared.error.TextError.TheVariants.{BadField, Twice, Loose, NoMemory}
+use Rattle.deb822_text.specs.declared.error.TextError.TheVariants.{Twice, Loose, NoMemory}
 use Rattle.deb822_text.specs.Control.{Line, Separator, Comment, Continuation, Named, Unknown, is_empty, is_separator, names_in, has_name}
 use Rattle.deb822_text.specs.Refused.{names_behind, IsSameName, IsFault, AreAllowed, IsFirstFault}
 use Rattle.deb822_text.specs.Scan.{State, start, add_line, names_of, fault_at, step, unless, scan}

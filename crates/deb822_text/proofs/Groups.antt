@@ -1,12 +1,12 @@
 -- A scan of lines reads the groups between separators, and stops at the first fault of the first group that has one.
-use Rattle.std.proofs.Common.{◌≡◌, ℕ, Bool, true, false, cond, not, List, [], ◌∷◌, ◌++◌, map, filter, Option, Some, None, Result, Ok, Err, refl, sym, ap, ◌∙◌, append_assoc}
-use Rattle.std.specs.List.{slice_split, onto_first}
+use Rattle.std.proofs.Common.{◌≡◌, ℕ, Bool, cond, List, [], ◌∷◌, ◌++◌, Option, Some, None, Result, Ok, refl, sym, ap, ◌∙◌, append_assoc}
+use Rattle.std.specs.List.{onto_first}
 use Rattle.std.proofs.lemmas.List.{append-nil}
 use Rattle.deb822_text.specs.declared.paragraph.Field.{Field}
 use Rattle.deb822_text.specs.declared.paragraph.Paragraph.{Paragraph}
 use Rattle.deb822_text.specs.declared.error.TextError.{TextError}
 use Rattle.deb822_text.specs.declared.error.TextError.TheVariants.{Twice, Loose}
-use Rattle.deb822_text.specs.Control.{Line, Separator, Comment, Continuation, Named, Unknown, is_empty, groups_of, continued, fields_of, paragraph_of, paragraphs_in, names_in, has_name, line_fault, or_else, fault_behind, first_fault, refused_or, reading_of}
+use Rattle.deb822_text.specs.Control.{Line, Separator, Comment, Continuation, Named, Unknown, is_empty, groups_of, continued, fields_of, paragraphs_in, names_in, has_name, line_fault, or_else, fault_behind, first_fault, refused_or, reading_of}
 use Rattle.deb822_text.specs.Scan.{State, start, add_line, names_of, closed, fault_at, step, unless, scan}
 
 -- ---- the fields of a group that goes on

@@ -1,5 +1,5 @@
 -- Names without regard to ASCII case: looked up in a list, and kept in a set.
-use Rattle.std.proofs.Common.{◌≡◌, ℕ, suc, length, arith, Bool, true, false, cond, not, nat_eq, List, [], ◌∷◌, ◌++◌, ◌||◌, map, is_some, Option, Some, None, option_copied, Bor, find, refl, sym, ap, ◌∙◌}
+use Rattle.std.proofs.Common.{◌≡◌, ℕ, suc, length, arith, Bool, true, false, cond, not, nat_eq, List, [], ◌∷◌, ◌++◌, ◌||◌, map, is_some, Option, Some, None, option_copied, Bor, refl, sym, ap, ◌∙◌}
 use Rattle.std.specs.List.{list_any}
 use Rattle.std.specs.Ordering.{nat_cmp}
 use Rattle.std.specs.Cmp.Lexicographic.{slice_cmp, pointwise}

@@ -1,12 +1,12 @@
 -- Going line by line: what the rest of a scan is after a step, where it stops, and at its end.
-use Rattle.std.proofs.Common.{◌≡◌, ℕ, ◌+◌, ◌<◌, Bool, List, [], ◌∷◌, length, Option, Some, None, Result, Ok, Err, ◌⊎◌, inl, inr, refl, sym, ap, ◌∙◌, arith}
+use Rattle.std.proofs.Common.{◌≡◌, ℕ, ◌+◌, Bool, List, [], ◌∷◌, length, Some, None, Result, Ok, Err, ◌⊎◌, inl, inr, refl, sym, ap, ◌∙◌}
 use Rattle.std.specs.Str.Lines.{lines as text_lines}
 use Rattle.std.proofs.lemmas.List.{nil_from_length}
 use Rattle.deb822_text.specs.declared.paragraph.Paragraph.{Paragraph}
 use Rattle.deb822_text.specs.declared.error.TextError.{TextError}
 use Rattle.deb822_text.specs.declared.error.TextError.TheVariants.{NoMemory}
 use Rattle.deb822_text.specs.Control.{Line, line_of, lines_from}
-use Rattle.deb822_text.specs.Scan.{State, fault_at, step, scan, closed, unless}
+use Rattle.deb822_text.specs.Scan.{State, fault_at, step, scan, closed}
 
 abbrev pub refused : TextError → Result (List Paragraph) TextError
 refused fault = Err fault

@@ -1,5 +1,5 @@
 -- Which line of a control text no reading allows (Debian Policy, section 5.1), in terms of all lines before it.
-use Rattle.std.specs.Prelude.{◌≡◌, ℕ, List, [], ◌∷◌, ◌++◌, map, Any}
+use Rattle.std.specs.Prelude.{◌≡◌, ℕ, List, [], ◌∷◌, ◌++◌, Any}
 use Rattle.std.specs.List.{after_last}
 use Rattle.std.specs.Str.{str_to_ascii_lowercase}
 use Rattle.deb822_text.specs.declared.error.TextError.{TextError}

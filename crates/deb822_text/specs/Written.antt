@@ -1,10 +1,9 @@
 -- How control text is written (Debian Policy, section 5.1), and which paragraphs can be.
-use Rattle.std.specs.Prelude.{◌≡◌, ℕ, ◌==◌, ◌||◌, ◌&&◌, not, Bool, true, false, if◌then◌else◌, List, [], ◌∷◌, ◌++◌, map, reverse, is_some, Result, Ok}
+use Rattle.std.specs.Prelude.{◌≡◌, ℕ, ◌==◌, ◌||◌, ◌&&◌, not, Bool, true, false, if◌then◌else◌, List, [], ◌∷◌, ◌++◌, map, reverse, is_some, Ok}
 use Rattle.std.specs.List.{list_all, flat_map}
 use Rattle.acq_base.specs.Words.{is_blank}
 use Rattle.deb822_text.specs.declared.paragraph.Field.{Field}
 use Rattle.deb822_text.specs.declared.paragraph.Paragraph.{Paragraph}
-use Rattle.deb822_text.specs.declared.error.TextError.{TextError}
 use Rattle.deb822_text.specs.Control.{is_empty, begins_with, is_name, field_named, paragraphs_of}
 
 -- ---- what can be written

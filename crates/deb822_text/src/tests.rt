@@ -1,5 +1,5 @@
 use super::*;
-use acq_base::Refusal;
+use acq_base::{NoMemory, Refusal, Row, Text};
 use std::test::*;
 
 /// The refusal that a text has with comments off and on, as its number and line, or the number of its paragraphs.
@@ -73,7 +73,9 @@ fn lines_of_a_field(rt: HostRuntime) -> Result<(), Fail> {
         let paragraphs = read(rt.alloc(), text, false)
             .ok()
             .ok_or("it is control text")?;
-        let field = find(&paragraphs.as_slice()[0], b"a").ok_or("the field is there")?;
+        let paragraph = paragraphs.as_slice().first().ok_or("a paragraph is there")?;
+        let field = find(paragraph, b"a").ok_or("the field is there")?;
+        assert!(rt; find(paragraph, b"AA").is_none());
         assert_eq!(rt; field.at, 1);
         assert_eq!(rt; field.lines.len(), lines.len(), "at {text:?}");
         for (line, wanted) in field.lines.as_slice().iter().zip(lines) {
@@ -81,4 +83,122 @@ fn lines_of_a_field(rt: HostRuntime) -> Result<(), Fail> {
         }
     }
     Ok(())
+}
+
+/// Texts in the written form: small ones, and pieces of a Packages list and of dpkg's status.
+const WRITTEN: [&[u8]; 5] = [
+    b"",
+    b"A: 1\n b\n\nC: 2\n",
+    b"A:\n  b\n .\nB:\n\nA: #\n",
+    b"Package: 0ad
+Version: 0.0.26-3
+Installed-Size: 28591
+Maintainer: Debian Games Team <pkg-games-devel@lists.alioth.debian.org>
+Architecture: amd64
+Depends: 0ad-data (>= 0.0.26), 0ad-data (<= 0.0.26-3), libc6 (>= 2.34), libgcc-s1 (>= 3.4)
+Pre-Depends: dpkg (>= 1.15.6~)
+Description: Real-time strategy game of ancient warfare
+Homepage: https://play0ad.com/
+Description-md5: d943033bedada21853d2ae54a2578a7b
+Tag: game::strategy, implemented-in::c++, interface::graphical, interface::x11,
+ role::program, uitoolkit::sdl, uitoolkit::wxwidgets, use::gameplaying,
+ x11::application
+Section: games
+Priority: optional
+Filename: pool/main/0/0ad/0ad_0.0.26-3_amd64.deb
+Size: 7891488
+SHA256: 3a2118df47bf3f04285649f0455c2fc6fe2dc7f0b237073038aa00af41f0d5f2
+
+Package: zziplib-bin
+Source: zziplib
+Version: 0.13.72+dfsg.1-1.1
+Architecture: amd64
+Filename: pool/main/z/zziplib/zziplib-bin_0.13.72+dfsg.1-1.1_amd64.deb
+Size: 11676
+SHA256: 5a5cbd2a1bd2ba1c3d2e46eb1d4f7e5a5e1f1d0b2d6a3b8c9d0e1f2a3b4c5d6e
+",
+    b"Package: base-files
+Essential: yes
+Status: install ok installed
+Conffiles:
+ /etc/debian_version 8a0eb42b5cd9b2e9c1e6e6b2a1a8d9d1
+ /etc/issue f2bf18e4f9a5d3f8a3b2c1d0e9f8a7b6
+Description: Debian base system miscellaneous files
+ This package contains the basic filesystem hierarchy of a Debian system, and
+ several important miscellaneous files, such as /etc/debian_version.
+ .
+   * One more, which keeps its blanks in front
+",
+];
+
+#[test]
+fn written_again(rt: HostRuntime) -> Result<(), Fail> {
+    for text in WRITTEN {
+        let paragraphs = read(rt.alloc(), text, true)
+            .ok()
+            .ok_or("it is control text")?;
+        if !writable(&paragraphs) {
+            return Err(Fail::from("what was read can be written"));
+        }
+        let again = write(rt.alloc(), &paragraphs)
+            .ok()
+            .ok_or("memory is there")?;
+        assert_eq!(rt; again.as_slice(), text);
+    }
+    Ok(())
+}
+
+/// A paragraph's fields as names and lines, and whether it can be written.
+const JUDGED: [(&[(&[u8], &[&[u8]])], bool); 22] = [
+    (&[(b"A", &[b"1"])], true),
+    (&[(b"A~!-#", &[b"", b" b", b".c"])], true),
+    (&[(b"A", &[b"1"]), (b"B", &[b"1"])], true),
+    (&[(b"A", &[b"1"]), (b"B", &[b"1"]), (b"a", &[b"2"])], false),
+    (&[], false),
+    (&[(b"A", &[])], false),
+    (&[(b"", &[b"1"])], false),
+    (&[(b"#A", &[b"1"])], false),
+    (&[(b"-A", &[b"1"])], false),
+    (&[(b"A:", &[b"1"])], false),
+    (&[(b"A b", &[b"1"])], false),
+    (&[(b"A\x7f", &[b"1"])], false),
+    (&[(b"A", &[b" 1"])], false),
+    (&[(b"A", &[b"1\t"])], false),
+    (&[(b"A", &[b"\t"])], false),
+    (&[(b"A", &[b"1\n"])], false),
+    (&[(b"A", &[b"\r1"])], false),
+    (&[(b"A", &[b"1", b""])], false),
+    (&[(b"A", &[b"1", b" \t"])], false),
+    (&[(b"A", &[b"1", b"b "])], false),
+    (&[(b"A", &[b"1", b"b\nc"])], false),
+    (&[(b"A", &[b"1", b"b\rc"])], false),
+];
+
+fn field(rt: &HostRuntime, name: &[u8], lines: &[&[u8]]) -> Result<Field, NoMemory> {
+    let mut texts = Row::new(rt.alloc());
+    for line in lines {
+        texts.push(Text::from_bytes(rt.alloc(), line)?)?;
+    }
+    Ok(Field {
+        name: Text::from_bytes(rt.alloc(), name)?,
+        lines: texts,
+        at: 0,
+    })
+}
+
+fn judged(rt: &HostRuntime, parts: &[(&[u8], &[&[u8]])]) -> Result<bool, NoMemory> {
+    let mut fields = Row::new(rt.alloc());
+    for (name, lines) in parts {
+        fields.push(field(rt, name, lines)?)?;
+    }
+    let mut paragraphs = Row::new(rt.alloc());
+    paragraphs.push(Paragraph { fields })?;
+    Ok(writable(&paragraphs))
+}
+
+#[test]
+fn what_can_be_written(rt: HostRuntime) {
+    for (parts, wanted) in JUDGED {
+        assert_eq!(rt; judged(&rt, parts).ok(), Some(wanted));
+    }
 }

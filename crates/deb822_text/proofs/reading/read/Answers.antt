@@ -1,4 +1,4 @@
-use Rattle.std.proofs.Common.{◌≡◌, ◌⊎◌, inl, inr, ◌∙◌}
+use Rattle.std.proofs.Common.{inl, inr, ◌∙◌}
 use Rattle.deb822_text.specs.Control.{paragraphs_of, lines_of}
 use Rattle.deb822_text.proofs.Groups.{scan-start}
 use Rattle.deb822_text.proofs.Faults.{explains}

@@ -1,9 +1,9 @@
-use Rattle.std.proofs.Common.{◌≡◌, ◌+◌, length, Result, Ok, Err, ap, sym, ◌∙◌, inl, inr, arith}
+use Rattle.std.proofs.Common.{◌≡◌, ◌+◌, length, Ok, ap, sym, ◌∙◌, inr, arith}
 use Rattle.std.specs.Str.Lines.{lines as text_lines}
 use Rattle.std.proofs.lemmas.Result.{err_from_is_err_and}
 use Rattle.std.proofs.lemmas.Bool.{eqb-true}
 use Rattle.deb822_text.specs.Control.{lines_from, lines_of}
-use Rattle.deb822_text.specs.Scan.{State, scan, start, state_of}
+use Rattle.deb822_text.specs.Scan.{State, scan, state_of}
 use Rattle.deb822_text.proofs.Scans.{refuses, goes_on, ends}
 use Rattle.deb822_text.proofs.reading.scanned.Goals as goal
 
