@@ -25,7 +25,7 @@ unfolding languages
 languages_read pairs r text value found shown v t f s given =
     let named : shown ≡ option_map but_none (listed Languages value) = s ∙ ap (option_map but_none) (f ∙ ap (listed Languages) t) in
     let allowed_so : Gives r (allowed (codes "Acquire::Languages") (option_map but_none (listed Languages value))) =
-      subst (λ (o : Option (List (List ℕ))). Gives r (allowed (codes "Acquire::Languages") o)) named given in
+    subst (λ (o : Option (List (List ℕ))). Gives r (allowed (codes "Acquire::Languages") o)) named given in
     rw (← v) allowed_so
 
 pub dates_read : (pairs : List Pair) (min max future : ℕ) → number 4294967295 0 pairs (codes "Acquire::Min-ValidTime") ≡ Ok min → number 4294967295 0 pairs (codes "Acquire::Max-ValidTime") ≡ Ok max
@@ -41,8 +41,16 @@ fetching_read pairs retries file_limit size_limit hashes pdiffs a b c d e = rw (
 
 pub settings_read : (pairs : List Pair) (lists : Wanted) (limits : Dates) (ways : Fetching) (cleanup : Bool) → wanted pairs ≡ Ok lists → dates pairs ≡ Ok limits → fetching pairs ≡ Ok ways → boolean true pairs (codes "APT::Get::List-Cleanup") ≡ Ok cleanup
     → settings_of pairs ≡ Ok (record {
-      arch = lists.arch; archs = lists.archs; langs = lists.langs; pick = lists.pick; dates = limits;
-      retries = ways.retries; by_hash = ways.by_hash; pdiffs = ways.pdiffs; file_limit = ways.file_limit; size_limit = ways.size_limit;
+      arch = lists.arch;
+      archs = lists.archs;
+      langs = lists.langs;
+      pick = lists.pick;
+      dates = limits;
+      retries = ways.retries;
+      by_hash = ways.by_hash;
+      pdiffs = ways.pdiffs;
+      file_limit = ways.file_limit;
+      size_limit = ways.size_limit;
       cleanup = cleanup;
     })
 unfolding settings_of
