@@ -5,3 +5,4 @@ pub mod KeyLemmas
 pub mod TokenLemmas
 pub mod ReadingLemmas
 pub mod LookupLemmas
+pub mod SettingLemmas

@@ -52,8 +52,8 @@ common-append_short (c ∷ key) [] r h = absurd (omega arith)
 common-append_short (c ∷ key) (d ∷ a) r h =
     elim (cases_Bool (eq_ignore_ascii_case d c)) [
       | inl t ↦
-        let g : common_length key a + 1 < suc (length a) = rw t at h in
-        rw t (ap (λ (n : ℕ). n + 1) (common-append_short key a r (omega arith)))
+          let g : common_length key a + 1 < suc (length a) = rw t at h in
+          rw t (ap (λ (n : ℕ). n + 1) (common-append_short key a r (omega arith)))
       | inr f ↦ rw f refl
     ]
 
@@ -64,8 +64,8 @@ common-append_whole [] (d ∷ a) r h = absurd (omega arith)
 common-append_whole (c ∷ key) (d ∷ a) r h =
     elim (cases_Bool (eq_ignore_ascii_case d c)) [
       | inl t ↦
-        let g : common_length key a + 1 ≡ suc (length a) = rw t at h in
-        rw t (omega (arith, common-append_whole key a r (omega arith)))
+          let g : common_length key a + 1 ≡ suc (length a) = rw t at h in
+          rw t (omega (arith, common-append_whole key a r (omega arith)))
       | inr f ↦ let g : 0 ≡ suc (length a) = rw f at h in absurd (omega arith)
     ]
 
@@ -84,10 +84,10 @@ same_key-is (c ∷ key) [] = sym (ap (λ (b : Bool). b && true) (zero_suc (lengt
 same_key-is (c ∷ key) (d ∷ other) =
     elim (cases_Bool (eq_ignore_ascii_case d c)) [
       | inl t ↦
-        let n = common_length key other in
-        let e : (nat_eq (n + 1) (suc (length key)) && nat_eq (n + 1) (suc (length other))) ≡ (nat_eq n (length key) && nat_eq n (length other)) =
+          let n = common_length key other in
+          let e : (nat_eq (n + 1) (suc (length key)) && nat_eq (n + 1) (suc (length other))) ≡ (nat_eq n (length key) && nat_eq n (length other)) =
           rw (nat_eq-suc n (length key), nat_eq-suc n (length other)) refl in
-        rw t (same_key-is key other ∙ sym e)
+          rw t (same_key-is key other ∙ sym e)
       | inr f ↦ rw f (sym (ap (λ (b : Bool). b && nat_eq 0 (suc (length other))) (zero_suc (length key))))
     ]
 
@@ -119,24 +119,24 @@ compared_is key before rest shared k matched m-is k-is =
     let split : length (a ++ rest) ≡ length a + length rest = length-append a rest in
     elim (cases_lt matched k) [
       | inl lt ↦
-        let t : nat_lt matched k ≡ true = grind (arith, nat_tests) in
-        let short : common_length key a < length a = omega arith in
-        let at_front : common_length key a ≡ matched = omega arith in
-        let is : common_length key (a ++ rest) ≡ matched = common-append_short key a rest short ∙ at_front in
-        let shorter : common_length key (a ++ rest) < length (a ++ rest) = omega arith in
-        let differs : same_key (a ++ rest) key ≡ false =
+          let t : nat_lt matched k ≡ true = grind (arith, nat_tests) in
+          let short : common_length key a < length a = omega arith in
+          let at_front : common_length key a ≡ matched = omega arith in
+          let is : common_length key (a ++ rest) ≡ matched = common-append_short key a rest short ∙ at_front in
+          let shorter : common_length key (a ++ rest) < length (a ++ rest) = omega arith in
+          let differs : same_key (a ++ rest) key ≡ false =
           same_key-is key (a ++ rest) ∙ fails_second (nat_eq (common_length key (a ++ rest)) (length key)) (nat_eq (common_length key (a ++ rest)) (length (a ++ rest))) (no_more (common_length key (a ++ rest)) (length (a ++ rest)) shorter) in
-        rw (t, is, differs) refl
+          rw (t, is, differs) refl
       | inr le ↦
-        let f : nat_lt matched k ≡ false = grind (arith, nat_tests) in
-        let whole : common_length key a ≡ length a = omega arith in
-        let is : common_length key (a ++ rest) ≡ k + common_length (drop k key) rest =
+          let f : nat_lt matched k ≡ false = grind (arith, nat_tests) in
+          let whole : common_length key a ≡ length a = omega arith in
+          let is : common_length key (a ++ rest) ≡ k + common_length (drop k key) rest =
           common-append_whole key a rest whole ∙ ap (λ (n : ℕ). n + common_length (drop n key) rest) long in
-        let cut : length (drop k key) ≡ length key - k = length-drop k key in
-        let all : length (a ++ rest) ≡ k + length rest = omega arith in
-        let tested : same_key (a ++ rest) key ≡ (nat_eq (k + common_length (drop k key) rest) (length key) && nat_eq (k + common_length (drop k key) rest) (k + length rest)) =
+          let cut : length (drop k key) ≡ length key - k = length-drop k key in
+          let all : length (a ++ rest) ≡ k + length rest = omega arith in
+          let tested : same_key (a ++ rest) key ≡ (nat_eq (k + common_length (drop k key) rest) (length key) && nat_eq (k + common_length (drop k key) rest) (k + length rest)) =
           same_key-is key (a ++ rest) ∙ rw (is, all) refl in
-        rw (f, is, tested, cut, first_test (common_length (drop k key) rest) k (length key) (omega arith), second_test (common_length (drop k key) rest) k (length rest)) refl
+          rw (f, is, tested, cut, first_test (common_length (drop k key) rest) k (length key) (omega arith), second_test (common_length (drop k key) rest) k (length rest)) refl
     ]
 
 -- ---- keys that are the same have the same parts
@@ -186,8 +186,8 @@ unfolding value_of
 value_of-given key other value more whole =
     elim (cases_Bool (has_empty_part other)) [
       | inl t ↦
-        let differs : same_key other key ≡ false = unlike other key t whole (same_key other key) refl in
-        rw (t, differs) (sym (later_none (value_of more key)))
+          let differs : same_key other key ≡ false = unlike other key t whole (same_key other key) refl in
+          rw (t, differs) (sym (later_none (value_of more key)))
       | inr f ↦ rw f refl
     ]
 
@@ -206,8 +206,8 @@ none_given_if key other (Some value) more broken =
     elim (cases_Bool (has_empty_part other)) [
       | inl t ↦ rw t refl
       | inr f ↦
-        let differs : same_key other key ≡ false = unlike_other other key f broken (same_key other key) refl in
-        rw (f, differs) (later_none (value_of more key))
+          let differs : same_key other key ≡ false = unlike_other other key f broken (same_key other key) refl in
+          rw (f, differs) (later_none (value_of more key))
     ]
 
 pub find_step : (key before : List ℕ) (entry : Entry) (more : List Entry) (found : Option (List ℕ)) (k matched : ℕ) (total : Option (List ℕ)) → has_empty_part key ≡ false → matched ≡ common_length key before → k ≡ min entry.shared (length before)
@@ -217,9 +217,9 @@ unfolding pairs_in
 find_step key before entry more found k matched total whole m-is k-is so_far =
     let test : (compared key k matched entry.rest).1 ≡ same_key (key_of before entry) key = ap (λ (p : ℕ × Bool). p.1) (compared_is key before entry.rest entry.shared k matched m-is k-is) in
     rw test (
-      sym (later_assoc (value_of (pairs_in (key_of before entry) more) key) (if same_key (key_of before entry) key then entry.value else None) found)
-      ∙ ap (λ (o : Option (List ℕ)). later o found) (sym (value_of-given_if key (key_of before entry) entry.value (pairs_in (key_of before entry) more) whole))
-      ∙ so_far)
+    sym (later_assoc (value_of (pairs_in (key_of before entry) more) key) (if same_key (key_of before entry) key then entry.value else None) found)
+    ∙ ap (λ (o : Option (List ℕ)). later o found) (sym (value_of-given_if key (key_of before entry) entry.value (pairs_in (key_of before entry) more) whole))
+    ∙ so_far)
 
 -- a key with an empty part is given no value
 pub none_given : (key before : List ℕ) (entries : List Entry) → has_empty_part key ≡ true → None ≡ value_of (pairs_in before entries) key
@@ -270,12 +270,12 @@ found_more entries i entry key rest found next matched len k longer answer lt it
     let is : answer ≡ (common_length key (key_of before entry), same_key (key_of before entry) key) = same ∙ compared_is key before entry.rest entry.shared k matched so_far.matched_is kept in
     let led : later (value_of (pairs_in before (entry ∷ drop (i + 1) entries)) key) found ≡ value_of (pairs_in [] entries) key = ap (λ (es : List Entry). later (value_of (pairs_in before es) key) found) (sym behind) ∙ so_far.read in
     let read : later (value_of (pairs_in (key_of before entry) (drop (i + 1) entries)) key) (later (if (compared key k matched entry.rest).1 then entry.value else None) found) ≡ value_of (pairs_in [] entries) key =
-      find_step key before entry (drop (i + 1) entries) found k matched (value_of (pairs_in [] entries) key) whole so_far.matched_is kept led in
+    find_step key before entry (drop (i + 1) entries) found k matched (value_of (pairs_in [] entries) key) whole so_far.matched_is kept led in
     record {
       read =
-        ap (λ (b : List ℕ). later (value_of (pairs_in b (drop (i + 1) entries)) key) next) key_is
-        ∙ ap (later (value_of (pairs_in (key_of before entry) (drop (i + 1) entries)) key)) (next-is ∙ ap (λ (p : ℕ × Bool). later (if p.1 then entry.value else None) found) same)
-        ∙ read;
+          ap (λ (b : List ℕ). later (value_of (pairs_in b (drop (i + 1) entries)) key) next) key_is
+          ∙ ap (later (value_of (pairs_in (key_of before entry) (drop (i + 1) entries)) key)) (next-is ∙ ap (λ (p : ℕ × Bool). later (if p.1 then entry.value else None) found) same)
+          ∙ read;
       matched_is = ap (λ (p : ℕ × Bool). p.0) is ∙ ap (common_length key) (sym key_is);
       length_is = omega (arith, longer-is, kept, ap length rest-is, ap length key_is, length-append (take entry.shared before) entry.rest, length-take entry.shared before);
     }

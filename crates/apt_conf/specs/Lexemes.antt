@@ -76,6 +76,12 @@ quoted_at text =
     let inside = length_until closes_quote text in
     if slice_index text (inside + 1) == 34 then Quoted inside else Torn
 
+-- a word, and the comment that ends it where a `#` does: there no word begins, so it is no command
+unfoldable pub word_at : List ℕ → Lexeme
+word_at text =
+    let n = length_until ends_word (drop 1 text) + 1 in
+    Word n (if slice_index text n == 35 then length_until is_feed (drop n text) else 0)
+
 -- what begins neither with white space nor with a comment
 unfoldable pub token_at : List ℕ → Lexeme
 token_at text =
@@ -83,7 +89,7 @@ token_at text =
     else if slice_index text 0 == 59 then Semicolon
     else if slice_index text 0 == 123 then Open
     else if slice_index text 0 == 125 then Close
-    else Word (length_until ends_word (drop 1 text) + 1)
+    else word_at text
 
 -- what stands at the front of a text that isn't empty
 unfoldable pub lexeme_at : List ℕ → Lexeme
@@ -96,7 +102,7 @@ lexeme_at text =
 -- how many bytes it takes
 abbrev pub extent : Lexeme → ℕ
 extent (Gap n) = n
-extent (Word n) = n
+extent (Word n m) = n + m
 extent (Quoted n) = n + 2
 extent Semicolon = 1
 extent Open = 1

@@ -7,6 +7,8 @@ use Rattle.acq_base.specs.declared.settings.Pick.{Pick}
 use Rattle.acq_base.specs.declared.settings.Settings.{Settings}
 use Rattle.apt_conf.specs.declared.error.ConfError.{ConfError}
 use Rattle.apt_conf.specs.declared.error.ConfError.TheVariants.{BadValue}
+use Rattle.apt_conf.specs.declared.table.Fetching.{Fetching}
+use Rattle.apt_conf.specs.declared.table.Wanted.{Wanted}
 use Rattle.apt_conf.specs.declared.values.Words.TheVariants.{Architectures, Languages, Kinds}
 use Rattle.apt_conf.specs.Keys.{Pair, value_of}
 use Rattle.apt_conf.specs.Statements.{◌>>=◌}
@@ -54,18 +56,42 @@ dates pairs = do
   future ← number 4294967295 10 pairs (codes "Acquire::Max-FutureTime")
   Ok (record { min = min; max = max; future = future })
 
--- all settings, each key in the order in which its value is judged
-unfoldable pub settings_of : List Pair → Result Settings ConfError
-settings_of pairs = do
+-- which lists are wanted
+unfoldable pub wanted : List Pair → Result Wanted ConfError
+wanted pairs = do
   arch ← architecture pairs
   archs ← architectures arch pairs
   langs ← languages pairs
-  wanted ← pick pairs
-  limits ← dates pairs
+  kinds ← pick pairs
+  Ok (record { arch = arch; archs = archs; langs = langs; pick = kinds })
+
+-- how lists are fetched
+unfoldable pub fetching : List Pair → Result Fetching ConfError
+fetching pairs = do
   retries ← number 10 1 pairs (codes "Acquire::Retries")
   hashes ← by_hash pairs
   pdiffs ← boolean true pairs (codes "Acquire::PDiffs")
   file_limit ← number 1000 100 pairs (codes "Acquire::PDiffs::FileLimit")
   size_limit ← number 1000 100 pairs (codes "Acquire::PDiffs::SizeLimit")
+  Ok (record { retries = retries; by_hash = hashes; pdiffs = pdiffs; file_limit = file_limit; size_limit = size_limit })
+
+-- all settings, in the order in which their values are judged
+unfoldable pub settings_of : List Pair → Result Settings ConfError
+settings_of pairs = do
+  lists ← wanted pairs
+  limits ← dates pairs
+  ways ← fetching pairs
   cleanup ← boolean true pairs (codes "APT::Get::List-Cleanup")
-  Ok (record { arch = arch; archs = archs; langs = langs; pick = wanted; dates = limits; retries = retries; by_hash = hashes; pdiffs = pdiffs; file_limit = file_limit; size_limit = size_limit; cleanup = cleanup })
+  Ok (record {
+    arch = lists.arch;
+    archs = lists.archs;
+    langs = lists.langs;
+    pick = lists.pick;
+    dates = limits;
+    retries = ways.retries;
+    by_hash = ways.by_hash;
+    pdiffs = ways.pdiffs;
+    file_limit = ways.file_limit;
+    size_limit = ways.size_limit;
+    cleanup = cleanup;
+  })

@@ -28,7 +28,7 @@ line_behind line (c ∷ rest) = line_behind (next_line line c) rest
 -- the token that stands at the front, if one does
 abbrev pub front_token : Lexeme → List ℕ → Option Token
 front_token (lexemes.Gap n) text = None
-front_token (lexemes.Word n) text = Some (tokens.Word (take n text))
+front_token (lexemes.Word n m) text = Some (tokens.Word (take n text))
 front_token (lexemes.Quoted n) text = Some (tokens.Quoted (take n (drop 1 text)))
 front_token lexemes.Semicolon text = Some tokens.Semicolon
 front_token lexemes.Open text = Some tokens.Open
@@ -39,7 +39,7 @@ front_token lexemes.Unclosed text = Some tokens.Torn
 -- a comment that nothing closes is refused on the last line
 abbrev pub token_line : ℕ → ℕ → Lexeme → ℕ
 token_line last line (lexemes.Gap n) = line
-token_line last line (lexemes.Word n) = line
+token_line last line (lexemes.Word n m) = line
 token_line last line (lexemes.Quoted n) = line
 token_line last line lexemes.Semicolon = line
 token_line last line lexemes.Open = line

@@ -7,8 +7,8 @@ ghost use Rattle.apt_conf.specs.Lexemes as lexemes;
 pub enum Lexeme {
     /// So many bytes of white space or of a comment.
     Gap(usize),
-    /// A word of so many bytes.
-    Word(usize),
+    /// A word of so many bytes, and so many of the `#` comment that ends it, if one does.
+    Word(usize, usize),
     /// A quoted value of so many bytes, its two quotes aside.
     Quoted(usize),
     Semicolon,
@@ -238,6 +238,20 @@ fn quoted_at(text: &[u8]) -> Lexeme
     }
 }
 
+#[tactic(auto, unfolding(crate::specs::Lexemes::word_at))]
+fn word_at(text: &[u8]) -> Lexeme
+    requires { text.now ≢ [] }
+    ensures value { result ≡ lexemes.word_at text.now }
+    ensures within { IsExtent (lexemes.extent result) (length text.now) }
+{
+    let count = word_length(&text[1..]) + 1;
+    if byte_at(text, count) != b'#' {
+        return Lexeme::Word(count, 0);
+    }
+    let (_, comment) = text.split_at(count);
+    Lexeme::Word(count, line_length(comment))
+}
+
 #[tactic(auto, unfolding(crate::specs::Lexemes::token_at))]
 fn token_at(text: &[u8]) -> Lexeme
     requires { text.now ≢ [] }
@@ -254,7 +268,7 @@ fn token_at(text: &[u8]) -> Lexeme
     } else if first == b'}' {
         Lexeme::Close
     } else {
-        Lexeme::Word(word_length(&text[1..]) + 1)
+        word_at(text)
     }
 }
 
@@ -282,7 +296,8 @@ pub fn extent(lexeme: Lexeme) -> usize
     ensures { result ≡ lexemes.extent lexeme }
 {
     match lexeme {
-        Lexeme::Gap(count) | Lexeme::Word(count) => count,
+        Lexeme::Gap(count) => count,
+        Lexeme::Word(count, more) => count + more,
         Lexeme::Quoted(count) => count + 2,
         _ => 1,
     }

@@ -5,7 +5,7 @@ ghost use Rattle.apt_conf.specs.Settings as of;
 use crate::ConfError;
 use crate::conf::{Conf, get};
 use crate::values::{
-    Words, boolean_of, but_none, by_hash_of, is_architecture, listed, number_of, picked,
+    Words, boolean_of, by_hash_of, is_architecture, languages_of, listed, number_of, picked,
 };
 use acq_base::{ByHash, Dates, NoMemory, Pick, Row, Settings, Text, TryCopy};
 use std::alloc::Global;
@@ -39,29 +39,75 @@ pub fn settings(conf: &Conf, alloc: Global) -> Result<Settings, ConfError>
 fn read_settings(conf: &Conf, alloc: Global) -> Result<Settings, ConfError>
     ensures { Gives result (of.settings_of conf.now) }
 {
+    let lists = wanted_lists(conf, alloc)?;
+    let dates = dates(conf, alloc)?;
+    let ways = ways_to_fetch(conf, alloc)?;
+    let cleanup = boolean(conf, alloc, b"APT::Get::List-Cleanup", true)?;
+    Ok(Settings {
+        arch: lists.arch,
+        archs: lists.archs,
+        langs: lists.langs,
+        pick: lists.pick,
+        dates,
+        retries: ways.retries,
+        by_hash: ways.by_hash,
+        pdiffs: ways.pdiffs,
+        file_limit: ways.file_limit,
+        size_limit: ways.size_limit,
+        cleanup,
+    })
+}
+
+/// The settings that say which lists are wanted.
+#[derive(Debug, Drop)]
+pub struct Wanted {
+    pub arch: Text,
+    pub archs: Row<Text>,
+    pub langs: Row<Text>,
+    pub pick: Pick,
+}
+
+#[tactic(auto, unfolding(crate::specs::Settings::wanted))]
+fn wanted_lists(conf: &Conf, alloc: Global) -> Result<Wanted, ConfError>
+    ensures { Gives result (of.wanted conf.now) }
+{
     let arch = architecture(conf, alloc)?;
     let archs = architectures(conf, alloc, &arch)?;
     let langs = languages(conf, alloc)?;
     let pick = pick(conf, alloc)?;
-    let dates = dates(conf, alloc)?;
+    Ok(Wanted {
+        arch,
+        archs,
+        langs,
+        pick,
+    })
+}
+
+/// The settings that say how lists are fetched.
+#[derive(Clone, Copy, Debug)]
+pub struct Fetching {
+    pub retries: u32,
+    pub by_hash: ByHash,
+    pub pdiffs: bool,
+    pub file_limit: u32,
+    pub size_limit: u32,
+}
+
+#[tactic(auto, unfolding(crate::specs::Settings::fetching))]
+fn ways_to_fetch(conf: &Conf, alloc: Global) -> Result<Fetching, ConfError>
+    ensures { Gives result (of.fetching conf.now) }
+{
     let retries = small_number(conf, alloc, b"Acquire::Retries", 10, 1)?;
     let by_hash = by_hash(conf, alloc)?;
     let pdiffs = boolean(conf, alloc, b"Acquire::PDiffs", true)?;
     let file_limit = small_number(conf, alloc, b"Acquire::PDiffs::FileLimit", 1000, 100)?;
     let size_limit = small_number(conf, alloc, b"Acquire::PDiffs::SizeLimit", 1000, 100)?;
-    let cleanup = boolean(conf, alloc, b"APT::Get::List-Cleanup", true)?;
-    Ok(Settings {
-        arch,
-        archs,
-        langs,
-        pick,
-        dates,
+    Ok(Fetching {
         retries,
         by_hash,
         pdiffs,
         file_limit,
         size_limit,
-        cleanup,
     })
 }
 
@@ -122,11 +168,7 @@ fn languages(conf: &Conf, alloc: Global) -> Result<Row<Text>, ConfError>
         None => Ok(row_of(alloc, b"en")?),
         Some(value) => {
             let found = listed(alloc, Words::Languages, value.as_bytes())?;
-            allowed(
-                alloc,
-                b"Acquire::Languages",
-                found.map(|found| but_none(alloc, found)),
-            )
+            allowed(alloc, b"Acquire::Languages", languages_of(alloc, found))
         }
     }
 }

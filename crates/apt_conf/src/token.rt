@@ -25,7 +25,7 @@ pub fn token_at(alloc: Global, lexeme: Lexeme, text: &[u8]) -> Result<Option<Tok
 {
     match lexeme {
         Lexeme::Gap(_) => Ok(None),
-        Lexeme::Word(count) => {
+        Lexeme::Word(count, _) => {
             let (word, _) = text.split_at(count);
             Ok(Some(Token::Word(Text::from_bytes(alloc, word)?)))
         }

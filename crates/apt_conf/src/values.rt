@@ -1,4 +1,4 @@
-ghost use Rattle.std.specs.Prelude.{◌≡◌, IfOk, true};
+ghost use Rattle.std.specs.Prelude.{◌≡◌, ◌≤◌, IfOk, IfSome, option_map, true};
 ghost use Rattle.std.specs.Char.{is_ascii_digit};
 ghost use Rattle.std.specs.List.{list_all, list_any};
 ghost use Rattle.apt_conf.specs.Keys.{same_key};
@@ -105,12 +105,22 @@ pub fn listed(alloc: Global, words: Words, text: &[u8]) -> Result<Option<Row<Tex
 }
 
 /// The languages that words name: `none` alone stands for none.
-pub fn but_none(alloc: Global, languages: Row<Text>) -> Row<Text>
+fn but_none(alloc: Global, languages: Row<Text>) -> Row<Text>
     ensures { result ≡ values.but_none languages }
 {
     match languages.as_slice() {
         [only] if is_spelled(only.as_bytes(), b"none") => Row::new(alloc),
         _ => languages,
+    }
+}
+
+/// The languages that a list names, if it is one.
+pub fn languages_of(alloc: Global, found: Option<Row<Text>>) -> Option<Row<Text>>
+    ensures { result ≡ option_map values.but_none found }
+{
+    match found {
+        Some(languages) => Some(but_none(alloc, languages)),
+        None => None,
     }
 }
 
@@ -151,7 +161,8 @@ fn parsed(text: &[u8]) -> Option<u64>
 /// The number that 1 to 10 decimal digits write, if it is at most `most`.
 #[tactic(auto, unfolding(crate::specs::Values::number_of))]
 pub fn number_of(most: u64, text: &[u8]) -> Option<u64>
-    ensures { result ≡ values.number_of most text.now }
+    ensures value { result ≡ values.number_of most text.now }
+    ensures bound { IfSome result (λ number. number ≤ most) }
 {
     if text.len() > 10 || !is_digits(text) {
         return None;
