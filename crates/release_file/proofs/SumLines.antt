@@ -129,9 +129,6 @@ goes_on first lines i at files files' sum sum' line entry h within here some agr
       rest = rw (grown, after) (sym next ∙ h.rest);
     }
 
-pub begins : (first : ℕ) (lines : List (List ℕ)) (sum : List ℕ → Option Sum) → ((path : List ℕ) → sum path ≡ None) → IsReadTo first lines 0 first [] sum
-begins first lines sum empty = record { sums = empty; listed = refl; rest = refl }
-
 -- all lines are read
 pub ends : (first : ℕ) (lines : List (List ℕ)) (i at : ℕ) (files : List Listed) (sum : List ℕ → Option Sum) → IsReadTo first lines i at files sum → length lines ≤ i → Ok files ≡ files_of_lines first lines
 unfolding files_of_lines

@@ -1,5 +1,5 @@
 -- What a Release lists, in terms of its sum lines, each taken by itself.
-use Rattle.std.specs.Prelude.{false, List, [], ◌∷◌, codes, drop, Option, Some, None, Result, Ok, Err}
+use Rattle.std.specs.Prelude.{ℕ, false, List, [], ◌∷◌, codes, drop, Option, Some, None, Result, Ok, Err}
 use Rattle.std.specs.List.{filter_map}
 use Rattle.deb822_text.specs.Control.{paragraphs_of, field_named}
 use Rattle.deb822_text.specs.declared.error.TextError.{TextError}
@@ -7,7 +7,6 @@ use Rattle.deb822_text.specs.declared.paragraph.Field.{Field}
 use Rattle.deb822_text.specs.declared.paragraph.Paragraph.{Paragraph}
 use Rattle.release_file.specs.Release.{listed_of_line}
 use Rattle.release_file.specs.declared.release.Listed.{Listed}
-use Rattle.std.specs.Prelude.{ℕ}
 
 -- the lines of a field behind its first
 abbrev pub later_lines : Option Field → List (List ℕ)
