@@ -5,10 +5,9 @@ ghost use Rattle.update_program.specs.Words as spec;
 ghost use Rattle.update_program.specs.Request.{IsRequest};
 
 use acq_base::{ByHash, Kind, ListName, NoMemory, Row, Scheme, Source, Target, Text, TryCopy, Uri};
-use naming::list_name;
 use std::alloc::Global;
+use uri_names::list_name;
 
-mod naming;
 #[cfg(test)]
 mod tests;
 
