@@ -53,7 +53,7 @@ pub ends_as : (low mid high : ℕ) (world later : Option World) (source : Source
     → EndsAs low high world source target installed now outcome
 ends_as low mid high world later source target installed now ending stage outcome heard a b same is h =
     let over : EndsFrom low high world target (stage_of target.path installed now (release_end heard.0)) outcome =
-        rw (← heard.2, ← is, ← same) (ends_from-longer low mid high high later target stage outcome a (omega arith) h)
+    rw (← heard.2, ← is, ← same) (ends_from-longer low mid high high later target stage outcome a (omega arith) h)
     in (heard.0, heard-longer low low mid high world (release_job source) heard.0 (omega arith) b heard.1, over)
 
 -- the same of a call that may have wanted memory

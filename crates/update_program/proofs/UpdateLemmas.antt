@@ -211,6 +211,7 @@ for_run-map P Q (Some source) moment request f h = by_target (slice_get source.t
     by_moment : (target : Target) (moment' : Option ℤ) → source.release_name.0 ≢ target.name.0 → IfSome moment' (P source target) → IfSome moment' (Q source target)
     by_moment target None n p = tt
     by_moment target (Some now) n p = f source target now n p
+
     by_target : (found : Option Target) → slice_get source.targets 0 ≡ found → IfSome found (λ target. IfSome moment (P source target)) → IfSome found (λ target. IfSome moment (Q source target))
     by_target None e p = tt
     by_target (Some target) e p = by_moment target moment (λ same. first_is_other source request target e (sym same)) p
@@ -221,6 +222,7 @@ for_method-map {M} P Q before after f h = by_old (slice_get before 0) h
     by_new : (old : M) (new : Option M) → IfSome new (P old) → IfSome new (Q old)
     by_new old None p = tt
     by_new old (Some new) p = f old new p
+
     by_old : (old : Option M) → IfSome old (λ o. IfSome (slice_get after 0) (P o)) → IfSome old (λ o. IfSome (slice_get after 0) (Q o))
     by_old None p = tt
     by_old (Some old) p = by_new old (slice_get after 0) p
@@ -236,7 +238,7 @@ Ends {M} faults world before after old new result source target now =
 abbrev pub Follows : {M : Type 0} → (M → ℕ) → (M → Option World) → Bool → SeenWith → SeenWith → List M → List M → ℕ → Source → Target → ℤ → Type 0
 Follows {M} faults world tells before after old new result source target now =
     ForMethod old new (λ was is. IfSome (world was) (λ entries. IsTrue tells → result ≢ 102 → result ≢ 103 → result ≢ 105
-        → FollowsMirror (before (faults was) (world was)) (after (faults is) (world is)) entries source target now result))
+    → FollowsMirror (before (faults was) (world was)) (after (faults is) (world is)) entries source target now result))
 
 -- words that are accepted follow the mirror
 pub words-mirror : {M : Type 0} (faults : M → ℕ) (world : M → Option World) (words : List (List ℕ)) (moment : Option ℤ) (old new : List M)
@@ -247,11 +249,11 @@ words-mirror {M} faults world words moment old new d0 tells0 files0 s0 w0 d1 tel
     let before : SeenWith = λ m w. seen d0 tells0 files0 m w s0 w0 in
     let after : SeenWith = λ m w. seen d1 tells1 files1 m w s1 w1 in
     for_run-map (Ends faults world before after old new result) (Follows faults world tells0 before after old new result) (source_of_words words) moment (request_of_words words)
-        (λ source target now n e. for_method-map
-            (λ was is. IsUpdate (before (faults was) (world was)) (after (faults is) (world is)) source target now result)
-            (λ was is. IfSome (world was) (λ entries. IsTrue tells0 → result ≢ 102 → result ≢ 103 → result ≢ 105
-                → FollowsMirror (before (faults was) (world was)) (after (faults is) (world is)) entries source target now result))
-            old new
-            (λ was is u. update-mirror_if_told (before (faults was) (world was)) (after (faults is) (world is)) source target now result u)
-            e)
-        h
+    (λ source target now n e. for_method-map
+    (λ was is. IsUpdate (before (faults was) (world was)) (after (faults is) (world is)) source target now result)
+    (λ was is. IfSome (world was) (λ entries. IsTrue tells0 → result ≢ 102 → result ≢ 103 → result ≢ 105
+    → FollowsMirror (before (faults was) (world was)) (after (faults is) (world is)) entries source target now result))
+    old new
+    (λ was is u. update-mirror_if_told (before (faults was) (world was)) (after (faults is) (world is)) source target now result u)
+    e)
+    h

@@ -118,4 +118,4 @@ pub ends_as-sound : (low high : ℕ) (world : Option World) (source : Source) (t
     → EndsAs low high world source target installed now outcome → SoundOutcome target.path installed now outcome
 ends_as-sound low high world source target installed now outcome h =
     ends_from-sound low high world target installed now (stage_of target.path installed now (release_end h.0)) outcome
-        (stage_of-sound target.path installed now (release_end h.0)) h.2
+    (stage_of-sound target.path installed now (release_end h.0)) h.2

@@ -18,17 +18,32 @@ pub enum Cause {
     /// The Release is absent, with this status.
     NoRelease(u16),
     /// The Release's bytes are refused, with the refusal's number and line.
-    BadRelease { number: u32, line: u64 },
+    BadRelease {
+        number: u32,
+        line: u64,
+    },
     /// The Release was valid until this moment.
     Expired(i128),
     /// The Release's date is too far ahead of the moment.
     Future(i64),
     /// The list is absent, with this status.
-    Missing { path: Text, status: u16 },
+    Missing {
+        path: Text,
+        status: u16,
+    },
     /// The list was served and doesn't fit the sum that the Release names.
-    Differs { path: Text, wanted: Sum, got: Verdict },
+    Differs {
+        path: Text,
+        wanted: Sum,
+        got: Verdict,
+    },
     /// The method failed, and its count of faults rose from `before` to `after`.
-    Method { path: Text, lane: u32, before: u64, after: u64 },
+    Method {
+        path: Text,
+        lane: u32,
+        before: u64,
+        after: u64,
+    },
     /// What this stage of the engine doesn't follow: a move, a garbled answer, or a Release that is too big.
     Later,
 }

@@ -136,12 +136,7 @@ fn judge_bytes(
     }
 }
 
-fn judged(
-    path: &Text,
-    bytes: Bytes,
-    release: &Release,
-    judgement: Result<(), DateError>,
-) -> Stage
+fn judged(path: &Text, bytes: Bytes, release: &Release, judgement: Result<(), DateError>) -> Stage
     ensures { result ≡ staged_judgement path.now bytes release.now judgement }
 {
     match judgement {

@@ -12,6 +12,8 @@ mod judge;
 mod lines;
 mod run;
 mod status;
+#[cfg(test)]
+mod tests;
 mod top;
 mod update;
 mod words;

@@ -117,14 +117,7 @@ fn attempt<D: Disk, M: Method, C: Clock, S: Sink>(
 /// The status is 0 for a new set or for a mirror that is older than what is installed, 100 for refused words or a kept
 /// source, 102 where the disk failed, 103 where memory ran out, and 105 where the output failed. After 102 the
 /// source's two names may hold anything.
-pub fn update_call<
-    R: AllocGlobal,
-    E: Etc,
-    D: Disk,
-    M: Method + Send + 'static,
-    C: Clock,
-    S: Sink,
->(
+pub fn update_call<R: AllocGlobal, E: Etc, D: Disk, M: Method + Send + 'static, C: Clock, S: Sink>(
     rt: &R,
     words: &[String],
     etc: &mut E,

@@ -6,6 +6,6 @@ use Rattle.update_program.proofs.top.update_call.Goals as goal
 pub returns-clause-mirror : goal.returns-clause-mirror
 returns-clause-mirror g c =
     words-mirror g.M.Method.faults g.M.Method.world (map string_bytes c.args.words.now) (g.C.Clock.last c.attempt.new.clock) c.args.methods.now.items c.attempt.new.methods.items
-        (g.D.Disk.faults c.args.disk.now) (g.D.Disk.tells c.args.disk.now) (g.D.Disk.files c.args.disk.now) (g.S.Sink.faults c.args.out.now) (g.S.Sink.written c.args.out.now)
-        (g.D.Disk.faults c.attempt.new.disk) (g.D.Disk.tells c.attempt.new.disk) (g.D.Disk.files c.attempt.new.disk) (g.S.Sink.faults c.attempt.new.out) (g.S.Sink.written c.attempt.new.out)
-        c.attempt.result.0 c.attempt.ensures.ended
+    (g.D.Disk.faults c.args.disk.now) (g.D.Disk.tells c.args.disk.now) (g.D.Disk.files c.args.disk.now) (g.S.Sink.faults c.args.out.now) (g.S.Sink.written c.args.out.now)
+    (g.D.Disk.faults c.attempt.new.disk) (g.D.Disk.tells c.attempt.new.disk) (g.D.Disk.files c.attempt.new.disk) (g.S.Sink.faults c.attempt.new.out) (g.S.Sink.written c.attempt.new.out)
+    c.attempt.result.0 c.attempt.ensures.ended
