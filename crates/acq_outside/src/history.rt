@@ -18,22 +18,24 @@ pub struct History {
 
 impl Model for History {
     ghost use Rattle.std.specs.Prelude.{◌≡◌};
-    ghost use Rattle.acq_outside.specs.History.{Past, start_files, files_after, files_in};
+    ghost use Rattle.acq_outside.specs.History.{Past, HasNames, start_files, files_after, files_in};
 
     ghost Value = { Past };
 
     ghost view = { λ history. record { start = history.start; changes = history.changes.items } };
 
-    ghost invariant = { λ history. files_in history.held ≡ files_after (start_files history.start) history.changes.items };
+    ghost invariant = { λ history. (files_in history.held ≡ files_after (start_files history.start) history.changes.items) × HasNames (files_in history.held) };
 }
 
 impl History {
-    ghost use Rattle.std.specs.Prelude.{◌≡◌, [], IfOk, OnOk, OnErr, option_copied};
-    ghost use Rattle.acq_outside.specs.Disk.{IsNames};
-    ghost use Rattle.acq_outside.specs.History.{files_of, changed};
+    ghost use Rattle.std.specs.Prelude.{◌≡◌, [], All, IfOk, OnOk, OnErr, option_copied};
+    ghost use Rattle.acq_outside.specs.Disk.{IsName, IsNames};
+    ghost use Rattle.acq_outside.specs.History.{IsNamed, IsStart, files_of, changed};
 
     /// These files, and no change yet.
+    #[tactic(auto, using(crate::proofs::Named::start_named))]
     pub fn new(alloc: Global, start: Row<(Text, Bytes)>) -> Result<History, NoMemory>
+        requires { IsStart start }
         ensures { IfOk result (λ history. history ≡ record { start = start; changes = [] }) }
     {
         let held = held_files(alloc, start.as_slice())?;
@@ -52,15 +54,19 @@ impl History {
     }
 
     /// All names, sorted by bytes.
+    #[tactic(auto, using(crate::proofs::Named::all_named))]
     pub fn names(&self, alloc: Global) -> Result<Row<Text>, NoMemory>
-        ensures { IfOk result (IsNames (files_of self.now)) }
+        ensures names { IfOk result (IsNames (files_of self.now)) }
+        ensures named { IfOk result (λ names. All IsName names) }
     {
-        list_names(alloc, &self.held)
+        let names = list_names(alloc, &self.held)?;
+        Ok(names)
     }
 
-    #[tactic(auto, using(crate::proofs::HeldFiles::noted))]
     /// Carries a change out and notes it. Without memory nothing is changed.
+    #[tactic(auto, using(crate::proofs::HeldFiles::noted, crate::proofs::Named::kept_names, crate::proofs::Named::names_after))]
     pub fn apply(&mut self, alloc: Global, change: Change) -> Result<(), NoMemory>
+        requires { IsNamed change }
         ensures ok { OnOk result (self.new ≡ changed self.old change) }
         ensures err { OnErr result (self.new ≡ self.old) }
     {
