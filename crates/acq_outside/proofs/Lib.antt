@@ -3,3 +3,4 @@ pub mod WholeFiles
 pub mod HeldFiles
 pub mod Torn
 pub mod Worlds
+pub mod SampleUri
