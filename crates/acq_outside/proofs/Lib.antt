@@ -4,3 +4,4 @@ pub mod HeldFiles
 pub mod Torn
 pub mod Worlds
 pub mod SampleUri
+pub mod Named

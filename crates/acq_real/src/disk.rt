@@ -1,10 +1,11 @@
-ghost use Rattle.std.specs.Prelude.{◌≡◌, ◌≤◌, ◌<◌, ◌^◌, length, None, false, IfOk, IsErr, OnErr, MatchResult};
+ghost use Rattle.std.specs.Prelude.{◌≡◌, ◌≤◌, ◌<◌, ◌^◌, length, All, None, false, IfOk, IsErr, OnErr, MatchResult};
 ghost use Rattle.acq_outside.specs.Count.{Rose};
+ghost use Rattle.acq_outside.specs.Disk.{IsName};
 ghost use Rattle.acq_real.specs.RealDisk.{faults_of};
 
 use crate::folder;
 use acq_base::{NoMemory, Row, Text, TryCopy};
-use acq_outside::{Disk, Fault, OutError};
+use acq_outside::{Disk, Fault, OutError, is_name};
 use std::alloc::{AllocError, Global};
 use std::collections::BTreeSet;
 use std::fs::File;
@@ -202,13 +203,16 @@ impl<R: Files<File = File> + AllocGlobal + Clone + Drop> Disk for RealDisk<R> {
     }
 }
 
-/// The names as a row, `NoMemory` where there are too many.
+/// The names that a disk may have, as a row, and `NoMemory` where there are too many.
 fn row_of(alloc: Global, names: &BTreeSet<Text>) -> Result<Row<Text>, NoMemory>
-    ensures { IfOk result (λ row. length row < 2 ^ 31) }
+    ensures few { IfOk result (λ row. length row < 2 ^ 31) }
+    ensures named { IfOk result (λ row. All IsName row) }
 {
     let mut row = Row::new(alloc);
     for name in names {
-        row.push(name.copy(alloc)?)?;
+        if is_name(name.as_bytes()) {
+            row.push(name.copy(alloc)?)?;
+        }
     }
     if row.len() >= MOST_NAMES {
         return Err(NoMemory);

@@ -2,7 +2,6 @@
 ghost use Rattle.std.specs.Prelude.{◌≤◌, length, IfOk};
 
 use acq_base::Text;
-use acq_outside::is_name;
 use std::alloc::{AllocError, Global};
 use std::collections::BTreeSet;
 use std::fs::{File, OpenOptions};
@@ -143,7 +142,7 @@ pub fn remove(rt: &impl Files, path: &str) -> io::Result<()> {
     }
 }
 
-/// All names of plain files, in the folder and in `partial`. What a disk may not have is passed over.
+/// All names of plain files, in the folder and in `partial`. One that isn't UTF-8 is passed over.
 pub fn names<R: Files<File = File> + AllocGlobal + Clone + Drop>(
     rt: &R,
     alloc: Global,
@@ -190,8 +189,6 @@ fn is_plain(found: io::Result<fs::Metadata>) -> io::Result<bool> {
 fn add_name(alloc: Global, before: &str, name: &str, names: &mut BTreeSet<Text>) -> io::Result<()> {
     let mut text = Vec::from_slice(alloc, before.as_bytes())?;
     text.extend_from_slice(name.as_bytes())?;
-    if is_name(text.as_slice()) {
-        names.insert(Text::from(text)).map_err(AllocError::from)?;
-    }
+    names.insert(Text::from(text)).map_err(AllocError::from)?;
     Ok(())
 }
