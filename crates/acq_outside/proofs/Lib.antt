@@ -3,3 +3,5 @@ pub mod WholeFiles
 pub mod HeldFiles
 pub mod Torn
 pub mod Worlds
+pub mod SampleUri
+pub mod Named

@@ -1,4 +1,4 @@
-ghost use Rattle.std.specs.Prelude.{◌≡◌, ℕ, ◌<◌, ◌≤◌, ◌^◌, [], Bool, IsTrue, length, Option, IfOk, OnOk, OnErr, IsErrOf, IfSome, IsSomeAnd, option_map, unwrap_or};
+ghost use Rattle.std.specs.Prelude.{◌≡◌, ℕ, ◌<◌, ◌≤◌, ◌^◌, [], Bool, All, IsTrue, length, Option, IfOk, OnOk, OnErr, IsErrOf, IfSome, IsSomeAnd, option_map, unwrap_or};
 ghost use Rattle.acq_outside.specs.Count.{Rose};
 ghost use Rattle.acq_outside.specs.Disk.{Files, IsName, IsNames, IsRead, IsTornWrite, IsTornCut, IsDoneOrNot, after_write, after_cut, after_rename, after_remove};
 
@@ -26,6 +26,7 @@ pub trait Disk: Drop {
         ensures telling { tells self.new ≡ tells self.old }
         ensures same { files self.new ≡ files self.old }
         ensures few { IfOk result (λ names. length names < 2 ^ 31) }
+        ensures named { IfOk result (λ names. All IsName names) }
         ensures told { IsTrue (tells self.old) → IfOk result (IsNames (files self.old)) };
 
     /// A file's length in bytes, `None` where there is no such file.

@@ -1,7 +1,7 @@
 ghost use Rattle.std.specs.Prelude.{◌≡◌, ◌≤◌, ◌↔◌, length, All, IfOk, IsTrue, option_copied, option_map};
 ghost use Rattle.std.specs.List.{list_any};
 ghost use Rattle.acq_outside.specs.Disk.{IsName, IsRead, same_name};
-ghost use Rattle.acq_outside.specs.History.{names_differ};
+ghost use Rattle.acq_outside.specs.History.{IsNamed, names_differ};
 
 use crate::change::Change;
 use crate::failing::Failing;
@@ -27,7 +27,7 @@ impl MemDisk {
     ghost use Rattle.std.specs.Prelude.{◌≡◌, ◌≤◌, ◌↔◌, [], IsTrue, IfOk, OnOk, OnErr, MatchResult};
     ghost use Rattle.acq_outside.specs.Count.{Rose};
     ghost use Rattle.acq_outside.specs.Failing.{fresh, starved};
-    ghost use Rattle.acq_outside.specs.History.{IsStart, files_of, changed, after_change};
+    ghost use Rattle.acq_outside.specs.History.{IsNamed, IsStart, files_of, changed, after_change};
     ghost use Rattle.acq_outside.specs.MemDisk.{past_of, failing_of};
 
     /// Whether a disk may begin with these files.
@@ -64,9 +64,10 @@ impl MemDisk {
         self.failing.dry
     }
 
-    #[tactic(auto, using(crate::proofs::HeldFiles::files_of_changed))]
     /// Does this change within a call that is counted.
+    #[tactic(auto, using(crate::proofs::HeldFiles::files_of_changed))]
     fn apply(&mut self, change: Change) -> Result<(), Fault>
+        requires { IsNamed change }
         ensures change { OnOk result (past_of self.new ≡ changed (past_of self.old) change) }
         ensures files { OnOk result (files_of (past_of self.new) ≡ after_change (files_of (past_of self.old)) change) }
         ensures failed { OnErr result (past_of self.new ≡ past_of self.old) }
@@ -82,7 +83,7 @@ impl MemDisk {
 }
 
 impl Disk for MemDisk {
-    ghost use Rattle.std.specs.Prelude.{◌≡◌, ◌≤◌, ◌<◌, ◌^◌, ℕ, [], Bool, true, false, length, IsTrue, IsErr, IsErrOf, IsOkUnless, Err, IfOk, OnOk, OnErr, MatchResult, IsSomeAnd, option_map, unwrap_or};
+    ghost use Rattle.std.specs.Prelude.{◌≡◌, ◌≤◌, ◌<◌, ◌^◌, ℕ, [], Bool, true, false, length, All, IsTrue, IsErr, IsErrOf, IsOkUnless, Err, IfOk, OnOk, OnErr, MatchResult, IsSomeAnd, option_map, unwrap_or};
     ghost use Rattle.acq_outside.specs.Count.{Rose};
     ghost use Rattle.acq_outside.specs.Disk.{IsName, IsNames, IsRead, IsTornWrite, IsTornCut, IsDoneOrNot, after_write, after_cut, after_rename, after_remove};
     ghost use Rattle.acq_outside.specs.Failing.{is_listed, counted, starved};
@@ -101,6 +102,7 @@ impl Disk for MemDisk {
         ensures telling { true ≡ true }
         ensures same { files_of (past_of self.new) ≡ files_of (past_of self.old) }
         ensures few { IfOk result (λ names. length names < 2 ^ 31) }
+        ensures named { IfOk result (λ names. All IsName names) }
         ensures told { IsTrue true → IfOk result (IsNames (files_of (past_of self.old))) }
 
         // A listed call fails, and no other one does but for want of memory.
@@ -331,7 +333,9 @@ fn has_name(files: &[(Text, Bytes)], name: &Text) -> bool
 }
 
 fn write_change(alloc: Global, name: &[u8], at: u64, bytes: &[u8]) -> Result<Change, NoMemory>
-    ensures { IfOk result (λ change. change ≡ Change.Write name.now at bytes.now) }
+    requires { IsName name.now }
+    ensures change { IfOk result (λ change. change ≡ Change.Write name.now at bytes.now) }
+    ensures named { IfOk result IsNamed }
 {
     Ok(Change::Write {
         name: Text::from_bytes(alloc, name)?,
@@ -341,7 +345,9 @@ fn write_change(alloc: Global, name: &[u8], at: u64, bytes: &[u8]) -> Result<Cha
 }
 
 fn cut_change(alloc: Global, name: &[u8], len: u64) -> Result<Change, NoMemory>
-    ensures { IfOk result (λ change. change ≡ Change.Cut name.now len) }
+    requires { IsName name.now }
+    ensures change { IfOk result (λ change. change ≡ Change.Cut name.now len) }
+    ensures named { IfOk result IsNamed }
 {
     Ok(Change::Cut {
         name: Text::from_bytes(alloc, name)?,
@@ -350,13 +356,18 @@ fn cut_change(alloc: Global, name: &[u8], len: u64) -> Result<Change, NoMemory>
 }
 
 fn sync_change(alloc: Global, name: &[u8]) -> Result<Change, NoMemory>
-    ensures { IfOk result (λ change. change ≡ Change.Sync name.now) }
+    requires { IsName name.now }
+    ensures change { IfOk result (λ change. change ≡ Change.Sync name.now) }
+    ensures named { IfOk result IsNamed }
 {
     Ok(Change::Sync(Text::from_bytes(alloc, name)?))
 }
 
 fn rename_change(alloc: Global, from: &[u8], to: &[u8]) -> Result<Change, NoMemory>
-    ensures { IfOk result (λ change. change ≡ Change.Rename from.now to.now) }
+    requires from { IsName from.now }
+    requires to { IsName to.now }
+    ensures change { IfOk result (λ change. change ≡ Change.Rename from.now to.now) }
+    ensures named { IfOk result IsNamed }
 {
     Ok(Change::Rename {
         from: Text::from_bytes(alloc, from)?,
@@ -365,7 +376,9 @@ fn rename_change(alloc: Global, from: &[u8], to: &[u8]) -> Result<Change, NoMemo
 }
 
 fn remove_change(alloc: Global, name: &[u8]) -> Result<Change, NoMemory>
-    ensures { IfOk result (λ change. change ≡ Change.Remove name.now) }
+    requires { IsName name.now }
+    ensures change { IfOk result (λ change. change ≡ Change.Remove name.now) }
+    ensures named { IfOk result IsNamed }
 {
     Ok(Change::Remove(Text::from_bytes(alloc, name)?))
 }

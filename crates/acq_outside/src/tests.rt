@@ -9,7 +9,6 @@ use crate::{
 };
 use acq_base::{Answer, Bytes, Job, Mirror, NoMemory, Reply, Row, Scheme, Text, TryCopy, Uri};
 use std::alloc::Global;
-use std::process::Abort;
 use std::test::Fail;
 
 fn bytes(alloc: Global, list: &[u8]) -> Result<Bytes, NoMemory> {
@@ -47,6 +46,7 @@ fn a_sink_keeps_what_its_successful_writes_wrote(rt: HostRuntime) -> Result<(), 
 }
 
 /// `file:///LETTER`
+#[tactic(auto, using(crate::proofs::SampleUri::sample_uri))]
 fn uri(alloc: Global, letter: u8) -> Result<Uri, NoMemory>
     requires { (97 ≤ letter) × (letter ≤ 122) }
     ensures { IfOk result IsSound }
@@ -175,54 +175,77 @@ fn append<D: Disk>(disk: &mut D, name: &[u8], bytes: &[u8]) -> Result<(), Fault>
     if let Some(len) = disk.size(name)? {
         disk.write_at(name, len, bytes)?;
     }
-    Ok(())
+    disk.sync(name)
 }
 
-/// A list on its way is written, read in pieces, moved to its place and removed again.
-fn story<D: Disk>(rt: &impl Abort, alloc: Global, disk: &mut D) -> Result<(), Fail> {
-    assert!(rt; is_name(LIST));
-    assert!(rt; is_name(PARTIAL));
-    write_whole(disk, PARTIAL, b"abc")?;
-    append(disk, PARTIAL, b"de")?;
-    disk.sync(PARTIAL)?;
+fn read_three<D: Disk>(disk: &mut D, name: &[u8], at: u64) -> Result<(usize, [u8; 3]), Fault>
+    requires { IsName name.now }
+{
     let mut piece = [0u8; 3];
-    assert_eq!(rt; disk.read_at(PARTIAL, 1, &mut piece)?, 3);
-    assert_eq!(rt; piece, *b"bcd");
-    assert_eq!(rt; disk.read_at(PARTIAL, 4, &mut piece)?, 1);
-    assert_eq!(rt; piece, *b"ecd");
-    assert_eq!(rt; disk.read_at(PARTIAL, 5, &mut piece)?, 0);
-    disk.rename(PARTIAL, LIST)?;
+    let n = disk.read_at(name, at, &mut piece)?;
+    Ok((n, piece))
+}
+
+/// The lengths under both names after the file is moved.
+fn moved<D: Disk>(disk: &mut D, from: &[u8], to: &[u8]) -> Result<[Option<u64>; 2], Fault>
+    requires from { IsName from.now }
+    requires to { IsName to.now }
+{
+    disk.rename(from, to)?;
     disk.sync_names()?;
-    assert_eq!(rt; disk.size(PARTIAL)?, None);
-    assert_eq!(rt; disk.size(LIST)?, Some(5));
-    disk.cut(LIST, 0)?;
-    assert_eq!(rt; read_whole(alloc, disk, LIST)?, Some(bytes(alloc, b"")?));
-    write_whole(disk, PARTIAL, b"x")?;
-    let names = disk.names(alloc)?;
-    assert_eq!(rt; names.len(), 2);
-    assert_eq!(rt; names.as_slice()[0].as_bytes(), LIST);
-    assert_eq!(rt; names.as_slice()[1].as_bytes(), PARTIAL);
-    disk.remove(LIST)?;
-    disk.remove(LIST)?;
-    assert_eq!(rt; read_whole(alloc, disk, LIST)?, None);
-    Ok(())
+    Ok([disk.size(from)?, disk.size(to)?])
+}
+
+/// The lengths after the file is cut to nothing, and after it is removed twice.
+fn emptied<D: Disk>(disk: &mut D, name: &[u8]) -> Result<[Option<u64>; 2], Fault>
+    requires { IsName name.now }
+{
+    disk.cut(name, 0)?;
+    let cut = disk.size(name)?;
+    disk.remove(name)?;
+    disk.remove(name)?;
+    Ok([cut, disk.size(name)?])
 }
 
 #[test]
 fn a_disk_holds_what_its_calls_made(rt: HostRuntime) -> Result<(), Fail> {
     let alloc = rt.alloc();
+    assert!(rt; is_name(LIST) && is_name(PARTIAL));
     let mut disk = MemDisk::new(alloc, Row::new(alloc), false, Row::new(alloc))?;
-    story(&rt, alloc, &mut disk)
+    write_whole(&mut disk, PARTIAL, b"abc")?;
+    append(&mut disk, PARTIAL, b"de")?;
+    for (at, piece) in [(1, (3, *b"bcd")), (4, (1, *b"e\0\0")), (5, (0, [0; 3]))] {
+        assert_eq!(rt; read_three(&mut disk, PARTIAL, at)?, piece);
+    }
+    assert_eq!(rt; moved(&mut disk, PARTIAL, LIST)?, [None, Some(5)]);
+    write_whole(&mut disk, PARTIAL, b"x")?;
+    assert_eq!(rt; disk.names(alloc)?, names_of(alloc, LIST, PARTIAL)?);
+    assert_eq!(rt; emptied(&mut disk, LIST)?, [Some(0), None]);
+    Ok(())
+}
+
+fn names_of(alloc: Global, first: &[u8], second: &[u8]) -> Result<Row<Text>, NoMemory> {
+    let mut names = Row::new(alloc);
+    names.push(Text::from_bytes(alloc, first)?)?;
+    names.push(Text::from_bytes(alloc, second)?)?;
+    Ok(names)
+}
+
+/// A disk with one list, of which the second call is to fail.
+fn failing_disk(alloc: Global) -> Result<Option<MemDisk>, NoMemory> {
+    let mut files = Row::new(alloc);
+    files.push((Text::from_bytes(alloc, LIST)?, bytes(alloc, b"old")?))?;
+    if !MemDisk::takes(&files) {
+        return Ok(None);
+    }
+    Ok(Some(MemDisk::new(alloc, files, false, only(alloc, 2)?)?))
 }
 
 #[test]
 fn a_listed_call_of_a_disk_fails_and_changes_nothing(rt: HostRuntime) -> Result<(), Fail> {
     let alloc = rt.alloc();
     assert!(rt; is_name(LIST));
-    let mut files = Row::new(alloc);
-    files.push((Text::from_bytes(alloc, LIST)?, bytes(alloc, b"old")?))?;
-    assert!(rt; MemDisk::takes(&files));
-    let mut disk = MemDisk::new(alloc, files, false, only(alloc, 2)?)?;
+    let mut disk = failing_disk(alloc)?.ok_or("no disk begins so")?;
     assert_eq!(rt; disk.size(LIST), Ok(Some(3)));
     assert_eq!(rt; write_whole(&mut disk, LIST, b"new"), Err(Fault));
     assert_eq!(rt;

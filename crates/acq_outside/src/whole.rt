@@ -88,8 +88,8 @@ fn read_through<D: Disk>(
     }
 }
 
-#[tactic(auto, using(crate::proofs::WholeFiles::grown))]
 /// Appends what one read gives behind the content so far, and answers how many bytes it gave.
+#[tactic(auto, using(crate::proofs::WholeFiles::grown))]
 fn read_piece<D: Disk>(
     disk: &mut D,
     name: &[u8],

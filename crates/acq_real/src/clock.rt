@@ -1,0 +1,47 @@
+ghost use Rattle.std.specs.Prelude.{◌≡◌, None, Some};
+
+use acq_outside::Clock;
+use std::rt;
+use std::time::{SystemTime, UNIX_EPOCH};
+
+/// The system's clock.
+#[derive(Drop)]
+pub struct RealClock<R: Drop> {
+    rt: R,
+    given: u64,
+    last: Option<i64>,
+}
+
+impl<R: rt::Clock + Drop> RealClock<R> {
+    pub fn new(rt: R) -> RealClock<R> {
+        RealClock {
+            rt,
+            given: 0,
+            last: None,
+        }
+    }
+}
+
+impl<R: rt::Clock + Drop> Clock for RealClock<R> {
+    ghost given = { λ clock. clock.given };
+
+    ghost last = { λ clock. clock.last };
+
+    fn moment(&mut self) -> i64 {
+        let moment = seconds(&self.rt);
+        self.given = self.given.saturating_add(1);
+        self.last = Some(moment);
+        moment
+    }
+}
+
+/// The seconds since 1970 began. Where the system gives no time, or an earlier one, it is 0.
+fn seconds(rt: &impl rt::Clock) -> i64 {
+    let Ok(now) = SystemTime::now(rt) else {
+        return 0;
+    };
+    match now.duration_since(UNIX_EPOCH) {
+        Ok(since) => i64::try_from(since.as_secs()).unwrap_or(i64::MAX),
+        Err(_) => 0,
+    }
+}
