@@ -1,10 +1,10 @@
 -- A Release is admissible exactly where it is refused for none of the three causes.
-use Rattle.std.proofs.Common.{◌≡◌, ◌↔◌, ℕ, Bool, true, false, ℤ, pos, ◌+ℤ◌, ◌<ℤ◌, Option, Some, None, Result, Ok, Err, IsOk, refl, sym, subst, inl, inr, arith, if◌then◌else◌}
+use Rattle.std.proofs.Common.{◌≡◌, ◌↔◌, ℕ, ℤ, pos, ◌+ℤ◌, ◌<ℤ◌, Option, Some, None, Result, Ok, Err, IsOk, refl, sym, subst, inl, inr, arith, if◌then◌else◌}
 use Rattle.std.specs.Prelude.{int_lt}
 use Rattle.std.proofs.lemmas.Bool.{cases_Bool}
 use Rattle.std.proofs.lemmas.Int.{ints}
 use Rattle.acq_base.specs.declared.settings.Dates.{Dates}
-use Rattle.release_file.specs.Dates.{IsExpired, IsFuture, IsOlder, IsAdmissible, end_of_validity, judged, judged_end, judged_date, judged_age, unless_refused}
+use Rattle.release_file.specs.Dates.{IsAdmissible, end_of_validity, judged, judged_end, judged_date, judged_age, unless_refused}
 use Rattle.release_file.specs.declared.release.Release.{Release}
 use Rattle.release_file.specs.declared.judging.DateError.{DateError}
 use Rattle.release_file.specs.declared.judging.DateError.TheVariants.{Expired, Future, Older}

@@ -1,11 +1,11 @@
 -- The last part of a date text: where it may hold nothing of what separates parts, a reader needn't look for that.
-use Rattle.std.proofs.Common.{◌≡◌, ◌∙◌, ℕ, ◌==◌, ◌&&◌, not, Bool, true, false, List, [], ◌∷◌, ◌++◌, codes, nat_eq, nat_le, length, Option, Some, None, ℤ, refl, sym, ap, subst, arith, rules, if◌then◌else◌}
+use Rattle.std.proofs.Common.{◌≡◌, ◌∙◌, ℕ, ◌==◌, not, true, false, List, [], ◌∷◌, ◌++◌, codes, nat_eq, Option, Some, None, ℤ, refl, sym, ap, arith, if◌then◌else◌}
 use Rattle.std.proofs.lemmas.Bool.Decides.{nat_tests}
 use Rattle.std.proofs.lemmas.List.Splits.{join_with_byte-slice_split}
 use Rattle.std.specs.Char.{is_ascii_digit}
 use Rattle.std.specs.Cmp.Lexicographic.{pointwise}
-use Rattle.std.specs.List.{list_all, list_any, join_with_byte}
-use Rattle.release_file.specs.DateText.{◌>>=◌, parts_at, same_text, number_of, is_zone, clock_of, clock_of_texts, clock_of_parts, day_of_texts, moment_of, moment_of_parts}
+use Rattle.std.specs.List.{list_all, join_with_byte}
+use Rattle.release_file.specs.DateText.{◌>>=◌, parts_at, number_of, is_zone, clock_of, clock_of_texts, clock_of_parts, day_of_texts, moment_of, moment_of_parts}
 
 -- ---- the seconds
 

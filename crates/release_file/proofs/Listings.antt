@@ -1,8 +1,7 @@
 -- A Release that is read lists a path with a sum exactly where a sum line says so, and no path twice.
-use Rattle.std.proofs.Common.{◌≡◌, ◌≢◌, ◌∙◌, ◌⊎◌, ◌↔◌, ◌==◌, ◌&&◌, ℕ, Bool, true, false, not, List, [], ◌∷◌, ◌++◌, codes, drop, filter, Option, Some, None, Result, Ok, Err, IfOk, All, refl, sym, ap, subst, inl, inr, arith, append_assoc, ⊎_elim, length}
+use Rattle.std.proofs.Common.{◌≡◌, ◌≢◌, ◌∙◌, ◌⊎◌, ◌↔◌, ◌==◌, ℕ, true, false, not, List, [], ◌∷◌, ◌++◌, codes, drop, filter, Option, Some, None, Result, Ok, Err, IfOk, refl, sym, ap, subst, inl, inr, arith, append_assoc, ⊎_elim, length}
 use Rattle.std.specs.Prelude.{option_to_list, if◌then◌else◌, Contains, AllPairs}
 use Rattle.std.specs.List.{filter_map, cons_option}
-use Rattle.std.specs.Cmp.Lexicographic.{bytes_decides}
 use Rattle.std.proofs.lemmas.Bool.{cases_Bool, and_parts, false≢true}
 use Rattle.std.proofs.lemmas.Bool.Decides.{nat_tests}
 use Rattle.std.proofs.lemmas.List.{append-nil}

@@ -1,5 +1,5 @@
 -- That a text of few decimal digits is what std's `parse` reads.
-use Rattle.std.proofs.Common.{◌≡◌, ◌∙◌, ◌&&◌, nat_le, ℕ, ◌<◌, ◌≤◌, ◌^◌, true, List, [], ◌∷◌, inl, inr, length, Option, Some, None, Result, Ok, Err, refl, sym, subst, arith, rules, IfSome}
+use Rattle.std.proofs.Common.{◌≡◌, ◌∙◌, ◌&&◌, nat_le, ℕ, ◌<◌, ◌≤◌, ◌^◌, true, List, [], ◌∷◌, inl, inr, length, Option, Some, Result, Ok, Err, sym, subst, arith, rules, IfSome}
 use Rattle.std.proofs.lemmas.Bool.{and_parts, cases_Bool}
 use Rattle.std.proofs.lemmas.Bool.Decides.{nat_tests}
 use Rattle.std.proofs.lemmas.Str.{IsUtf8-from_ascii}

@@ -1,18 +1,16 @@
 -- Sum lines taken one after another: the files and the sums by path are those of the lines above.
-use Rattle.std.proofs.Common.{◌≡◌, ◌∙◌, ℕ, suc, ◌+◌, ◌<◌, ◌≤◌, Bool, true, false, not, cond, List, [], ◌∷◌, ◌++◌, length, take, drop, get_or, drop-cons, filter, Option, Some, None, Result, Ok, Err, is_some, refl, sym, ap, subst, inl, inr, arith}
+use Rattle.std.proofs.Common.{◌≡◌, ◌∙◌, ℕ, suc, ◌+◌, ◌<◌, ◌≤◌, Bool, true, false, not, cond, List, [], ◌∷◌, ◌++◌, length, take, drop, get_or, drop-cons, filter, Option, Some, None, Ok, Err, refl, sym, ap, inl, inr, arith}
 use Rattle.std.specs.Prelude.{option_to_list, if◌then◌else◌}
 use Rattle.std.specs.List.{filter_map, cons_option}
 use Rattle.std.specs.Cmp.Lexicographic.{bytes_decides, slice_cmp}
 use Rattle.std.specs.Ordering.{nat_cmp, is_eq}
 use Rattle.std.proofs.lemmas.Map.Text.{is_eq-slice_cmp}
 use Rattle.std.proofs.lemmas.Bool.{cases_Bool}
-use Rattle.std.proofs.lemmas.Bool.Decides.{nat_tests}
 use Rattle.std.proofs.lemmas.List.{take_more, take_all, drop_all, append-nil}
 use Rattle.acq_base.specs.declared.sum.Sum.{Sum}
 use Rattle.release_file.specs.DateText.{same_text}
 use Rattle.release_file.specs.Entries.{with_entry, sum_beside}
-use Rattle.release_file.specs.Release.{listed_of_line, sum_in, agrees, may_follow, line_below, first_bad, firsts, refused_at, files_of_lines}
-use Rattle.release_file.specs.declared.error.ReleaseError.{ReleaseError}
+use Rattle.release_file.specs.Release.{listed_of_line, sum_in, agrees, may_follow, line_below, first_bad, firsts, files_of_lines}
 use Rattle.release_file.specs.declared.error.ReleaseError.TheVariants.{BadSums}
 use Rattle.release_file.specs.declared.release.Listed.{Listed}
 

@@ -1,6 +1,6 @@
 -- The text of a date in a Release (Debian repository format, "Date, Valid-Until"; RFC 5322, section 3.3):
 -- `[WORD, ]D MON YYYY hh:mm:ss ZONE`, with one space between each two of these.
-use Rattle.std.specs.Prelude.{ℕ, ◌+◌, ◌*◌, ◌==◌, ◌&&◌, ◌||◌, nat_le, nat_eq, Bool, false, if◌then◌else◌, List, [], ◌∷◌, length, codes, Option, Some, None, option_and_then, ℤ, pos, ◌+ℤ◌, ◌*ℤ◌}
+use Rattle.std.specs.Prelude.{ℕ, ◌+◌, ◌*◌, ◌==◌, ◌&&◌, nat_le, nat_eq, Bool, false, if◌then◌else◌, List, [], ◌∷◌, length, codes, Option, Some, None, option_and_then, ℤ, pos, ◌+ℤ◌, ◌*ℤ◌}
 use Rattle.std.specs.List.{slice_split, list_all, list_any}
 use Rattle.std.specs.Char.{is_ascii_digit, is_ascii_alphabetic}
 use Rattle.std.specs.Cmp.Lexicographic.{pointwise}

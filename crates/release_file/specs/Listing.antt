@@ -1,5 +1,5 @@
 -- What a Release lists, in terms of its sum lines, each taken by itself.
-use Rattle.std.specs.Prelude.{ℕ, false, List, [], ◌∷◌, codes, drop, Option, Some, None, Result, Ok, Err}
+use Rattle.std.specs.Prelude.{ℕ, false, List, [], ◌∷◌, codes, drop, Option, Some, None, Result, Ok}
 use Rattle.std.specs.List.{filter_map}
 use Rattle.deb822_text.specs.Control.{paragraphs_of, field_named}
 use Rattle.deb822_text.specs.declared.error.TextError.{TextError}

@@ -1,7 +1,6 @@
 -- Release files (Debian repository format, "Release" files): what the bytes of one say, or why they are refused.
-use Rattle.std.specs.Prelude.{ℕ, ◌+◌, ◌-◌, ◌^◌, ◌==◌, ◌&&◌, min, not, nat_eq, Bool, true, false, if◌then◌else◌, List, [], ◌∷◌, ◌++◌, length, codes, filter, Option, Some, None, ok_or, is_some, option_to_list, Result, Ok, Err, ℤ}
+use Rattle.std.specs.Prelude.{ℕ, ◌+◌, ◌-◌, ◌^◌, ◌==◌, ◌&&◌, min, not, Bool, true, false, if◌then◌else◌, List, [], ◌∷◌, ◌++◌, length, codes, filter, Option, Some, None, ok_or, option_to_list, Result, Ok, Err, ℤ}
 use Rattle.std.specs.List.{filter_map, join_with_byte}
-use Rattle.std.specs.Option.{option_map}
 use Rattle.std.specs.Result.{result_ok}
 use Rattle.std.specs.Str.{str_eq_ignore_ascii_case}
 use Rattle.acq_base.specs.Sum.{sum_of_texts}

@@ -1,5 +1,5 @@
 use crate::{find_file, read_release};
-use acq_base::{Refusal, sum_of};
+use acq_base::{Refusal, Text, sum_of};
 use std::test::Fail;
 
 /// Texts that are no Release, and the number and line of the refusal.
@@ -179,6 +179,14 @@ e3b0c44298fc1c149afbf4c8996fb92427ae41e4649b934ca495991b7852b855        0 main/s
 SHA512:\n \
 ddaf35a193617abacc417349ae20413112e6fa4e89a97ea20a9eeee64b55d39a2192992a274fc1a836ba3c23a3feebbd454d4423643ce80e2a9ac94fa54ca49f        3 main/binary-amd64/Packages\n";
 
+/// Whether the text is there and has these bytes.
+fn is_text(text: &Option<Text>, bytes: &[u8]) -> bool {
+    match text {
+        Some(text) => text.as_bytes() == bytes,
+        None => false,
+    }
+}
+
 #[test]
 fn a_release_of_an_archive(rt: HostRuntime) -> Result<(), Fail> {
     let release = read_release(rt.alloc(), ARCHIVE)?;
@@ -192,10 +200,8 @@ fn a_release_of_an_archive(rt: HostRuntime) -> Result<(), Fail> {
     assert!(rt; find_file(&release, b"main/i18n/Translation-en") == Some(&nothing));
     assert!(rt; find_file(&release, b"main/source/Sources") == Some(&nothing));
     assert!(rt; find_file(&release, b"main/binary-amd64/Packages.gz").is_none());
-    let origin = release.head.origin.ok_or("no Origin")?;
-    assert_eq!(rt; origin.as_bytes(), b"Debian".as_slice());
-    let codename = release.head.codename.ok_or("no Codename")?;
-    assert_eq!(rt; codename.as_bytes(), b"bookworm".as_slice());
+    assert!(rt; is_text(&release.head.origin, b"Debian"));
+    assert!(rt; is_text(&release.head.codename, b"bookworm"));
     Ok(())
 }
 
@@ -209,9 +215,7 @@ fn a_release_of_few_fields(rt: HostRuntime) -> Result<(), Fail> {
     assert!(rt; !release.by_hash);
     assert!(rt; release.files.is_empty());
     assert!(rt; release.head.origin.is_none());
-    let label = release.head.label.ok_or("no Label")?;
-    assert!(rt; label.is_empty());
-    let suite = release.head.suite.ok_or("no Suite")?;
-    assert_eq!(rt; suite.as_bytes(), b"a\nb\nc".as_slice());
+    assert!(rt; is_text(&release.head.label, b""));
+    assert!(rt; is_text(&release.head.suite, b"a\nb\nc"));
     Ok(())
 }

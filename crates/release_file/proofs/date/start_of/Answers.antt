@@ -1,4 +1,4 @@
-use Rattle.std.proofs.Common.{◌≡◌, ℤ, pos, FitsSigned, to_z, w8, w64, IsOk, rules, arith}
+use Rattle.std.proofs.Common.{◌≡◌, pos, FitsSigned, to_z, w8, w64, IsOk, rules, arith}
 use Rattle.std.specs.Int.{w16}
 use Rattle.std.proofs.lemmas.Bool.{false≢true}
 use Rattle.jiff.specs.Words.{IsDate}

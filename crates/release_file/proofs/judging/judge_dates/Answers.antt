@@ -1,4 +1,4 @@
-use Rattle.std.proofs.Common.{FitsSigned, w64, rules}
+use Rattle.std.proofs.Common.{FitsSigned, w64}
 use Rattle.std.proofs.lemmas.Int.{to_z-of_z}
 use Rattle.release_file.proofs.Judged.{admissible}
 use Rattle.release_file.proofs.judging.judge_dates.Goals as goal
