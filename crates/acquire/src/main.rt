@@ -11,12 +11,11 @@ use acq_base::{Mirror, Row};
 use acq_outside::{MapMethod, MemEtc, Sink};
 use acq_real::{RealClock, RealDisk, RealSink};
 use std::alloc::Global;
-use std::env;
 use std::fs::File;
-use std::io;
 use std::io::ErrorKind;
 use std::process::ExitCode;
 use std::rt::{Clock, Env, Files};
+use std::{env, io};
 use update_program::{Status, update_call};
 
 mod mirror;

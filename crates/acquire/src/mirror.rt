@@ -12,7 +12,8 @@ use std::{fs, io};
 
 type Rows = Row<(Uri, Answer)>;
 
-const RELEASE: &[u8] = b"Date: Sat, 10 Jun 2023 08:53:33 UTC\nSHA256:\n ba7816bf8f01cfea414140de5dae2223b00361a396177a9cb410ff61f20015ad 3 main/binary-amd64/Packages\n";
+const RELEASE: &[u8] =
+    b"Date: Sat, 10 Jun 2023 08:53:33 UTC\nSHA256:\n ba7816bf8f01cfea414140de5dae2223b00361a396177a9cb410ff61f20015ad 3 main/binary-amd64/Packages\n";
 
 /// A folder on its way: where it lies, and the host and path that its files stand for.
 #[derive(Drop)]
@@ -29,7 +30,13 @@ pub fn built_in(alloc: Global) -> io::Result<Mirror>
     let host = Text::from_bytes(alloc, b"m.example").map_err(out_of_memory)?;
     let mut rows = Row::new(alloc);
     serve(alloc, &mut rows, &host, b"/d/dists/s/Release", RELEASE)?;
-    serve(alloc, &mut rows, &host, b"/d/dists/s/main/binary-amd64/Packages", b"abc")?;
+    serve(
+        alloc,
+        &mut rows,
+        &host,
+        b"/d/dists/s/main/binary-amd64/Packages",
+        b"abc",
+    )?;
     Ok(Mirror { rows })
 }
 
@@ -45,12 +52,7 @@ fn serve(alloc: Global, rows: &mut Rows, host: &Text, path: &[u8], bytes: &[u8])
     rows.push(entry).map_err(out_of_memory)
 }
 
-fn entry(
-    alloc: Global,
-    host: &Text,
-    path: &[u8],
-    bytes: &[u8],
-) -> Result<(Uri, Answer), NoMemory>
+fn entry(alloc: Global, host: &Text, path: &[u8], bytes: &[u8]) -> Result<(Uri, Answer), NoMemory>
     ensures { IfOk result (λ row. IsSoundAnswer row.1) }
 {
     let uri = Uri {
