@@ -146,8 +146,8 @@ items_read (sets_block key quoted value inside rest) room blocks more r h =
     ∙ value_step blocks key quoted value (Open ∷ spelled inside ++ (Close ∷ behind))
     ∙ set_and_enter_step blocks key value (spelled inside ++ (Close ∷ behind)) (omega (arith, h.1))
     ∙ ap (front set) (items_read inside (room - 1) inner (Close ∷ behind) (deeper blocks key room r h.1) h.2
-      ∙ ap (front (given_by inner inside)) (leave_step blocks key behind ∙ items_read rest room blocks more r h.3)
-      ∙ front-front (given_by inner inside) (given_by blocks rest) (bare (begin blocks) more))
+    ∙ ap (front (given_by inner inside)) (leave_step blocks key behind ∙ items_read rest room blocks more r h.3)
+    ∙ front-front (given_by inner inside) (given_by blocks rest) (bare (begin blocks) more))
     ∙ front-front set (given_by inner inside ++ given_by blocks rest) (bare (begin blocks) more)
 
 ok_from : (r : Result (List Pair) ConfError) (pairs : List Pair) → result_ok r ≡ Some pairs → r ≡ Ok pairs
@@ -161,8 +161,8 @@ spelled_read text items short h s =
     let t : nat_lt 1048576 (length text) ≡ false = grind (arith, nat_tests) in
     let last = last_line text in
     let read : result_ok (pairs_from last start (tokens_of text)) ≡ Some (given_by [] items) =
-      pairs_from-bare last start (tokens_of text)
-      ∙ ap (bare start) (s ∙ sym (append-nil (spelled items)))
-      ∙ items_read items 16 [] [] refl h
-      ∙ ap (λ (ps : List Pair). Some ps) (append-nil (given_by [] items)) in
+    pairs_from-bare last start (tokens_of text)
+    ∙ ap (bare start) (s ∙ sym (append-nil (spelled items)))
+    ∙ items_read items 16 [] [] refl h
+    ∙ ap (λ (ps : List Pair). Some ps) (append-nil (given_by [] items)) in
     rw t (ok_from (pairs_from last start (tokens_of text)) (given_by [] items) read)
