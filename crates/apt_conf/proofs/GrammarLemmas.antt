@@ -1,19 +1,19 @@
 -- Statements that a text spells are read.
 use Rattle.std.proofs.Common.{◌≡◌, ℕ, ◌+◌, ◌-◌, ◌<◌, ◌≤◌, Bool, true, false, List, [], ◌∷◌, ◌++◌, length, map, take, Option, Some, None, Result, Ok, Err, refl, sym, ap, ◌∙◌, append_assoc, length-append, arith}
-use Rattle.std.specs.Prelude.{◌⊎◌, IfOk, OnOk, if◌then◌else◌, nat_lt, nat_eq, option_map, codes}
+use Rattle.std.specs.Prelude.{if◌then◌else◌, nat_lt, nat_eq, option_map}
 use Rattle.std.specs.Result.{result_ok}
 use Rattle.std.proofs.lemmas.Bool.Decides.{nat_tests}
 use Rattle.std.proofs.lemmas.List.{append-nil, take_at}
 use Rattle.apt_conf.specs.declared.error.ConfError.{ConfError}
 use Rattle.apt_conf.specs.declared.error.ConfError.TheVariants.{BadConf}
 use Rattle.apt_conf.specs.declared.statement.Part.{Part}
-use Rattle.apt_conf.specs.declared.statement.Part.TheVariants.{Start, Listed, Named, Valued}
+use Rattle.apt_conf.specs.declared.statement.Part.TheVariants.{Start, Named, Valued}
 use Rattle.apt_conf.specs.declared.token.Token.{Token}
 use Rattle.apt_conf.specs.declared.token.Token.TheVariants.{Word, Quoted, Semicolon, Open, Close}
 use Rattle.apt_conf.specs.Keys.{Pair, is_key}
 use Rattle.apt_conf.specs.Tokens.{Placed, last_line, tokens_of}
-use Rattle.apt_conf.specs.Statements.{◌>>=◌, Place, Moved, start, moved, on_line, is_closed, given, prefix_of, entered, left, step_at_start, step_when_listed, step_when_named, step_when_valued, pairs_from}
-use Rattle.apt_conf.specs.Reading.{pairs_of, answer}
+use Rattle.apt_conf.specs.Statements.{◌>>=◌, Place, Moved, start, moved, on_line, is_closed, given, prefix_of, step_at_start, step_when_listed, step_when_named, step_when_valued, pairs_from}
+use Rattle.apt_conf.specs.Reading.{pairs_of}
 use Rattle.apt_conf.specs.Grammar.{Items, nothing, empty, listed, named, sets, block, sets_block, value_token, spelled, given_by, AreItems, Spells}
 
 -- ---- the pairs of tokens, wherever they stand
@@ -146,8 +146,8 @@ items_read (sets_block key quoted value inside rest) room blocks more r h =
     ∙ value_step blocks key quoted value (Open ∷ spelled inside ++ (Close ∷ behind))
     ∙ set_and_enter_step blocks key value (spelled inside ++ (Close ∷ behind)) (omega (arith, h.1))
     ∙ ap (front set) (items_read inside (room - 1) inner (Close ∷ behind) (deeper blocks key room r h.1) h.2
-      ∙ ap (front (given_by inner inside)) (leave_step blocks key behind ∙ items_read rest room blocks more r h.3)
-      ∙ front-front (given_by inner inside) (given_by blocks rest) (bare (begin blocks) more))
+    ∙ ap (front (given_by inner inside)) (leave_step blocks key behind ∙ items_read rest room blocks more r h.3)
+    ∙ front-front (given_by inner inside) (given_by blocks rest) (bare (begin blocks) more))
     ∙ front-front set (given_by inner inside ++ given_by blocks rest) (bare (begin blocks) more)
 
 ok_from : (r : Result (List Pair) ConfError) (pairs : List Pair) → result_ok r ≡ Some pairs → r ≡ Ok pairs
@@ -161,8 +161,8 @@ spelled_read text items short h s =
     let t : nat_lt 1048576 (length text) ≡ false = grind (arith, nat_tests) in
     let last = last_line text in
     let read : result_ok (pairs_from last start (tokens_of text)) ≡ Some (given_by [] items) =
-      pairs_from-bare last start (tokens_of text)
-      ∙ ap (bare start) (s ∙ sym (append-nil (spelled items)))
-      ∙ items_read items 16 [] [] refl h
-      ∙ ap (λ (ps : List Pair). Some ps) (append-nil (given_by [] items)) in
+    pairs_from-bare last start (tokens_of text)
+    ∙ ap (bare start) (s ∙ sym (append-nil (spelled items)))
+    ∙ items_read items 16 [] [] refl h
+    ∙ ap (λ (ps : List Pair). Some ps) (append-nil (given_by [] items)) in
     rw t (ok_from (pairs_from last start (tokens_of text)) (given_by [] items) read)
