@@ -1,19 +1,19 @@
 -- Statements that a text spells are read.
 use Rattle.std.proofs.Common.{◌≡◌, ℕ, ◌+◌, ◌-◌, ◌<◌, ◌≤◌, Bool, true, false, List, [], ◌∷◌, ◌++◌, length, map, take, Option, Some, None, Result, Ok, Err, refl, sym, ap, ◌∙◌, append_assoc, length-append, arith}
-use Rattle.std.specs.Prelude.{◌⊎◌, IfOk, OnOk, if◌then◌else◌, nat_lt, nat_eq, option_map, codes}
+use Rattle.std.specs.Prelude.{if◌then◌else◌, nat_lt, nat_eq, option_map}
 use Rattle.std.specs.Result.{result_ok}
 use Rattle.std.proofs.lemmas.Bool.Decides.{nat_tests}
 use Rattle.std.proofs.lemmas.List.{append-nil, take_at}
 use Rattle.apt_conf.specs.declared.error.ConfError.{ConfError}
 use Rattle.apt_conf.specs.declared.error.ConfError.TheVariants.{BadConf}
 use Rattle.apt_conf.specs.declared.statement.Part.{Part}
-use Rattle.apt_conf.specs.declared.statement.Part.TheVariants.{Start, Listed, Named, Valued}
+use Rattle.apt_conf.specs.declared.statement.Part.TheVariants.{Start, Named, Valued}
 use Rattle.apt_conf.specs.declared.token.Token.{Token}
 use Rattle.apt_conf.specs.declared.token.Token.TheVariants.{Word, Quoted, Semicolon, Open, Close}
 use Rattle.apt_conf.specs.Keys.{Pair, is_key}
 use Rattle.apt_conf.specs.Tokens.{Placed, last_line, tokens_of}
-use Rattle.apt_conf.specs.Statements.{◌>>=◌, Place, Moved, start, moved, on_line, is_closed, given, prefix_of, entered, left, step_at_start, step_when_listed, step_when_named, step_when_valued, pairs_from}
-use Rattle.apt_conf.specs.Reading.{pairs_of, answer}
+use Rattle.apt_conf.specs.Statements.{◌>>=◌, Place, Moved, start, moved, on_line, is_closed, given, prefix_of, step_at_start, step_when_listed, step_when_named, step_when_valued, pairs_from}
+use Rattle.apt_conf.specs.Reading.{pairs_of}
 use Rattle.apt_conf.specs.Grammar.{Items, nothing, empty, listed, named, sets, block, sets_block, value_token, spelled, given_by, AreItems, Spells}
 
 -- ---- the pairs of tokens, wherever they stand

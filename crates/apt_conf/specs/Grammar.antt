@@ -3,7 +3,7 @@ use Rattle.std.specs.Prelude.{◌≡◌, ℕ, ◌-◌, ◌<◌, Bool, true, fals
 use Rattle.apt_conf.specs.declared.token.Token.{Token}
 use Rattle.apt_conf.specs.declared.token.Token.TheVariants.{Word, Quoted, Semicolon, Open, Close}
 use Rattle.apt_conf.specs.Keys.{Pair, is_key}
-use Rattle.apt_conf.specs.Tokens.{Placed, tokens_of}
+use Rattle.apt_conf.specs.Tokens.{tokens_of}
 use Rattle.apt_conf.specs.Statements.{given, prefix_of}
 
 -- statements, each with those behind it
