@@ -166,7 +166,7 @@ run-whole : (before after : Outside) (source : Source) (target : Target) (now : 
     → source.release_name.0 ≢ target.name.0 → IsTrue before.tells → IsRun before after source target now outcome → LeavesWholeSet before.files after.files source target now
 run-whole before after source target now outcome n tells run =
     rw (← run.as_read tells) (outcome-whole before after source target (installed_date run.installed) now outcome n (run.left tells)
-        (ends_as-sound before.method_faults after.method_faults before.world source target (installed_date run.installed) now outcome run.ended))
+    (ends_as-sound before.method_faults after.method_faults before.world source target (installed_date run.installed) now outcome run.ended))
 
 dry-whole : (before after : Outside) (source : Source) (target : Target) (now : ℤ)
     → source.release_name.0 ≢ target.name.0 → IsTrue before.tells → (IsTrue before.tells → after.files ≡ before.files) ⊎ ((outcome : Outcome) × IsRun before after source target now outcome)
@@ -227,7 +227,7 @@ for_method-map {M} P Q before after f h = by_old (slice_get before 0) h
 abbrev pub Follows : {M : Type 0} → (M → ℕ) → (M → Option World) → Bool → (ℕ → Option World → Outside) → (ℕ → Option World → Outside) → List M → List M → ℕ → Source → Target → ℤ → Type 0
 Follows {M} faults world tells before after old new result source target now =
     ForMethod old new (λ was is. IfSome (world was) (λ entries. IsTrue tells → result ≢ 102 → result ≢ 103 → result ≢ 105
-        → FollowsMirror (before (faults was) (world was)) (after (faults is) (world is)) entries source target now result))
+    → FollowsMirror (before (faults was) (world was)) (after (faults is) (world is)) entries source target now result))
 
 -- words that are accepted follow the mirror
 pub words-mirror : {M : Type 0} (faults : M → ℕ) (world : M → Option World) (words : List (List ℕ)) (moment : Option ℤ) (old new : List M)
@@ -238,14 +238,14 @@ words-mirror {M} faults world words moment old new d0 tells0 files0 s0 w0 d1 tel
     let before : ℕ → Option World → Outside = seen_with d0 tells0 files0 s0 w0 in
     let after : ℕ → Option World → Outside = seen_with d1 tells1 files1 s1 w1 in
     for_run-map (λ source target now. IsUpdateBy faults world before after old new source target now result) (Follows faults world tells0 before after old new result) (source_of_words words) moment (request_of_words words)
-        (λ source target now n e. for_method-map
-            (λ was is. IsUpdate (before (faults was) (world was)) (after (faults is) (world is)) source target now result)
-            (λ was is. IfSome (world was) (λ entries. IsTrue tells0 → result ≢ 102 → result ≢ 103 → result ≢ 105
-                → FollowsMirror (before (faults was) (world was)) (after (faults is) (world is)) entries source target now result))
-            old new
-            (λ was is u. update-mirror_if_told (before (faults was) (world was)) (after (faults is) (world is)) source target now result u.way)
-            e.ended)
-        h
+    (λ source target now n e. for_method-map
+    (λ was is. IsUpdate (before (faults was) (world was)) (after (faults is) (world is)) source target now result)
+    (λ was is. IfSome (world was) (λ entries. IsTrue tells0 → result ≢ 102 → result ≢ 103 → result ≢ 105
+    → FollowsMirror (before (faults was) (world was)) (after (faults is) (world is)) entries source target now result))
+    old new
+    (λ was is u. update-mirror_if_told (before (faults was) (world was)) (after (faults is) (world is)) source target now result u.way)
+    e.ended)
+    h
 
 -- the first method's run
 pub first-update : {M : Type 0} (faults : M → ℕ) (world : M → Option World) (methods : List M) (old new : M)
