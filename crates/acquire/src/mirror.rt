@@ -48,8 +48,23 @@ fn out_of_memory(_want: NoMemory) -> io::Error {
 fn serve(alloc: Global, rows: &mut Rows, host: &Text, path: &[u8], bytes: &[u8]) -> io::Result<()>
     ensures { HasSoundAnswers rows.old → HasSoundAnswers rows.new }
 {
-    let entry = entry(alloc, host, path, bytes).map_err(out_of_memory)?;
-    rows.push(entry).map_err(out_of_memory)
+    match add(alloc, rows, host, path, bytes) {
+        Ok(()) => Ok(()),
+        Err(want) => Err(out_of_memory(want)),
+    }
+}
+
+fn add(
+    alloc: Global,
+    rows: &mut Rows,
+    host: &Text,
+    path: &[u8],
+    bytes: &[u8],
+) -> Result<(), NoMemory>
+    ensures { HasSoundAnswers rows.old → HasSoundAnswers rows.new }
+{
+    let entry = entry(alloc, host, path, bytes)?;
+    rows.push(entry)
 }
 
 fn entry(alloc: Global, host: &Text, path: &[u8], bytes: &[u8]) -> Result<(Uri, Answer), NoMemory>
@@ -141,15 +156,28 @@ where
     R: Files<File = File> + AllocGlobal + Clone + Drop,
     ensures { HasSoundAnswers rows.old → HasSoundAnswers rows.new }
 {
-    let Ok(entries) = fs::read_dir(rt, folder.place.as_str()) else {
-        return Ok(());
+    let names = names(rt, alloc, folder.place.as_str())?;
+    for name in names.as_slice() {
+        serve_entry(rt, alloc, folder, name.as_str(), rows, below)?;
+    }
+    Ok(())
+}
+
+/// The names in a folder; one that can't be read has none.
+fn names<R>(rt: &R, alloc: Global, place: &str) -> io::Result<Vec<String>>
+where
+    R: Files<File = File> + AllocGlobal + Clone + Drop,
+{
+    let mut names = Vec::new(alloc);
+    let Ok(entries) = fs::read_dir(rt, place) else {
+        return Ok(names);
     };
     for entry in entries {
         if let Some(entry) = named(entry)? {
-            serve_entry(rt, alloc, folder, entry.file_name(), rows, below)?;
+            names.push(String::from_str(alloc, entry.file_name())?)?;
         }
     }
-    Ok(())
+    Ok(names)
 }
 
 /// Serves an entry of a folder that is a plain file, or notes it where it is a folder.

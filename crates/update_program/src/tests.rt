@@ -4,7 +4,7 @@ ghost use Rattle.acq_outside.specs.MapMethod.{HasSoundAnswers};
 
 use crate::{Status, update_call};
 use acq_base::{Answer, Bytes, Mirror, NoMemory, Row, Scheme, Text, Uri};
-use acq_outside::{FixedClock, MapMethod, MemDisk, MemEtc, MemSink, read_whole};
+use acq_outside::{FixedClock, MapMethod, MemDisk, MemEtc, MemSink, Method, read_whole};
 use std::alloc::Global;
 use std::process::Abort;
 use std::test::Fail;
