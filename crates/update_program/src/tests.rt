@@ -217,6 +217,10 @@ fn run<R: AllocGlobal + Abort>(rt: &R, label: &str, case: Case) -> Result<(), Fa
     };
     assert_eq!(rt; methods.len(), 1);
     assert_eq!(rt; methods[0].faults(), faults, "{label}");
+    if case.failing.1 == 3 || case.failing.1 == 6 {
+        // A write failed: that file stands empty, and only the status and the line are compared.
+        return Ok(());
+    }
     let (release, list) = wanted(alloc, &case)?;
     assert_eq!(rt; file(rt, &mut disk, RELEASE_NAME)?, release, "{label}");
     assert_eq!(rt; file(rt, &mut disk, LIST_NAME)?, list, "{label}");
@@ -395,8 +399,10 @@ fn ends_with_102_where_the_disk_fails(rt: HostRuntime) -> Result<(), Fail> {
         failing_disk(1, (false, false)),
     )?;
     run(&rt, "making the list", failing_disk(2, (false, false)))?;
+    run(&rt, "writing the list", failing_disk(3, (false, false)))?;
     run(&rt, "syncing the list", failing_disk(4, (false, true)))?;
     run(&rt, "making the Release", failing_disk(5, (false, true)))?;
+    run(&rt, "writing the Release", failing_disk(6, (false, true)))?;
     run(&rt, "syncing the Release", failing_disk(7, (true, true)))?;
     run(&rt, "syncing the names", failing_disk(8, (true, true)))
 }
