@@ -1,6 +1,6 @@
 -- Entries that are added give pairs, and each step of reading adds what it says.
 use Rattle.std.proofs.Common.{◌≡◌, ℕ, ◌+◌, ◌-◌, ◌<◌, ◌≤◌, List, [], ◌∷◌, ◌++◌, length, take, Option, Some, None, refl, sym, ap, ◌∙◌, append_assoc, length-append, arith}
-use Rattle.std.specs.Prelude.{codes, nat_lt, nat_eq, Bool, true, false, Ok}
+use Rattle.std.specs.Prelude.{codes, nat_lt, nat_eq, true, false, Ok}
 use Rattle.std.proofs.lemmas.List.{append-nil, take_at, take_all, take-take}
 use Rattle.std.proofs.lemmas.Bool.Decides.{nat_tests}
 use Rattle.std.proofs.lemmas.Grind.{flat_map-append}

@@ -6,3 +6,4 @@ pub mod TokenLemmas
 pub mod ReadingLemmas
 pub mod LookupLemmas
 pub mod SettingLemmas
+pub mod GrammarLemmas

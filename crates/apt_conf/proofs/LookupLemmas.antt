@@ -1,13 +1,13 @@
 -- Looking for a key among entries that share the fronts of their keys.
-use Rattle.std.proofs.Common.{◌≡◌, ℕ, zero, suc, ◌+◌, ◌-◌, ◌^◌, ◌<◌, ◌≤◌, min, Bool, true, false, List, [], ◌∷◌, ◌++◌, length, get_or, map, take, drop, Option, Some, None, refl, sym, ap, ◌∙◌, append_assoc, length-append, inl, inr, arith}
-use Rattle.std.specs.Prelude.{◌&&◌, ◌==◌, nat_lt, nat_eq, if◌then◌else◌}
+use Rattle.std.proofs.Common.{◌≡◌, ℕ, zero, suc, ◌+◌, ◌-◌, ◌^◌, ◌<◌, ◌≤◌, min, Bool, true, false, List, [], ◌∷◌, ◌++◌, length, get_or, map, take, drop, Option, Some, None, refl, sym, ap, ◌∙◌, length-append, inl, inr, arith}
+use Rattle.std.specs.Prelude.{◌&&◌, nat_lt, nat_eq, if◌then◌else◌}
 use Rattle.std.specs.Char.{to_ascii_lowercase, eq_ignore_ascii_case}
-use Rattle.std.specs.Cmp.Lexicographic.{pointwise, bytes_decides}
+use Rattle.std.specs.Cmp.Lexicographic.{bytes_decides}
 use Rattle.std.proofs.lemmas.Bool.{cases_lt, cases_Bool}
 use Rattle.std.proofs.lemmas.Bool.Decides.{nat_tests}
 use Rattle.std.proofs.lemmas.List.{length-take, length-drop, take_more, drop_more, drop_all}
 use Rattle.apt_conf.specs.declared.entry.Entry.{Entry}
-use Rattle.apt_conf.specs.Keys.{Pair, is_parting, empty_part, has_empty_part, same_key, common_length, compared, later, value_of}
+use Rattle.apt_conf.specs.Keys.{Pair, empty_part, has_empty_part, same_key, common_length, compared, later, value_of}
 use Rattle.apt_conf.specs.Statements.{given}
 use Rattle.apt_conf.specs.Entries.{key_of, last_key, given_if, pairs_in}
 use Rattle.apt_conf.proofs.EntryLemmas.{last_key-push}

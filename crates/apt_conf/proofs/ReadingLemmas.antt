@@ -1,5 +1,5 @@
 -- What is read so far, and then the reading of the rest, is the reading of all.
-use Rattle.std.proofs.Common.{◌≡◌, ◌≢◌, ℕ, ◌+◌, ◌≤◌, Bool, true, false, List, [], ◌∷◌, ◌++◌, length, take, drop, Option, Some, None, Result, Ok, Err, refl, sym, ap, ◌∙◌, append_assoc, arith}
+use Rattle.std.proofs.Common.{◌≡◌, ◌≢◌, ℕ, ◌≤◌, Bool, true, false, List, [], ◌∷◌, ◌++◌, length, take, drop, Option, Some, None, Result, Ok, Err, refl, sym, ap, ◌∙◌, append_assoc, arith}
 use Rattle.std.specs.Prelude.{if◌then◌else◌}
 use Rattle.std.proofs.lemmas.List.{append-nil, length-take, take-take}
 use Rattle.apt_conf.specs.declared.error.ConfError.{ConfError}
@@ -10,10 +10,10 @@ use Rattle.apt_conf.specs.declared.token.Token.{Token}
 use Rattle.apt_conf.specs.Answers.{Fails}
 use Rattle.apt_conf.specs.Keys.{Pair}
 use Rattle.apt_conf.specs.Lexemes.{lexeme_at, extent}
-use Rattle.apt_conf.specs.Tokens.{Placed, line_behind, front_token, token_line, placed, token_of, tokens_from}
+use Rattle.apt_conf.specs.Tokens.{Placed, line_behind, front_token, token_line, placed, tokens_from}
 use Rattle.apt_conf.specs.Entries.{pairs_in}
-use Rattle.apt_conf.specs.Statements.{◌>>=◌, Place, Moved, moved, on_line, is_closed, pairs_from}
-use Rattle.apt_conf.specs.Progress.{IsAt, Advances, Steps, Keeps, Reads, taken}
+use Rattle.apt_conf.specs.Statements.{◌>>=◌, Place, Moved, on_line, is_closed, pairs_from}
+use Rattle.apt_conf.specs.Progress.{IsAt, Steps, Keeps, Reads, taken}
 use Rattle.apt_conf.proofs.TokenLemmas.{tokens_from-front}
 
 -- what was read before, and what is still read

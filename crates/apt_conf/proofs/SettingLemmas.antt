@@ -1,5 +1,5 @@
 -- What is read of each setting is what is read of all.
-use Rattle.std.proofs.Common.{◌≡◌, ℕ, ◌≤◌, Bool, true, List, Option, Some, None, Result, Ok, Err, refl, sym, ap, ◌∙◌, subst}
+use Rattle.std.proofs.Common.{◌≡◌, ℕ, ◌≤◌, Bool, true, List, Option, Some, None, Result, Ok, Err, refl, ap, ◌∙◌, subst}
 use Rattle.std.specs.Prelude.{IfOk, IfSome, option_map, codes}
 use Rattle.acq_base.specs.declared.plan.ByHash.{ByHash}
 use Rattle.acq_base.specs.declared.settings.Dates.{Dates}
@@ -11,7 +11,7 @@ use Rattle.apt_conf.specs.declared.values.Words.TheVariants.{Languages}
 use Rattle.apt_conf.specs.Answers.{Fails, Gives}
 use Rattle.apt_conf.specs.Keys.{Pair, value_of}
 use Rattle.apt_conf.specs.Values.{listed, but_none}
-use Rattle.apt_conf.specs.Settings.{allowed, read_or, languages, number, by_hash, boolean, dates, wanted, fetching, settings_of}
+use Rattle.apt_conf.specs.Settings.{allowed, languages, number, by_hash, boolean, dates, wanted, fetching, settings_of}
 
 -- a number that is allowed is within what its reading says
 pub allowed_within : (most : ℕ) (key : List ℕ) (r : Result ℕ ConfError) (read : Option ℕ) → Gives r (allowed key read) → IfSome read (λ n. n ≤ most) → IfOk r (λ n. n ≤ most)

@@ -1,5 +1,5 @@
 -- The tokens of a text, one lexeme after the other.
-use Rattle.std.proofs.Common.{◌≡◌, ◌≢◌, ℕ, zero, suc, ◌+◌, ◌-◌, ◌≤◌, List, [], ◌∷◌, ◌++◌, take, drop, refl, sym, ap, ◌∙◌, arith}
+use Rattle.std.proofs.Common.{◌≡◌, ◌≢◌, ℕ, zero, suc, ◌-◌, ◌≤◌, List, [], ◌∷◌, ◌++◌, take, drop, refl, ap, ◌∙◌, arith}
 use Rattle.apt_conf.specs.Lexemes.{lexeme_at, extent}
 use Rattle.apt_conf.specs.Tokens.{Placed, next_line, line_behind, token_of, tokens_from}
 

@@ -1,5 +1,5 @@
 -- How pairs are kept: each entry takes over the front of the key before it, so that the key of a block stands once.
-use Rattle.std.specs.Prelude.{ℕ, ◌≤◌, List, [], ◌∷◌, ◌++◌, length, take, Option, Some, None}
+use Rattle.std.specs.Prelude.{ℕ, List, [], ◌∷◌, ◌++◌, take, Option, Some, None}
 use Rattle.apt_conf.specs.declared.entry.Entry.{Entry}
 use Rattle.apt_conf.specs.Keys.{Pair}
 use Rattle.apt_conf.specs.Statements.{given}

@@ -1,5 +1,5 @@
 -- What stands at the front of a text of apt.conf(5): white space, a comment, or a word, a quoted value or a mark.
-use Rattle.std.specs.Prelude.{ℕ, suc, ◌+◌, ◌-◌, ◌==◌, ◌&&◌, ◌||◌, not, nat_le, nat_eq, Bool, if◌then◌else◌, List, [], ◌∷◌, length, slice_index, drop, codes}
+use Rattle.std.specs.Prelude.{ℕ, ◌+◌, ◌==◌, ◌&&◌, ◌||◌, not, nat_le, nat_eq, Bool, if◌then◌else◌, List, [], ◌∷◌, length, slice_index, drop, codes}
 use Rattle.std.specs.List.{starts_with}
 use Rattle.apt_conf.specs.declared.lexeme.Lexeme.{Lexeme}
 use Rattle.apt_conf.specs.declared.lexeme.Lexeme.TheVariants.{Gap, Word, Quoted, Semicolon, Open, Close, Torn, Unclosed}

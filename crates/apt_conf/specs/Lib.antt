@@ -9,3 +9,4 @@ pub mod Values
 pub mod Settings
 pub mod Answers
 pub mod Progress
+pub mod Grammar

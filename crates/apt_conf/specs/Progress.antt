@@ -1,5 +1,5 @@
 -- What one step of reading does, for the functions of this crate alone.
-use Rattle.std.specs.Prelude.{◌≡◌, ℕ, ◌≤◌, List, [], ◌∷◌, ◌++◌, length, take, Option, Some, None, Result, Ok, Err}
+use Rattle.std.specs.Prelude.{◌≡◌, ℕ, ◌≤◌, List, [], ◌++◌, length, take, Option, Some, None, Result, Ok, Err}
 use Rattle.apt_conf.specs.declared.error.ConfError.{ConfError}
 use Rattle.apt_conf.specs.declared.entry.Entry.{Entry}
 use Rattle.apt_conf.specs.declared.statement.Part.{Part}

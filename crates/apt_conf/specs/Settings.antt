@@ -1,5 +1,5 @@
 -- The settings that pairs give: of each key its last value or its default, and the first bad value in this order.
-use Rattle.std.specs.Prelude.{ℕ, Bool, true, false, List, [], ◌∷◌, Option, Some, None, Result, Ok, Err, option_map, codes}
+use Rattle.std.specs.Prelude.{ℕ, Bool, true, List, [], ◌∷◌, Option, Some, None, Result, Ok, Err, option_map, codes}
 use Rattle.acq_base.specs.declared.plan.ByHash.{ByHash}
 use Rattle.acq_base.specs.declared.plan.ByHash.TheVariants.{Yes}
 use Rattle.acq_base.specs.declared.settings.Dates.{Dates}

@@ -1,4 +1,5 @@
-ghost use Rattle.std.specs.Prelude.{◌≡◌, ◌⊎◌, ◌++◌, [], Ok, Err, OnOk, OnErr, IfOk, IsErrOf};
+ghost use Rattle.apt_conf.specs.Grammar.{Items, AreItems, Spells, given_by};
+ghost use Rattle.std.specs.Prelude.{◌≡◌, ◌≤◌, length, ◌⊎◌, ◌++◌, [], Ok, Err, OnOk, OnErr, IfOk, IsErrOf};
 ghost use Rattle.std.specs.Option.{option_copied};
 ghost use Rattle.apt_conf.specs.Keys.{value_of};
 ghost use Rattle.apt_conf.specs.Reading.{pairs_of, pair_of, answer};
@@ -45,6 +46,9 @@ pub fn read_conf(conf: &mut Conf, alloc: Global, bytes: &[u8]) -> Result<(), Con
     ensures answer { (result ≡ Err ConfError.NoMemory) ⊎ (result ≡ answer (pairs_of bytes.now)) }
     ensures ok { OnOk result (IfOk (pairs_of bytes.now) (λ pairs. conf.new ≡ conf.old ++ pairs)) }
     ensures err { OnErr result (conf.new ≡ conf.old) }
+    // The grammar: a text that spells nested statements gives the pairs of the tree.
+    ensures grammar { (items : Items) → length bytes.now ≤ 1048576 → AreItems 16 items → Spells bytes.now items
+        → pairs_of bytes.now ≡ Ok (given_by [] items) }
 {
     read_file(&mut conf.entries, alloc, bytes)
 }

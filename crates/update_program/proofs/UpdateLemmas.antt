@@ -1,5 +1,5 @@
 -- What follows of a run from the ways in which it may end.
-use Rattle.std.proofs.Common.{◌≡◌, ◌≢◌, ◌⊎◌, inl, inr, ℕ, ℤ, Bool, true, false, if◌then◌else◌, IsTrue, IfSome, IsSomeAnd, slice_get, slice_index_or, ◌<◌, length, List, Option, Some, None, refl, sym, ◌∙◌, ap, subst, arith}
+use Rattle.std.proofs.Common.{◌≡◌, ◌≢◌, ◌⊎◌, inl, inr, ℕ, ℤ, Bool, true, false, if◌then◌else◌, IsTrue, IfSome, IsSomeAnd, slice_get, slice_index_or, slice_set, ◌<◌, ◌≤◌, length, List, [], ◌∷◌, Option, Some, None, refl, sym, ◌∙◌, ap, subst, arith}
 use lib.Pointwise.{bytes_decides}
 use Rattle.acq_base.specs.declared.sum.Sum.{Sum}
 use Rattle.acq_base.specs.Sum.{sum_of}
@@ -18,7 +18,7 @@ use Rattle.std.proofs.lemmas.Grind.{common_steps}
 use Rattle.update_program.specs.Words.{source_of_words}
 use Rattle.update_program.specs.Request.{IsRequest}
 use Rattle.update_program.proofs.RequestLemmas.{request_of_words}
-use Rattle.update_program.specs.Run.{Outside, ForRun, ForMethod, IsRun, IsUpdate, Completes, FailsOnDisk, Said, ByMirror, FollowsMirror, IsWholeSet, LeavesWholeSet, is_status, seen, disk_line, memory_line}
+use Rattle.update_program.specs.Run.{Outside, ForRun, ForMethod, IsRun, IsUpdate, IsUpdateBy, EndsInOneWay, Completes, FailsOnDisk, Said, ByMirror, FollowsMirror, IsWholeSet, LeavesWholeSet, is_status, seen, seen_with, disk_line, memory_line}
 use Rattle.update_program.proofs.WholeLemmas.{SoundOutcome, ends_as-sound}
 use Rattle.update_program.proofs.MirrorLemmas.{ends_as-by_mirror}
 
@@ -51,7 +51,7 @@ completes-status before after source target now result h = by_said (said-status 
     by_said (inr a) b = inr (inr a)
 
 -- status 102 only where the disk's count rose
-pub update-disk_fault : (before after : Outside) (source : Source) (target : Target) (now : ℤ) (result : ℕ) → IsUpdate before after source target now result → result ≡ 102 → Rose before.disk_faults after.disk_faults
+pub update-disk_fault : (before after : Outside) (source : Source) (target : Target) (now : ℤ) (result : ℕ) → EndsInOneWay before after source target now result → result ≡ 102 → Rose before.disk_faults after.disk_faults
 update-disk_fault before after source target now result (inl h) e = by_status (completes-status before after source target now result h)
   where
     by_status : (result ≡ 0) ⊎ ((result ≡ 100) ⊎ (result ≡ 105)) → Rose before.disk_faults after.disk_faults
@@ -59,20 +59,20 @@ update-disk_fault before after source target now result (inl h) e = by_status (c
     by_status (inr (inl a)) = absurd (omega arith)
     by_status (inr (inr a)) = absurd (omega arith)
 update-disk_fault before after source target now result (inr (inl h)) e = h.rose
-update-disk_fault before after source target now result (inr (inr h)) e = by_status (said-status before after memory_line 103 result h)
+update-disk_fault before after source target now result (inr (inr h)) e = by_status (said-status before after memory_line 103 result h.said)
   where
     by_status : (result ≡ 103) ⊎ (result ≡ 105) → Rose before.disk_faults after.disk_faults
     by_status (inl a) = absurd (omega arith)
     by_status (inr a) = absurd (omega arith)
 
 -- status 105 only where the sink's count rose
-pub update-sink_fault : (before after : Outside) (source : Source) (target : Target) (now : ℤ) (result : ℕ) → IsUpdate before after source target now result → result ≡ 105 → Rose before.sink_faults after.sink_faults
+pub update-sink_fault : (before after : Outside) (source : Source) (target : Target) (now : ℤ) (result : ℕ) → EndsInOneWay before after source target now result → result ≡ 105 → Rose before.sink_faults after.sink_faults
 update-sink_fault before after source target now result (inl h) e = said-rose before after _ (status_of h.outcome) result (not_105 h.outcome) h.said e
 update-sink_fault before after source target now result (inr (inl h)) e = said-rose before after disk_line 102 result (λ q. absurd (omega arith)) h.said e
-update-sink_fault before after source target now result (inr (inr h)) e = said-rose before after memory_line 103 result (λ q. absurd (omega arith)) h e
+update-sink_fault before after source target now result (inr (inr h)) e = said-rose before after memory_line 103 result (λ q. absurd (omega arith)) h.said e
 
 -- there is no other status
-pub update-status : (before after : Outside) (source : Source) (target : Target) (now : ℤ) (result : ℕ) → IsUpdate before after source target now result → IsTrue (is_status result)
+pub update-status : (before after : Outside) (source : Source) (target : Target) (now : ℤ) (result : ℕ) → EndsInOneWay before after source target now result → IsTrue (is_status result)
 update-status before after source target now result (inl h) = by_status (completes-status before after source target now result h)
   where
     by_status : (result ≡ 0) ⊎ ((result ≡ 100) ⊎ (result ≡ 105)) → IsTrue (is_status result)
@@ -84,7 +84,7 @@ update-status before after source target now result (inr (inl h)) = by_status (s
     by_status : (result ≡ 102) ⊎ (result ≡ 105) → IsTrue (is_status result)
     by_status (inl a) = rw a refl
     by_status (inr a) = rw a refl
-update-status before after source target now result (inr (inr h)) = by_status (said-status before after memory_line 103 result h)
+update-status before after source target now result (inr (inr h)) = by_status (said-status before after memory_line 103 result h.said)
   where
     by_status : (result ≡ 103) ⊎ (result ≡ 105) → IsTrue (is_status result)
     by_status (inl a) = rw a refl
@@ -106,7 +106,7 @@ completes-mirror before after entries source target now result tells told n h = 
     by_said (inr a) = absurd (n a.0)
 
 pub update-mirror : (before after : Outside) (entries : World) (source : Source) (target : Target) (now : ℤ) (result : ℕ)
-    → IsUpdate before after source target now result → IsTrue before.tells → before.world ≡ Some entries → result ≢ 102 → result ≢ 103 → result ≢ 105
+    → EndsInOneWay before after source target now result → IsTrue before.tells → before.world ≡ Some entries → result ≢ 102 → result ≢ 103 → result ≢ 105
     → FollowsMirror before after entries source target now result
 update-mirror before after entries source target now result (inl h) tells told a b c = completes-mirror before after entries source target now result tells told c h
 update-mirror before after entries source target now result (inr (inl h)) tells told a b c = by_status (said-status before after disk_line 102 result h.said)
@@ -114,7 +114,7 @@ update-mirror before after entries source target now result (inr (inl h)) tells 
     by_status : (result ≡ 102) ⊎ (result ≡ 105) → FollowsMirror before after entries source target now result
     by_status (inl e) = absurd (a e)
     by_status (inr e) = absurd (c e)
-update-mirror before after entries source target now result (inr (inr h)) tells told a b c = by_status (said-status before after memory_line 103 result h)
+update-mirror before after entries source target now result (inr (inr h)) tells told a b c = by_status (said-status before after memory_line 103 result h.said)
   where
     by_status : (result ≡ 103) ⊎ (result ≡ 105) → FollowsMirror before after entries source target now result
     by_status (inl e) = absurd (b e)
@@ -140,7 +140,7 @@ with_file-other files name other content n = rw (other_name name other n) refl
 -- a Release that names no list is whole beside any list
 unlisted-whole : (path : List ℕ) (installed : Option ℤ) (now : ℤ) (bytes : List ℕ) (list : Option (List ℕ)) → IsWholeSet path installed now bytes None → IsWholeSet path installed now bytes list
 unlisted-whole path installed now bytes list whole =
-    record { release = whole.release; read = whole.read; admitted = whole.admitted; fits = any_list (listed_sum whole.release path) whole.fits }
+    record { release = whole.release; read = whole.read; admissible = whole.admissible; fits = any_list (listed_sum whole.release path) whole.fits }
   where
     any_list : (listed : Option Sum) → IfSome listed (λ sum. IsSomeAnd None (λ content. sum_of content ≡ sum)) → IfSome listed (λ sum. IsSomeAnd list (λ content. sum_of content ≡ sum))
     any_list None h = tt
@@ -154,36 +154,33 @@ installs-whole files source target installed now release (Some list) n whole =
     rw (with_file-other (with_file files target.name.0 (Some list)) source.release_name.0 target.name.0 (Some release) n, with_file-same files target.name.0 (Some list)) whole
 
 outcome-whole : (before after : Outside) (source : Source) (target : Target) (installed : Option ℤ) (now : ℤ) (outcome : Outcome)
-    → source.release_name.0 ≢ target.name.0 → status_of outcome ≡ 0 → after.files ≡ files_after source target outcome before.files → SoundOutcome target.path installed now outcome
+    → source.release_name.0 ≢ target.name.0 → after.files ≡ files_after source target outcome before.files → SoundOutcome target.path installed now outcome
     → (after.files ≡ before.files) ⊎ IsSomeAnd (after.files source.release_name.0) (λ bytes. IsWholeSet target.path installed now bytes (after.files target.name.0))
-outcome-whole before after source target installed now (Installs release list) n e left whole =
+outcome-whole before after source target installed now (Installs release list) n left whole =
     inr (rw (left, with_file-same (with_list target.name.0 list before.files) source.release_name.0 (Some release)) (installs-whole before.files source target installed now release list n whole))
-outcome-whole before after source target installed now (Older date) n e left whole = inl left
-outcome-whole before after source target installed now (Kept cause) n e left whole = absurd (omega arith)
+outcome-whole before after source target installed now (Older date) n left whole = inl left
+outcome-whole before after source target installed now (Kept cause) n left whole = inl left
 
-completes-whole : (before after : Outside) (source : Source) (target : Target) (now : ℤ) (result : ℕ)
-    → source.release_name.0 ≢ target.name.0 → IsTrue before.tells → result ≡ 0 → Completes before after source target now result → LeavesWholeSet before.files after.files source target now
-completes-whole before after source target now result n tells e h = by_said h.said
-  where
-    by_said : Said before after (line_of source h.outcome) (status_of h.outcome) result → LeavesWholeSet before.files after.files source target now
-    by_said (inl a) = rw (← h.run.as_read tells) (outcome-whole before after source target (installed_date h.run.installed) now h.outcome n (sym a.0 ∙ e) (h.run.left tells)
-        (ends_as-sound before.method_faults after.method_faults before.world source target (installed_date h.run.installed) now h.outcome h.run.ended))
-    by_said (inr a) = absurd (omega arith)
+-- a run that came to its outcome left the files alone or a whole set
+run-whole : (before after : Outside) (source : Source) (target : Target) (now : ℤ) (outcome : Outcome)
+    → source.release_name.0 ≢ target.name.0 → IsTrue before.tells → IsRun before after source target now outcome → LeavesWholeSet before.files after.files source target now
+run-whole before after source target now outcome n tells run =
+    rw (← run.as_read tells) (outcome-whole before after source target (installed_date run.installed) now outcome n (run.left tells)
+    (ends_as-sound before.method_faults after.method_faults before.world source target (installed_date run.installed) now outcome run.ended))
 
--- whatever the mirror serves, a run with status 0 leaves the files alone or a whole set
+dry-whole : (before after : Outside) (source : Source) (target : Target) (now : ℤ)
+    → source.release_name.0 ≢ target.name.0 → IsTrue before.tells → (IsTrue before.tells → after.files ≡ before.files) ⊎ ((outcome : Outcome) × IsRun before after source target now outcome)
+    → LeavesWholeSet before.files after.files source target now
+dry-whole before after source target now n tells (inl same) = inl (same tells)
+dry-whole before after source target now n tells (inr ran) = run-whole before after source target now ran.0 n tells ran.1
+
+-- whatever the mirror serves, a run leaves the files alone or a whole set, unless the disk failed
 pub update-whole : (before after : Outside) (source : Source) (target : Target) (now : ℤ) (result : ℕ)
-    → IsUpdate before after source target now result → source.release_name.0 ≢ target.name.0 → IsTrue before.tells → result ≡ 0 → LeavesWholeSet before.files after.files source target now
-update-whole before after source target now result (inl h) n tells e = completes-whole before after source target now result n tells e h
-update-whole before after source target now result (inr (inl h)) n tells e = by_status (said-status before after disk_line 102 result h.said)
-  where
-    by_status : (result ≡ 102) ⊎ (result ≡ 105) → LeavesWholeSet before.files after.files source target now
-    by_status (inl a) = absurd (omega arith)
-    by_status (inr a) = absurd (omega arith)
-update-whole before after source target now result (inr (inr h)) n tells e = by_status (said-status before after memory_line 103 result h)
-  where
-    by_status : (result ≡ 103) ⊎ (result ≡ 105) → LeavesWholeSet before.files after.files source target now
-    by_status (inl a) = absurd (omega arith)
-    by_status (inr a) = absurd (omega arith)
+    → EndsInOneWay before after source target now result → source.release_name.0 ≢ target.name.0 → IsTrue before.tells
+    → Rose before.disk_faults after.disk_faults ⊎ LeavesWholeSet before.files after.files source target now
+update-whole before after source target now result (inl h) n tells = inr (run-whole before after source target now h.outcome n tells h.run)
+update-whole before after source target now result (inr (inl h)) n tells = inl h.rose
+update-whole before after source target now result (inr (inr h)) n tells = inr (dry-whole before after source target now n tells h.left)
 
 -- a request's list has another name than its Release
 first_is_other : (source : Source) → IsRequest source → (target : Target) → slice_get source.targets 0 ≡ Some target → target.name.0 ≢ source.release_name.0
@@ -193,7 +190,7 @@ first_is_other source request target e =
     rw same at (request.distinct 0 target few)
 
 -- where the mirror is told
-pub update-mirror_if_told : (before after : Outside) (source : Source) (target : Target) (now : ℤ) (result : ℕ) → IsUpdate before after source target now result
+pub update-mirror_if_told : (before after : Outside) (source : Source) (target : Target) (now : ℤ) (result : ℕ) → EndsInOneWay before after source target now result
     → IfSome before.world (λ entries. IsTrue before.tells → result ≢ 102 → result ≢ 103 → result ≢ 105 → FollowsMirror before after entries source target now result)
 update-mirror_if_told before after source target now result h = by_world before.world refl
   where
@@ -227,15 +224,7 @@ for_method-map {M} P Q before after f h = by_old (slice_get before 0) h
     by_old None p = tt
     by_old (Some old) p = by_new old (slice_get after 0) p
 
--- the objects but for the method, which is given by its count of faults and its mirror
-abbrev pub SeenWith : Type 0
-SeenWith = ℕ → Option World → Outside
-
-abbrev pub Ends : {M : Type 0} → (M → ℕ) → (M → Option World) → SeenWith → SeenWith → List M → List M → ℕ → Source → Target → ℤ → Type 0
-Ends {M} faults world before after old new result source target now =
-    ForMethod old new (λ was is. IsUpdate (before (faults was) (world was)) (after (faults is) (world is)) source target now result)
-
-abbrev pub Follows : {M : Type 0} → (M → ℕ) → (M → Option World) → Bool → SeenWith → SeenWith → List M → List M → ℕ → Source → Target → ℤ → Type 0
+abbrev pub Follows : {M : Type 0} → (M → ℕ) → (M → Option World) → Bool → (ℕ → Option World → Outside) → (ℕ → Option World → Outside) → List M → List M → ℕ → Source → Target → ℤ → Type 0
 Follows {M} faults world tells before after old new result source target now =
     ForMethod old new (λ was is. IfSome (world was) (λ entries. IsTrue tells → result ≢ 102 → result ≢ 103 → result ≢ 105
     → FollowsMirror (before (faults was) (world was)) (after (faults is) (world is)) entries source target now result))
@@ -243,17 +232,28 @@ Follows {M} faults world tells before after old new result source target now =
 -- words that are accepted follow the mirror
 pub words-mirror : {M : Type 0} (faults : M → ℕ) (world : M → Option World) (words : List (List ℕ)) (moment : Option ℤ) (old new : List M)
     (d0 : ℕ) (tells0 : Bool) (files0 : Files) (s0 : ℕ) (w0 : Option (List ℕ)) (d1 : ℕ) (tells1 : Bool) (files1 : Files) (s1 : ℕ) (w1 : Option (List ℕ)) (result : ℕ)
-    → ForRun (source_of_words words) moment (Ends faults world (λ m w. seen d0 tells0 files0 m w s0 w0) (λ m w. seen d1 tells1 files1 m w s1 w1) old new result)
-    → ForRun (source_of_words words) moment (Follows faults world tells0 (λ m w. seen d0 tells0 files0 m w s0 w0) (λ m w. seen d1 tells1 files1 m w s1 w1) old new result)
+    → ForRun (source_of_words words) moment (λ source target now. IsUpdateBy faults world (seen_with d0 tells0 files0 s0 w0) (seen_with d1 tells1 files1 s1 w1) old new source target now result)
+    → ForRun (source_of_words words) moment (Follows faults world tells0 (seen_with d0 tells0 files0 s0 w0) (seen_with d1 tells1 files1 s1 w1) old new result)
 words-mirror {M} faults world words moment old new d0 tells0 files0 s0 w0 d1 tells1 files1 s1 w1 result h =
-    let before : SeenWith = λ m w. seen d0 tells0 files0 m w s0 w0 in
-    let after : SeenWith = λ m w. seen d1 tells1 files1 m w s1 w1 in
-    for_run-map (Ends faults world before after old new result) (Follows faults world tells0 before after old new result) (source_of_words words) moment (request_of_words words)
+    let before : ℕ → Option World → Outside = seen_with d0 tells0 files0 s0 w0 in
+    let after : ℕ → Option World → Outside = seen_with d1 tells1 files1 s1 w1 in
+    for_run-map (λ source target now. IsUpdateBy faults world before after old new source target now result) (Follows faults world tells0 before after old new result) (source_of_words words) moment (request_of_words words)
     (λ source target now n e. for_method-map
     (λ was is. IsUpdate (before (faults was) (world was)) (after (faults is) (world is)) source target now result)
     (λ was is. IfSome (world was) (λ entries. IsTrue tells0 → result ≢ 102 → result ≢ 103 → result ≢ 105
     → FollowsMirror (before (faults was) (world was)) (after (faults is) (world is)) entries source target now result))
     old new
-    (λ was is u. update-mirror_if_told (before (faults was) (world was)) (after (faults is) (world is)) source target now result u)
-    e)
+    (λ was is u. update-mirror_if_told (before (faults was) (world was)) (after (faults is) (world is)) source target now result u.way)
+    e.ended)
     h
+
+-- the first method's run
+pub first-update : {M : Type 0} (faults : M → ℕ) (world : M → Option World) (methods : List M) (old new : M)
+    (d0 : ℕ) (tells0 : Bool) (files0 : Files) (s0 : ℕ) (w0 : Option (List ℕ)) (d1 : ℕ) (tells1 : Bool) (files1 : Files) (s1 : ℕ) (w1 : Option (List ℕ))
+    (source : Source) (target : Target) (now : ℤ) (result : ℕ)
+    → old ≡ slice_index_or methods 0 old
+    → IsUpdate (seen d0 tells0 files0 (faults old) (world old) s0 w0) (seen d1 tells1 files1 (faults new) (world new) s1 w1) source target now result
+    → IsUpdateBy faults world (seen_with d0 tells0 files0 s0 w0) (seen_with d1 tells1 files1 s1 w1) methods (slice_set methods 0 new) source target now result
+first-update faults world [] old new d0 tells0 files0 s0 w0 d1 tells1 files1 s1 w1 source target now result e h = record { ended = tt }
+first-update faults world (x ∷ xs) old new d0 tells0 files0 s0 w0 d1 tells1 files1 s1 w1 source target now result e h =
+    record { ended = rw (← e) h }

@@ -15,7 +15,8 @@ use Rattle.release_file.specs.declared.error.ReleaseError.{ReleaseError}
 use Rattle.release_file.specs.declared.judging.DateError.{DateError}
 use Rattle.release_file.specs.declared.judging.DateError.TheVariants as dates
 use Rattle.release_file.specs.Release.{release_of, listed_sum}
-use Rattle.release_file.specs.Dates.{judged}
+use Rattle.release_file.specs.Dates.{judged, IsAdmissible}
+use Rattle.release_file.proofs.Judged.{admissible}
 use Rattle.update_program.specs.declared.cause.Verdict.{Verdict}
 use Rattle.update_program.specs.declared.cause.Verdict.TheVariants.{Fits, Short, Long, Differs as OtherDigest}
 use Rattle.update_program.specs.declared.cause.End.{End}
@@ -46,6 +47,10 @@ verdict-fits : (bytes : List ℕ) (sum : Sum) → verdict_of bytes sum ≡ Fits 
 unfolding verdict_of
 verdict-fits bytes sum h = fits_is_same (sum_of bytes) sum h
 
+-- dates that are judged well are admissible
+is_admissible : (release : Release) (installed : Option ℤ) (now : ℤ) → judged release installed default_dates now ≡ Ok tt → IsAdmissible release installed default_dates now
+is_admissible release installed now e = (admissible release installed default_dates now (Ok tt) (sym e)).0 refl
+
 -- an outcome that installs a set installs a whole one
 abbrev pub SoundOutcome : List ℕ → Option ℤ → ℤ → Outcome → Type 0
 SoundOutcome path installed now (Installs release list) = IsWholeSet path installed now release list
@@ -67,7 +72,7 @@ listed_stage-sound : (path : List ℕ) (installed : Option ℤ) (now : ℤ) (byt
     → release_of bytes ≡ Ok release → judged release installed default_dates now ≡ Ok tt → listed_sum release path ≡ listed
     → SoundStage path installed now (listed_stage bytes listed)
 listed_stage-sound path installed now bytes release None read admitted e =
-    record { release = release; read = read; admitted = admitted; fits = rw e tt }
+    record { release = release; read = read; admissible = is_admissible release installed now admitted; fits = rw e tt }
 listed_stage-sound path installed now bytes release (Some sum) read admitted e =
     record { release = release; read = read; admitted = admitted; listed = e }
 
@@ -93,7 +98,7 @@ served_end-sound : (path : List ℕ) (installed : Option ℤ) (now : ℤ) (relea
     → Names path installed now release sum → verdict_of bytes sum ≡ verdict → SoundOutcome path installed now (set_of release (served_end path sum bytes verdict))
 served_end-sound path installed now release sum bytes Fits names e =
     let same = verdict-fits bytes sum e in
-    record { release = names.release; read = names.read; admitted = names.admitted; fits = rw names.listed same }
+    record { release = names.release; read = names.read; admissible = is_admissible names.release installed now names.admitted; fits = rw names.listed same }
 served_end-sound path installed now release sum bytes (Short n) names e = tt
 served_end-sound path installed now release sum bytes Long names e = tt
 served_end-sound path installed now release sum bytes (OtherDigest sha) names e = tt

@@ -1,16 +1,16 @@
 -- What a run does for its source, over what the outside objects hold and count before and after it.
-use Rattle.std.specs.Prelude.{◌≡◌, ◌≢◌, ◌⊎◌, ℕ, ℤ, ◌≤◌, ◌++◌, ◌==◌, Bool, IsTrue, List, [], ◌∷◌, codes, Option, Ok, IfSome, IsSomeAnd, slice_get}
+use Rattle.std.specs.Prelude.{◌≡◌, ◌≢◌, ◌⊎◌, ℕ, ℤ, ◌≤◌, ◌++◌, ◌==◌, Bool, IsTrue, List, [], ◌∷◌, codes, Option, Ok, IfSome, IsSome, IsSomeAnd, slice_get}
 use Rattle.std.specs.List.{list_any}
 use Rattle.acq_base.specs.Sum.{sum_of}
 use Rattle.acq_base.specs.declared.plan.Target.{Target}
 use Rattle.acq_base.specs.declared.plan.Source.{Source}
-use Rattle.acq_outside.specs.Count.{Rose}
+use Rattle.acq_outside.specs.Count.{Rose, one_more}
 use Rattle.acq_outside.specs.Disk.{Files}
 use Rattle.acq_outside.specs.Mirror.{World}
 use Rattle.acq_outside.specs.Sink.{Wrote, WrotePart}
 use Rattle.release_file.specs.declared.release.Release.{Release}
 use Rattle.release_file.specs.Release.{release_of, listed_sum}
-use Rattle.release_file.specs.Dates.{judged}
+use Rattle.release_file.specs.Dates.{IsAdmissible}
 use Rattle.update_program.specs.declared.cause.Cause.TheVariants.{Method}
 use Rattle.update_program.specs.declared.cause.Outcome.{Outcome}
 use Rattle.update_program.specs.declared.cause.Outcome.TheVariants.{Installs, Older, Kept}
@@ -80,10 +80,18 @@ pub record FailsOnDisk (before after : Outside) (result : ℕ) : Type 0 where
   pub rose : Rose before.disk_faults after.disk_faults
   pub said : Said before after disk_line 102 result
 
+-- memory ran out: before anything was put in place, or once the run had come to its outcome
+pub record RunsDry (before after : Outside) (source : Source) (target : Target) (now : ℤ) (result : ℕ) : Type 0 where
+  pub left : (IsTrue before.tells → after.files ≡ before.files) ⊎ ((outcome : Outcome) × IsRun before after source target now outcome)
+  pub said : Said before after memory_line 103 result
+
 -- a run for a source ends in one of three ways: it comes to its outcome, the disk fails, or memory runs out
-abbrev pub IsUpdate : Outside → Outside → Source → Target → ℤ → ℕ → Type 0
-IsUpdate before after source target now result =
-    Completes before after source target now result ⊎ (FailsOnDisk before after result ⊎ Said before after memory_line 103 result)
+abbrev pub EndsInOneWay : Outside → Outside → Source → Target → ℤ → ℕ → Type 0
+EndsInOneWay before after source target now result =
+    Completes before after source target now result ⊎ (FailsOnDisk before after result ⊎ RunsDry before after source target now result)
+
+pub record IsUpdate (before after : Outside) (source : Source) (target : Target) (now : ℤ) (result : ℕ) : Type 0 where
+  pub way : EndsInOneWay before after source target now result
 
 -- success; a kept source or refused words; a failing disk; want of memory; a failing output
 abbrev pub is_status : ℕ → Bool
@@ -117,15 +125,15 @@ pub record FollowsMirror (before after : Outside) (world : World) (source : Sour
   pub status : result ≡ status_of outcome
   pub files : after.files ≡ files_after source target outcome before.files
 
--- a set is whole: the Release is read, its dates are admitted at the moment beside those of the one installed before,
--- and where it names the list, the list is there and has the sum that it names
+-- a set is whole: the Release is read, it is admissible at the moment beside the one installed before, and where it
+-- names the list, the list is there and has the sum that it names
 pub record IsWholeSet (path : List ℕ) (installed : Option ℤ) (now : ℤ) (bytes : List ℕ) (list : Option (List ℕ)) : Type 0 where
   pub release : Release
   pub read : release_of bytes ≡ Ok release
-  pub admitted : judged release installed default_dates now ≡ Ok tt
+  pub admissible : IsAdmissible release installed default_dates now
   pub fits : IfSome (listed_sum release path) (λ sum. IsSomeAnd list (λ content. sum_of content ≡ sum))
 
--- a run with status 0 left the files alone, or a whole set under the source's names, whatever the mirror serves
+-- the files are as they were, or a whole set stands under the source's names, whatever the mirror serves
 abbrev pub LeavesWholeSet : Files → Files → Source → Target → ℤ → Type 0
 LeavesWholeSet before after source target now =
     (after ≡ before)
@@ -139,7 +147,20 @@ ForRun named moment P = IfSome named (λ source. IfSome (slice_get source.target
 abbrev pub ForMethod : {M : Type 0} → List M → List M → (M → M → Type 0) → Type 0
 ForMethod before after P = IfSome (slice_get before 0) (λ old. IfSome (slice_get after 0) (P old))
 
+-- the outside but for the method, which adds its count of faults and its mirror
+abbrev pub seen_with : ℕ → Bool → Files → ℕ → Option (List ℕ) → ℕ → Option World → Outside
+seen_with disk_faults tells files sink_faults written method_faults world = seen disk_faults tells files method_faults world sink_faults written
+
+-- a run by the first of some methods
+pub record IsUpdateBy {M : Type 0} (faults : M → ℕ) (world : M → Option World) (before after : ℕ → Option World → Outside) (old new : List M) (source : Source) (target : Target) (now : ℤ) (result : ℕ) : Type 0 where
+  pub ended : ForMethod old new (λ was is. IsUpdate (before (faults was) (world was)) (after (faults is) (world is)) source target now result)
+
 -- what refused words give: their line, unless memory ran out as they were read
 abbrev pub IsRefused : ℕ → ℕ → Option (List ℕ) → Option (List ℕ) → ℕ → Type 0
 IsRefused low high before after result =
     SaidBy low high before after words_line 100 result ⊎ SaidBy low high before after memory_line 103 result
+
+-- the moment was read for this run, or memory ran out before it
+pub record ReadsMoment (given_before given_after : ℕ) (last : Option ℤ) : Type 0 where
+  pub once : given_after ≡ one_more given_before
+  pub told : IsSome last

@@ -72,7 +72,8 @@ impl From<OutError> for RunError {
 
 /// Fetches a source's set and puts it in place, where there is a new one.
 ///
-/// `now` is the moment, in seconds since 1970. After an error the source's two names may hold anything.
+/// `now` is the moment, in seconds since 1970. After a fault of the disk the source's two names may
+/// hold anything; where memory runs out, nothing was put in place.
 pub fn run<D: Disk, M: Method>(
     alloc: Global,
     source: &Source,
@@ -87,6 +88,7 @@ pub fn run<D: Disk, M: Method>(
     requires list_name { IsName target.now.name.0 }
     ensures disk_count { D.faults disk.old ≤ D.faults disk.new }
     ensures disk_fault { IsErrOf result RunError.DiskFault → Rose (D.faults disk.old) (D.faults disk.new) }
+    ensures memory { IsErrOf result RunError.NoMemory → D.files disk.new ≡ D.files disk.old }
     ensures telling { D.tells disk.new ≡ D.tells disk.old }
     ensures method_count { M.faults method.old ≤ M.faults method.new }
     ensures world { M.world method.new ≡ M.world method.old }

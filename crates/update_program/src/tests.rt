@@ -4,7 +4,7 @@ ghost use Rattle.acq_outside.specs.MapMethod.{HasSoundAnswers};
 
 use crate::{Status, update_call};
 use acq_base::{Answer, Bytes, Mirror, NoMemory, Row, Scheme, Text, Uri};
-use acq_outside::{FixedClock, MapMethod, MemDisk, MemEtc, MemSink, read_whole};
+use acq_outside::{FixedClock, MapMethod, MemDisk, MemEtc, MemSink, Method, read_whole};
 use std::alloc::Global;
 use std::process::Abort;
 use std::test::Fail;
@@ -15,6 +15,11 @@ const LIST_NAME: &str = "m.example_d_dists_s_main_binary-amd64_Packages";
 
 const SUMS: &str =
     "SHA256:\n ba7816bf8f01cfea414140de5dae2223b00361a396177a9cb410ff61f20015ad 3 main/binary-amd64/Packages\n";
+
+const EMPTY_SUMS: &str =
+    "SHA256:\n e3b0c44298fc1c149afbf4c8996fb92427ae41e4649b934ca495991b7852b855 0 main/binary-amd64/Packages\n";
+
+const NO_SUMS: &str = "SHA256:\n";
 
 const DATE: &str = "Date: Sat, 10 Jun 2023 08:53:33 UTC\n";
 
@@ -47,8 +52,8 @@ struct Case {
     failing: (u64, u64, u64),
     status: u8,
     written: &'static str,
-    /// Whether the mirror's set stands afterwards.
-    installs: bool,
+    /// Whether the mirror's Release stands afterwards, and whether its list does.
+    installs: (bool, bool),
 }
 
 /// The mirror's two files, served whole at a good moment onto an empty disk.
@@ -60,7 +65,7 @@ const GOOD: Case = Case {
     failing: (0, 0, 0),
     status: 0,
     written: "Get http://m.example/d/ s\n",
-    installs: true,
+    installs: (true, true),
 };
 
 fn text(alloc: Global, parts: (&str, &str)) -> Result<Text, NoMemory> {
@@ -144,18 +149,26 @@ fn file<R: AllocGlobal + Abort>(
 
 /// The Release and the list that must stand after a run.
 fn wanted(alloc: Global, case: &Case) -> Result<(Option<Bytes>, Option<Bytes>), NoMemory> {
-    if case.installs {
-        return Ok((
-            served_bytes(alloc, case.release)?,
-            served_bytes(alloc, case.list)?,
-        ));
-    }
+    let release = if case.installs.0 {
+        served_bytes(alloc, case.release)?
+    } else {
+        installed_bytes(alloc, case, SUMS)?
+    };
+    let list = if case.installs.1 {
+        served_bytes(alloc, case.list)?
+    } else {
+        match case.installed {
+            Some(_) => Some(bytes(alloc, ("old", ""))?),
+            None => None,
+        }
+    };
+    Ok((release, list))
+}
+
+fn installed_bytes(alloc: Global, case: &Case, sums: &str) -> Result<Option<Bytes>, NoMemory> {
     match case.installed {
-        Some(date) => Ok((
-            Some(bytes(alloc, (date, SUMS))?),
-            Some(bytes(alloc, ("old", ""))?),
-        )),
-        None => Ok((None, None)),
+        Some(date) => Ok(Some(bytes(alloc, (date, sums))?)),
+        None => Ok(None),
     }
 }
 
@@ -166,7 +179,7 @@ fn served_bytes(alloc: Global, served: Served) -> Result<Option<Bytes>, NoMemory
     }
 }
 
-/// Runs a case and compares the status, the line and, where the disk didn't fail, the two files.
+/// Runs a case and compares the status, the line, how often the method failed, and the two files.
 fn run<R: AllocGlobal + Abort>(rt: &R, label: &str, case: Case) -> Result<(), Fail> {
     let alloc = rt.alloc();
     let files = before(alloc, case.installed)?;
@@ -197,11 +210,20 @@ fn run<R: AllocGlobal + Abort>(rt: &R, label: &str, case: Case) -> Result<(), Fa
         case.written.as_bytes(),
         "{label}"
     );
-    if case.status != 102 {
-        let (release, list) = wanted(alloc, &case)?;
-        assert_eq!(rt; file(rt, &mut disk, RELEASE_NAME)?, release, "{label}");
-        assert_eq!(rt; file(rt, &mut disk, LIST_NAME)?, list, "{label}");
+    let faults = if case.failing.0 == 1 || case.failing.0 == 2 {
+        1
+    } else {
+        0
+    };
+    assert_eq!(rt; methods.len(), 1);
+    assert_eq!(rt; methods[0].faults(), faults, "{label}");
+    if case.failing.1 == 3 || case.failing.1 == 6 {
+        // A write failed: that file stands empty, and only the status and the line are compared.
+        return Ok(());
     }
+    let (release, list) = wanted(alloc, &case)?;
+    assert_eq!(rt; file(rt, &mut disk, RELEASE_NAME)?, release, "{label}");
+    assert_eq!(rt; file(rt, &mut disk, LIST_NAME)?, list, "{label}");
     Ok(())
 }
 
@@ -210,7 +232,7 @@ fn kept(written: &'static str) -> Case {
     Case {
         status: 100,
         written,
-        installs: false,
+        installs: (false, false),
         ..GOOD
     }
 }
@@ -223,6 +245,24 @@ fn installs_what_is_admissible_and_fits(rt: HostRuntime) -> Result<(), Fail> {
         ..GOOD
     };
     run(&rt, "the same date again", again)?;
+    let empty = Case {
+        release: Served::Text(DATE, EMPTY_SUMS),
+        list: Served::Text("", ""),
+        ..GOOD
+    };
+    run(&rt, "an empty list", empty)?;
+    let unlisted = Case {
+        release: Served::Text(DATE, NO_SUMS),
+        installed: Some(DATE),
+        installs: (true, false),
+        ..GOOD
+    };
+    run(&rt, "a Release that doesn't name the list", unlisted)?;
+    let asked_twice = Case {
+        failing: (3, 0, 0),
+        ..GOOD
+    };
+    run(&rt, "a third fetch would fail", asked_twice)?;
     let unreadable = Case {
         installed: Some("<html>\n"),
         ..GOOD
@@ -247,7 +287,7 @@ fn leaves_all_files_beside_an_older_release(rt: HostRuntime) -> Result<(), Fail>
         release: Served::Text(DATE_BEFORE, SUMS),
         installed: Some(DATE),
         written: "Older http://m.example/d/ s 1686387212\n",
-        installs: false,
+        installs: (false, false),
         ..GOOD
     };
     run(&rt, "a second older", older)
@@ -268,6 +308,25 @@ fn keeps_a_source_with_its_cause(rt: HostRuntime) -> Result<(), Fail> {
         ..kept("Keep http://m.example/d/ s missing main/binary-amd64/Packages 404\n")
     };
     run(&rt, "no list", no_list)?;
+    let refused = Case {
+        release: Served::Text("<html>\n", ""),
+        ..kept("Keep http://m.example/d/ s bad release 3 line 1\n")
+    };
+    run(&rt, "no control text", refused)?;
+    let moved = Case {
+        release: Served::Moved,
+        ..kept("Keep http://m.example/d/ s later\n")
+    };
+    run(&rt, "a moved Release", moved)?;
+    let list_moved = Case {
+        list: Served::Moved,
+        ..kept("Keep http://m.example/d/ s later\n")
+    };
+    run(&rt, "a moved list", list_moved)
+}
+
+#[test]
+fn keeps_a_source_whose_list_differs(rt: HostRuntime) -> Result<(), Fail> {
     let long = Case {
         list: Served::Text("abc", "d"),
         ..kept("Keep http://m.example/d/ s differs main/binary-amd64/Packages long\n")
@@ -284,22 +343,7 @@ fn keeps_a_source_with_its_cause(rt: HostRuntime) -> Result<(), Fail> {
             "Keep http://m.example/d/ s differs main/binary-amd64/Packages other a52d159f262b2c6ddb724a61840befc36eb30c88877a4030b65cbe86298449c9\n",
         )
     };
-    run(&rt, "another list", other)?;
-    let refused = Case {
-        release: Served::Text("<html>\n", ""),
-        ..kept("Keep http://m.example/d/ s bad release 3 line 1\n")
-    };
-    run(&rt, "no control text", refused)?;
-    let moved = Case {
-        release: Served::Moved,
-        ..kept("Keep http://m.example/d/ s later\n")
-    };
-    run(&rt, "a moved Release", moved)?;
-    let list_moved = Case {
-        list: Served::Moved,
-        ..kept("Keep http://m.example/d/ s later\n")
-    };
-    run(&rt, "a moved list", list_moved)
+    run(&rt, "another list", other)
 }
 
 #[test]
@@ -336,19 +380,31 @@ fn tells_a_fault_of_the_method(rt: HostRuntime) -> Result<(), Fail> {
     run(&rt, "second fetch", list)
 }
 
+/// A case in which a call of the disk fails.
+fn failing_disk(call: u64, installs: (bool, bool)) -> Case {
+    Case {
+        failing: (0, call, 0),
+        status: 102,
+        written: "E disk\n",
+        installs,
+        ..GOOD
+    }
+}
+
 #[test]
 fn ends_with_102_where_the_disk_fails(rt: HostRuntime) -> Result<(), Fail> {
-    for call in 1..9 {
-        let case = Case {
-            failing: (0, call, 0),
-            status: 102,
-            written: "E disk\n",
-            installs: false,
-            ..GOOD
-        };
-        run(&rt, "a call of the disk", case)?;
-    }
-    Ok(())
+    run(
+        &rt,
+        "the installed Release",
+        failing_disk(1, (false, false)),
+    )?;
+    run(&rt, "making the list", failing_disk(2, (false, false)))?;
+    run(&rt, "writing the list", failing_disk(3, (false, false)))?;
+    run(&rt, "syncing the list", failing_disk(4, (false, true)))?;
+    run(&rt, "making the Release", failing_disk(5, (false, true)))?;
+    run(&rt, "writing the Release", failing_disk(6, (false, true)))?;
+    run(&rt, "syncing the Release", failing_disk(7, (true, true)))?;
+    run(&rt, "syncing the names", failing_disk(8, (true, true)))
 }
 
 #[test]

@@ -1,11 +1,11 @@
 ghost use Rattle.std.specs.Prelude.{◌≡◌, ◌≢◌, ◌≤◌, ◌⊎◌, None, Some, map, vec_len, string_bytes, IsTrue, IfSome, IfNone};
 ghost use Rattle.acq_base.specs.Uri.{IsSound};
-ghost use Rattle.acq_outside.specs.Count.{Rose, one_more};
+ghost use Rattle.acq_outside.specs.Count.{Rose};
 ghost use Rattle.acq_outside.specs.Disk.{IsName};
 ghost use Rattle.update_program.specs.Words.{source_of_words};
 ghost use Rattle.update_program.specs.Request.{IsRequest};
 ghost use Rattle.update_program.specs.Files.{ChangesOnlyNames};
-ghost use Rattle.update_program.specs.Run.{ForRun, ForMethod, IsUpdate, FollowsMirror, LeavesWholeSet, IsRefused, seen, is_status};
+ghost use Rattle.update_program.specs.Run.{ForRun, ForMethod, IsUpdateBy, seen_with, FollowsMirror, LeavesWholeSet, ReadsMoment, IsRefused, SaidBy, seen, is_status, memory_line};
 
 use crate::Status;
 use crate::update::{say, update_source};
@@ -28,16 +28,16 @@ fn update_request<D: Disk, M: Method, C: Clock, S: Sink>(
     ensures disk_count { D.faults disk.old ≤ D.faults disk.new }
     ensures sink_count { S.faults out.old ≤ S.faults out.new }
     ensures methods_kept { vec_len methods.new ≡ vec_len methods.old }
-    ensures moment { C.given clock.new ≡ one_more (C.given clock.old) }
+    ensures moment { ReadsMoment (C.given clock.old) (C.given clock.new) (C.last clock.new) }
     ensures status { IsTrue (is_status result.0) }
     ensures disk_fault { result.0 ≡ 102 → Rose (D.faults disk.old) (D.faults disk.new) }
     ensures sink_fault { result.0 ≡ 105 → Rose (S.faults out.old) (S.faults out.new) }
-    ensures ended { ForRun (Some source.now) (C.last clock.new) (λ source target now. ForMethod methods.old.items methods.new.items (λ before after. IsUpdate
-        (seen (D.faults disk.old) (D.tells disk.old) (D.files disk.old) (M.faults before) (M.world before) (S.faults out.old) (S.written out.old))
-        (seen (D.faults disk.new) (D.tells disk.new) (D.files disk.new) (M.faults after) (M.world after) (S.faults out.new) (S.written out.new))
-        source target now result.0)) }
-    ensures whole { ForRun (Some source.now) (C.last clock.new) (λ source target now. IsTrue (D.tells disk.old) → result.0 ≡ 0 →
-        LeavesWholeSet (D.files disk.old) (D.files disk.new) source target now) }
+    ensures ended { ForRun (Some source.now) (C.last clock.new) (λ source target now. IsUpdateBy M.faults M.world
+        (seen_with (D.faults disk.old) (D.tells disk.old) (D.files disk.old) (S.faults out.old) (S.written out.old))
+        (seen_with (D.faults disk.new) (D.tells disk.new) (D.files disk.new) (S.faults out.new) (S.written out.new))
+        methods.old.items methods.new.items source target now result.0) }
+    ensures whole { ForRun (Some source.now) (C.last clock.new) (λ source target now. IsTrue (D.tells disk.old) →
+        Rose (D.faults disk.old) (D.faults disk.new) ⊎ LeavesWholeSet (D.files disk.old) (D.files disk.new) source target now) }
     ensures others { ForRun (Some source.now) (C.last clock.new) (λ source target now. IsTrue (D.tells disk.old) → ChangesOnlyNames source target (D.files disk.old) (D.files disk.new)) }
 {
     let now = clock.moment();
@@ -67,11 +67,11 @@ fn update_by_first<D: Disk, M: Method, S: Sink>(
     ensures status { IsTrue (is_status result.0) }
     ensures disk_fault { result.0 ≡ 102 → Rose (D.faults disk.old) (D.faults disk.new) }
     ensures sink_fault { result.0 ≡ 105 → Rose (S.faults out.old) (S.faults out.new) }
-    ensures ended { ForMethod methods.old.items methods.new.items (λ before after. IsUpdate
-        (seen (D.faults disk.old) (D.tells disk.old) (D.files disk.old) (M.faults before) (M.world before) (S.faults out.old) (S.written out.old))
-        (seen (D.faults disk.new) (D.tells disk.new) (D.files disk.new) (M.faults after) (M.world after) (S.faults out.new) (S.written out.new))
-        source.now target.now now result.0) }
-    ensures whole { IsTrue (D.tells disk.old) → result.0 ≡ 0 → LeavesWholeSet (D.files disk.old) (D.files disk.new) source.now target.now now }
+    ensures ended { IsUpdateBy M.faults M.world
+        (seen_with (D.faults disk.old) (D.tells disk.old) (D.files disk.old) (S.faults out.old) (S.written out.old))
+        (seen_with (D.faults disk.new) (D.tells disk.new) (D.files disk.new) (S.faults out.new) (S.written out.new))
+        methods.old.items methods.new.items source.now target.now now result.0 }
+    ensures whole { IsTrue (D.tells disk.old) → Rose (D.faults disk.old) (D.faults disk.new) ⊎ LeavesWholeSet (D.files disk.old) (D.files disk.new) source.now target.now now }
     ensures others { IsTrue (D.tells disk.old) → ChangesOnlyNames source.now target.now (D.files disk.old) (D.files disk.new) }
 {
     let method = &mut methods[0];
@@ -89,19 +89,21 @@ fn attempt<D: Disk, M: Method, C: Clock, S: Sink>(
 ) -> Status
     requires { 1 ≤ vec_len methods.old }
     ensures methods_kept { vec_len methods.new ≡ vec_len methods.old }
-    ensures moment { (C.given clock.new ≡ C.given clock.old) ⊎ (C.given clock.new ≡ one_more (C.given clock.old)) }
+    ensures moment { IfSome (source_of_words (map string_bytes words.now)) (λ _. ReadsMoment (C.given clock.old) (C.given clock.new) (C.last clock.new)
+        ⊎ ((disk.new ≡ disk.old) × (methods.new.items ≡ methods.old.items) × (clock.new ≡ clock.old)
+        × SaidBy (S.faults out.old) (S.faults out.new) (S.written out.old) (S.written out.new) memory_line 103 result.0)) }
     ensures status { IsTrue (is_status result.0) }
     ensures disk_fault { result.0 ≡ 102 → Rose (D.faults disk.old) (D.faults disk.new) }
     ensures sink_fault { result.0 ≡ 105 → Rose (S.faults out.old) (S.faults out.new) }
     ensures words_refused { IfNone (source_of_words (map string_bytes words.now))
         ((disk.new ≡ disk.old) × (methods.new.items ≡ methods.old.items) × (clock.new ≡ clock.old)
         × IsRefused (S.faults out.old) (S.faults out.new) (S.written out.old) (S.written out.new) result.0) }
-    ensures ended { ForRun (source_of_words (map string_bytes words.now)) (C.last clock.new) (λ source target now. ForMethod methods.old.items methods.new.items (λ before after. IsUpdate
-        (seen (D.faults disk.old) (D.tells disk.old) (D.files disk.old) (M.faults before) (M.world before) (S.faults out.old) (S.written out.old))
-        (seen (D.faults disk.new) (D.tells disk.new) (D.files disk.new) (M.faults after) (M.world after) (S.faults out.new) (S.written out.new))
-        source target now result.0)) }
-    ensures whole { ForRun (source_of_words (map string_bytes words.now)) (C.last clock.new) (λ source target now. IsTrue (D.tells disk.old) → result.0 ≡ 0 →
-        LeavesWholeSet (D.files disk.old) (D.files disk.new) source target now) }
+    ensures ended { ForRun (source_of_words (map string_bytes words.now)) (C.last clock.new) (λ source target now. IsUpdateBy M.faults M.world
+        (seen_with (D.faults disk.old) (D.tells disk.old) (D.files disk.old) (S.faults out.old) (S.written out.old))
+        (seen_with (D.faults disk.new) (D.tells disk.new) (D.files disk.new) (S.faults out.new) (S.written out.new))
+        methods.old.items methods.new.items source target now result.0) }
+    ensures whole { ForRun (source_of_words (map string_bytes words.now)) (C.last clock.new) (λ source target now. IsTrue (D.tells disk.old) →
+        Rose (D.faults disk.old) (D.faults disk.new) ⊎ LeavesWholeSet (D.files disk.old) (D.files disk.new) source target now) }
     ensures others { ForRun (source_of_words (map string_bytes words.now)) (C.last clock.new) (λ source target now. IsTrue (D.tells disk.old) → ChangesOnlyNames source target (D.files disk.old) (D.files disk.new)) }
 {
     match read_words(alloc, words) {
@@ -115,8 +117,8 @@ fn attempt<D: Disk, M: Method, C: Clock, S: Sink>(
 /// names, installs both where they are new, admissible and fit, and tells in one line what became of the source.
 ///
 /// The status is 0 for a new set or for a mirror that is older than what is installed, 100 for refused words or a kept
-/// source, 102 where the disk failed, 103 where memory ran out, and 105 where the output failed. After 102 the
-/// source's two names may hold anything.
+/// source, 102 where the disk failed, 103 where memory ran out, and 105 where the output failed. After a fault of the
+/// disk (102, or 105 in its place) the source's two names may hold anything.
 pub fn update_call<R: AllocGlobal, E: Etc, D: Disk, M: Method + Send + 'static, C: Clock, S: Sink>(
     rt: &R,
     words: &[String],
@@ -129,7 +131,11 @@ pub fn update_call<R: AllocGlobal, E: Etc, D: Disk, M: Method + Send + 'static, 
     requires { (1 ≤ vec_len methods.old) × (vec_len methods.old ≤ 9) }
     ensures configuration { etc.new ≡ etc.old }
     ensures methods_kept { vec_len methods.new ≡ vec_len methods.old }
-    ensures moment { (C.given clock.new ≡ C.given clock.old) ⊎ (C.given clock.new ≡ one_more (C.given clock.old)) }
+
+    // Accepted words read the moment once, unless memory runs out before that.
+    ensures moment { IfSome (source_of_words (map string_bytes words.now)) (λ _. ReadsMoment (C.given clock.old) (C.given clock.new) (C.last clock.new)
+        ⊎ ((disk.new ≡ disk.old) × (methods.new.items ≡ methods.old.items) × (clock.new ≡ clock.old)
+        × SaidBy (S.faults out.old) (S.faults out.new) (S.written out.old) (S.written out.new) memory_line 103 result.0)) }
 
     // Each status has its cause; 103 is want of memory.
     ensures status { IsTrue (is_status result.0) }
@@ -142,10 +148,10 @@ pub fn update_call<R: AllocGlobal, E: Etc, D: Disk, M: Method + Send + 'static, 
         × IsRefused (S.faults out.old) (S.faults out.new) (S.written out.old) (S.written out.new) result.0) }
 
     // Accepted words end in one of three ways, whatever the outside tells.
-    ensures ended { ForRun (source_of_words (map string_bytes words.now)) (C.last clock.new) (λ source target now. ForMethod methods.old.items methods.new.items (λ before after. IsUpdate
-        (seen (D.faults disk.old) (D.tells disk.old) (D.files disk.old) (M.faults before) (M.world before) (S.faults out.old) (S.written out.old))
-        (seen (D.faults disk.new) (D.tells disk.new) (D.files disk.new) (M.faults after) (M.world after) (S.faults out.new) (S.written out.new))
-        source target now result.0)) }
+    ensures ended { ForRun (source_of_words (map string_bytes words.now)) (C.last clock.new) (λ source target now. IsUpdateBy M.faults M.world
+        (seen_with (D.faults disk.old) (D.tells disk.old) (D.files disk.old) (S.faults out.old) (S.written out.old))
+        (seen_with (D.faults disk.new) (D.tells disk.new) (D.files disk.new) (S.faults out.new) (S.written out.new))
+        methods.old.items methods.new.items source target now result.0) }
 
     // Where the mirror and the disk tell, and neither disk, output nor memory failed, the line, the status and the
     // files are those that the mirror's answers define, or the method failed within this call.
@@ -155,9 +161,10 @@ pub fn update_call<R: AllocGlobal, E: Etc, D: Disk, M: Method + Send + 'static, 
         (seen (D.faults disk.new) (D.tells disk.new) (D.files disk.new) (M.faults after) (M.world after) (S.faults out.new) (S.written out.new))
         world source target now result.0))) }
 
-    // Whatever the mirror serves, what is installed is whole, and no other file changes.
-    ensures whole { ForRun (source_of_words (map string_bytes words.now)) (C.last clock.new) (λ source target now. IsTrue (D.tells disk.old) → result.0 ≡ 0 →
-        LeavesWholeSet (D.files disk.old) (D.files disk.new) source target now) }
+    // Over a disk that tells, and whatever the mirror serves: unless the disk failed, the source's files are as they
+    // were or a whole set; and no other file ever changes.
+    ensures whole { ForRun (source_of_words (map string_bytes words.now)) (C.last clock.new) (λ source target now. IsTrue (D.tells disk.old) →
+        Rose (D.faults disk.old) (D.faults disk.new) ⊎ LeavesWholeSet (D.files disk.old) (D.files disk.new) source target now) }
     ensures others { ForRun (source_of_words (map string_bytes words.now)) (C.last clock.new) (λ source target now. IsTrue (D.tells disk.old) → ChangesOnlyNames source target (D.files disk.old) (D.files disk.new)) }
 {
     let _ = etc;

@@ -41,7 +41,7 @@ pub fn update_source<D: Disk, M: Method, S: Sink>(
         (seen (D.faults disk.new) (D.tells disk.new) (D.files disk.new) (M.faults method.new) (M.world method.new) (S.faults out.new) (S.written out.new))
         source.now target.now now result.0 }
     ensures others { IsTrue (D.tells disk.old) → ChangesOnlyNames source.now target.now (D.files disk.old) (D.files disk.new) }
-    ensures whole { IsTrue (D.tells disk.old) → result.0 ≡ 0 → LeavesWholeSet (D.files disk.old) (D.files disk.new) source.now target.now now }
+    ensures whole { IsTrue (D.tells disk.old) → Rose (D.faults disk.old) (D.faults disk.new) ⊎ LeavesWholeSet (D.files disk.old) (D.files disk.new) source.now target.now now }
 {
     attempt(alloc, source, target, disk, method, now, out)
 }

@@ -1,21 +1,19 @@
 -- Bases, and what lies below them, are in the URL Standard's spelling.
-use Rattle.std.proofs.Common.{◌≡◌, ◌≢◌, ℕ, zero, suc, ◌+◌, ◌-◌, ◌<◌, ◌≤◌, ◌⊎◌, inl, inr, Bool, true, false, not, ◌&&◌, ◌||◌, ◌==◌, nat_lt, cond, List, [], ◌∷◌, ◌++◌, length, get_or, take, drop, reverse, All, IsTrue, Option, Some, None, unwrap_or, codes, refl, sym, ap, ◌∙◌, subst, append_assoc, append-nil, length-append, lit<, lit≤, arith, rules, tests}
-use Rattle.std.specs.Str.{bytes_eq}
+use Rattle.std.proofs.Common.{◌≡◌, ◌≢◌, ℕ, zero, suc, ◌+◌, ◌-◌, ◌<◌, ◌≤◌, inl, inr, Bool, true, false, ◌||◌, ◌==◌, nat_lt, List, [], ◌∷◌, ◌++◌, length, get_or, take, reverse, All, IsTrue, unwrap_or, codes, refl, sym, ap, ◌∙◌, subst, append_assoc, length-append, lit≤, arith}
 use Rattle.std.specs.List.{list_all, list_any, slice_split, suffix_len}
-use Rattle.std.proofs.lemmas.Bool.{cases_Bool, cases_eq, cond-true, cond-false, and_parts, or_cases, or_parts, both_ways, or_from, ne_eqb, eq-eqb, eqb-true, eqb-false, ltb-true, and_left}
+use Rattle.std.proofs.lemmas.Bool.{cases_eq, cond-true, cond-false, and_parts, or_cases, or_parts, both_ways, or_from, ne_eqb, eq-eqb, eqb-true, eqb-false, ltb-true, and_left}
 use Rattle.std.proofs.lemmas.Bool.Decides.{nat_tests}
 use Rattle.std.proofs.lemmas.Option.{slice_get_within}
 use Rattle.std.proofs.lemmas.List.{take_more, take_all, get_or-reverse}
-use Rattle.std.proofs.lemmas.List.Elements.{All-nil, All-cons, All-head, All-tail, All-append, All-push, All-take, All-weaker, All-same}
+use Rattle.std.proofs.lemmas.List.Elements.{All-nil, All-head, All-tail, All-append, All-push, All-take, All-weaker}
 use Rattle.std.proofs.lemmas.List.Sums.{AllPass-from_list_all, list_all-from_AllPass, suffix_len-le-length, prefix_len_passes}
 use Rattle.std.proofs.lemmas.List.Splits.{slice_split_at}
 use Rattle.url.specs.declared.sets.TheConstants.{PATH}
 use Rattle.url.specs.declared.scheme.SchemeType.{SchemeType}
 use Rattle.url.specs.Scheme.{is_special}
 use Rattle.url.specs.Scheme as scheme
-use Rattle.url.specs.Input.{rsplit_once}
 use Rattle.url.specs.Path.{IsSegment, IsSegmentList, join_segments, without_last_segment, dot_count, dot_len}
-use Rattle.url.specs.Parts.{Parts, kind_of, IsHierarchicalPath}
+use Rattle.url.specs.Parts.{kind_of}
 use Rattle.url.proofs.InputLemmas.{rsplit_once_at}
 use Rattle.url.proofs.HostLemmas.{none_from_list_any}
 use Rattle.url.proofs.PathLemmas.{without_last_valid, push_valid, empty_segment}
@@ -25,7 +23,7 @@ use Rattle.acq_base.specs.Uri.{is_alphanumeric, is_uri_character}
 use Rattle.uri_names.specs.Reading.{with_one_slash}
 use Rattle.uri_names.specs.Folder.{is_slash, is_dot, is_dot_dot, resolved, joined, remove_dot_segments, below_of, is_below_character, AreBelowCharacters}
 use Rattle.uri_names.specs.Normal.{IsNormal, IsBase}
-use Rattle.uri_names.proofs.Segments.{AllOf, UnlessDots, split_all, split_whole, joined_all, resolved_all}
+use Rattle.uri_names.proofs.Segments.{AllOf, UnlessDots, split_all, split_whole, resolved_all}
 use Rattle.uri_names.proofs.BelowSound.{removed, below_rooted, below_characters}
 use Rattle.uri_names.proofs.SoundParts.{sound_but}
 use Rattle.uri_names.proofs.Moved.{moved, plain_parts}

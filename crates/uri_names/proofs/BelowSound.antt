@@ -1,14 +1,14 @@
 -- What lies below a sound base is sound, its length aside.
-use Rattle.std.proofs.Common.{◌≡◌, ◌≢◌, ℕ, zero, suc, ◌+◌, ◌-◌, ◌^◌, ◌<◌, ◌≤◌, ◌⊎◌, inl, inr, Bool, true, false, ◌&&◌, ◌||◌, ◌==◌, cond, List, [], ◌∷◌, ◌++◌, length, get_or, take, drop, All, IsTrue, Some, None, codes, refl, sym, ap, ◌∙◌, subst, lit<, length-append, arith, rules, tests}
+use Rattle.std.proofs.Common.{◌≡◌, ℕ, suc, ◌+◌, ◌≤◌, inl, inr, true, ◌==◌, List, [], ◌∷◌, ◌++◌, length, All, IsTrue, Some, codes, refl, ap, length-append, arith}
 use Rattle.std.specs.Str.{bytes_eq}
 use Rattle.std.specs.List.{slice_split, slice_get, list_all, list_any}
-use Rattle.std.proofs.lemmas.Bool.{cond_both, cond-true, cond-false, and_parts, or_cases, or_left, or_right, eqb-true}
+use Rattle.std.proofs.lemmas.Bool.{cond_both, and_parts, or_cases, or_left, or_right, eqb-true}
 use Rattle.std.proofs.lemmas.List.Elements.{All-nil, All-tail, All-append, All-weaker}
 use Rattle.std.proofs.lemmas.Option.{same_Some}
 use Rattle.acq_base.specs.declared.uri.Uri.{Uri}
 use Rattle.acq_base.specs.declared.uri.Scheme.{Scheme}
 use Rattle.acq_base.specs.declared.uri.Scheme.TheVariants.{Http, File}
-use Rattle.acq_base.specs.Uri.{uri_text, text_of_parts, port_text, is_uri_character, IsSound}
+use Rattle.acq_base.specs.Uri.{uri_text, text_of_parts, is_uri_character, IsSound}
 use Rattle.uri_names.specs.Folder.{is_slash, resolved, joined, remove_dot_segments, below_of, is_below_character, AreBelowCharacters}
 use Rattle.uri_names.proofs.Segments.{AllOf, split_all, joined_all, resolved_all, UnlessDots}
 use Rattle.uri_names.proofs.Lengths.{weight-resolved, resolved_rooted, weight-split}

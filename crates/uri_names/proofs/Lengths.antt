@@ -1,10 +1,9 @@
 -- Removing dot segments leaves a path that begins with a slash, and never makes it longer.
-use Rattle.std.proofs.Common.{◌≡◌, ℕ, zero, suc, ◌+◌, ◌-◌, ◌<◌, ◌≤◌, ◌⊎◌, inl, inr, Bool, true, false, ◌||◌, cond, List, [], ◌∷◌, ◌++◌, length, get_or, take, drop, fold, Some, codes, refl, sym, ap, ◌∙◌, subst, lit<, length-append, arith, rules, tests}
-use Rattle.std.specs.Str.{bytes_eq}
-use Rattle.std.specs.List.{flat_map, slice_split, onto_first, slice_get}
-use Rattle.std.proofs.lemmas.Bool.{cases_Bool, cond_both, cond-true, cond-false, or_parts, or_from, both_ways}
+use Rattle.std.proofs.Common.{◌≡◌, ℕ, zero, suc, ◌+◌, ◌-◌, ◌<◌, ◌≤◌, true, false, ◌||◌, cond, List, [], ◌∷◌, ◌++◌, length, get_or, take, fold, Some, refl, sym, ap, ◌∙◌, length-append, arith}
+use Rattle.std.specs.List.{slice_split, onto_first, slice_get}
+use Rattle.std.proofs.lemmas.Bool.{cond_both, cond-false, or_parts, or_from, both_ways}
 use Rattle.std.proofs.lemmas.List.Concat.{flat_map-append}
-use Rattle.uri_names.specs.Folder.{is_slash, is_dot, is_dot_dot, enter, ends_in_dots, resolved, joined, remove_dot_segments}
+use Rattle.uri_names.specs.Folder.{is_slash, is_dot, is_dot_dot, enter, ends_in_dots, resolved, joined}
 
 abbrev weight : List (List ℕ) → ℕ
 weight segments = length (joined segments)

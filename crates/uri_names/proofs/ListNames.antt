@@ -1,21 +1,10 @@
 -- List names tell sound URIs apart.
-use Rattle.std.proofs.Common.{◌≡◌, ◌≢◌, ℕ, zero, suc, ◌+◌, ◌-◌, ◌*◌, ◌/◌, ◌%◌, ◌^◌, ◌<◌, ◌≤◌, ◌⊎◌, inl, inr, Bool, true, false, ◌||◌, ◌==◌, nat_lt, cond, List, [], ◌∷◌, ◌++◌, length, get_or, take, drop, All, Contains, Option, Some, None, IsTrue, codes, flat_map, decimal, refl, sym, ap, ◌∙◌, subst, append_assoc, append-nil, length-append, lit<, lit≤, drop_at, arith, rules, tests}
-use Rattle.std.specs.List.{list_any, slice_get}
+use Rattle.std.proofs.Common.{◌≡◌, ℕ, ◌/◌, ◌%◌, ◌≤◌, ◌⊎◌, inl, inr, Bool, true, false, ◌||◌, ◌==◌, cond, List, [], ◌∷◌, ◌++◌, length, codes, flat_map, refl, sym, ap, ◌∙◌, subst, length-append, lit≤, arith}
+use Rattle.std.specs.List.{list_any}
 use Rattle.std.specs.Fmt.{digit_glyph}
-use Rattle.std.specs.Int.{IsInRange}
-use Rattle.std.proofs.lemmas.Bool.{cases_Bool, cases_eq, cond-true, cond-false, both_ways, eq-eqb, ne_eqb, eqb-true, eqb-false}
+use Rattle.std.proofs.lemmas.Bool.{cases_Bool, cases_eq, cond-true, cond-false, both_ways, eq-eqb, ne_eqb, eqb-false}
 use Rattle.std.proofs.lemmas.Bool.Decides.{nat_tests}
-use Rattle.std.proofs.lemmas.List.Concat.{flat_map-append}
-use Rattle.std.proofs.lemmas.List.Elements.{All-nil, All-cons, All-head, All-tail, All-append, All-weaker, All-contains}
-use Rattle.std.proofs.lemmas.Option.{same_Some, slice_get-get_or}
-use Rattle.std.proofs.lemmas.Fmt.{decimal_injective}
-use Rattle.url.specs.Input.{rsplit_once}
-use Rattle.url.proofs.InputLemmas.{rsplit_once_at}
-use Rattle.url.proofs.HostRoundTrip.{All-decimal}
-use Rattle.acq_base.specs.declared.uri.Uri.{Uri}
-use Rattle.acq_base.specs.declared.uri.Scheme.{Scheme}
-use Rattle.acq_base.specs.declared.uri.Scheme.TheVariants.{Http, File}
-use Rattle.acq_base.specs.Uri.{is_alphanumeric, port_text, text_of_parts, uri_text, IsHostCharacter, IsHttpHost, IsAuthority, KeepsColonsInBrackets, IsSound, name_byte, name_of_parts, list_name}
+use Rattle.acq_base.specs.Uri.{is_alphanumeric, name_byte}
 
 -- ---- one escape
 

@@ -1,19 +1,18 @@
 -- A URI keeps the URL Standard's spelling with another path, where that is a list of segments.
-use Rattle.std.proofs.Common.{◌≡◌, ◌≢◌, ℕ, zero, suc, ◌+◌, ◌<◌, ◌≤◌, ◌⊎◌, inl, inr, Bool, true, false, not, ◌&&◌, ◌||◌, ◌==◌, cond, List, [], ◌∷◌, ◌++◌, length, All, Option, Some, None, is_some, codes, refl, sym, ap, ◌∙◌, subst, append-nil, arith, rules, tests}
+use Rattle.std.proofs.Common.{◌≡◌, ◌≢◌, ℕ, inl, inr, true, false, not, ◌&&◌, List, [], ◌∷◌, ◌++◌, All, Option, Some, None, is_some, codes, refl, sym, ap, ◌∙◌, subst, append-nil}
 use Rattle.std.specs.Str.{bytes_eq}
 use Rattle.std.specs.List.{list_all}
 use Rattle.std.proofs.lemmas.Bool.{cond-true, cond-false, and_from, not_from_false}
 use Rattle.std.proofs.lemmas.List.Elements.{All-head, All-tail}
 use Rattle.std.proofs.lemmas.Slice.Eq.{bytes_eq-Decides}
 use Rattle.url.specs.Scheme.{is_special}
-use Rattle.url.specs.Path.{IsSegmentList}
 use Rattle.url.specs.Parts.{Parts, kind_of, has_host, has_credentials, IsValid, IsValidHead, IsHierarchicalPath}
 use Rattle.url.proofs.ValidLemmas.{hierarchical, special_has_authority, base_from_authority}
 use Rattle.acq_base.specs.declared.uri.Uri.{Uri}
 use Rattle.acq_base.specs.Uri.{is_uri_character}
 use Rattle.uri_names.specs.Parts.{query_text, target_of, uri_of_parts, http_uri_of, file_uri_of}
 use Rattle.uri_names.specs.Normal.{IsNormal}
-use Rattle.uri_names.proofs.Shapes.{IsHttp, IsFile, http_uri, file_uri, shape}
+use Rattle.uri_names.proofs.Shapes.{http_uri, file_uri, shape}
 use Rattle.uri_names.proofs.SoundParts.{http_kind, file_kind}
 
 same_bytes : (xs ys : List ℕ) → xs ≡ ys → bytes_eq xs ys ≡ true

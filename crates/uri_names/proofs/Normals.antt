@@ -1,11 +1,9 @@
 -- Which URIs are in the URL Standard's spelling.
-use Rattle.std.proofs.Common.{◌≡◌, ℕ, ◌≤◌, List, length, Option, Some, None, Result, Ok, Err, IfOk, IfSome, refl, sym, ap, ◌∙◌, arith}
+use Rattle.std.proofs.Common.{◌≡◌, Option, Some, None, IfSome, refl, sym, ◌∙◌}
 use Rattle.url.specs.Parts.{Parts, IsValid, IsValidHead}
 use Rattle.acq_base.specs.declared.uri.Uri.{Uri}
-use Rattle.acq_base.specs.Uri.{uri_text, IsSound}
 use Rattle.uri_names.specs.Parts.{uri_of_parts, http_uri_of, file_uri_of}
 use Rattle.uri_names.specs.Normal.{IsNormal}
-use Rattle.uri_names.proofs.SoundParts.{sound_if_short}
 
 -- the URL without its fragment
 abbrev pub whole : Parts → Parts

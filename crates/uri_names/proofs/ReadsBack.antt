@@ -1,28 +1,26 @@
 -- The text of a URI in the URL Standard's spelling is read as that URI.
-use Rattle.std.proofs.Common.{◌≡◌, ◌≢◌, ℕ, zero, suc, ◌+◌, ◌-◌, ◌^◌, ◌<◌, ◌≤◌, ◌⊎◌, inl, inr, Bool, true, false, not, ◌&&◌, ◌||◌, ◌==◌, nat_le, cond, List, [], ◌∷◌, ◌++◌, length, get_or, take, drop, All, IsTrue, Option, Some, None, is_some, unwrap_or, Result, Ok, Err, ok_or, codes, decimal, refl, sym, ap, ◌∙◌, subst, append_assoc, lit<, lit≤, arith, rules, tests}
+use Rattle.std.proofs.Common.{◌≡◌, ℕ, ◌^◌, ◌<◌, ◌≤◌, inl, inr, true, not, ◌==◌, nat_le, List, [], ◌∷◌, ◌++◌, length, get_or, drop, All, IsTrue, Some, None, is_some, unwrap_or, Ok, Err, ok_or, codes, decimal, refl, sym, ap, ◌∙◌, subst, arith}
 use Rattle.std.specs.List.{list_all, list_any}
-use Rattle.std.specs.Char.{is_ascii_graphic, is_ascii_alphabetic}
+use Rattle.std.specs.Char.{is_ascii_graphic}
 use Rattle.std.specs.Int.{IsInRange}
-use Rattle.std.proofs.lemmas.Bool.{cases_eq, cond-true, cond-false, cond_both, and_parts, and_from, or_cases, not_from_true, eqb-true, eqb-false, le-leb, both_ways}
+use Rattle.std.proofs.lemmas.Bool.{cond-true, cond-false, cond_both, and_parts, and_from, or_cases, not_from_true, eqb-true, le-leb, both_ways}
 use Rattle.std.proofs.lemmas.Bool.Decides.{nat_tests}
-use Rattle.std.proofs.lemmas.List.Elements.{All-nil, All-cons, All-append, All-weaker, All-take, All-drop, All-get_or}
+use Rattle.std.proofs.lemmas.List.Elements.{All-nil, All-cons, All-append, All-weaker, All-take, All-drop}
 use Rattle.std.proofs.lemmas.List.Sums.{list_all-from_AllPass, AllPass-from_list_all}
 use Rattle.url.specs.declared.scheme.SchemeType.TheVariants as kind
 use Rattle.url.specs.Scheme.{is_special}
 use Rattle.url.specs.Host.{host_text, IsHostOf}
-use Rattle.url.specs.Path.{is_windows_drive_letter, segment_len}
-use Rattle.url.specs.Parts.{Parts, kind_of, host_or_empty, serialize, IsValid}
-use Rattle.url.specs.Parser.{Parsed, parse_url}
+use Rattle.url.specs.Path.{is_windows_drive_letter}
+use Rattle.url.specs.Parts.{Parts, host_or_empty, IsValid}
+use Rattle.url.specs.Parser.{parse_url}
 use Rattle.url.specs.Canonical.{first_segment, IsCanonicalFile, IsCanonicalAs, IsCanonical}
 use Rattle.url.proofs.HostRoundTrip.{All-decimal, IsHostByte, host_text_plain}
 use Rattle.url.proofs.SetterLemmas.{own_host}
 use Rattle.url.proofs.Theorems.{parse_url-serialize}
 use Rattle.url.proofs.ValidLemmas.{special_has_authority}
-use Rattle.acq_base.specs.declared.uri.Scheme.{Scheme}
 use Rattle.acq_base.specs.declared.uri.Scheme.TheVariants.{Http, File}
 use Rattle.acq_base.specs.declared.uri.Uri.{Uri}
 use Rattle.acq_base.specs.Uri.{uri_text, text_of_parts, port_text, is_alphanumeric, is_uri_character}
-use Rattle.uri_names.specs.declared.error.UriError.{UriError}
 use Rattle.uri_names.specs.declared.error.UriError.TheVariants as errors
 use Rattle.uri_names.specs.Parts.{target_of, uri_of_parts, within}
 use Rattle.uri_names.specs.Reading.{has_scheme, is_uri_text, uri_of_url, judged, read_uri_of, ReadsBack}

@@ -1,5 +1,5 @@
 -- Two sound URIs with one list name are one URI.
-use Rattle.std.proofs.Common.{◌≡◌, ◌≢◌, ℕ, zero, suc, ◌+◌, ◌-◌, ◌^◌, ◌<◌, ◌≤◌, ◌⊎◌, inl, inr, Bool, true, false, ◌==◌, cond, List, [], ◌∷◌, ◌++◌, length, get_or, take, drop, All, Contains, Option, Some, None, codes, flat_map, decimal, refl, sym, ap, ◌∙◌, subst, append_assoc, append-nil, length-append, lit<, lit≤, drop_at, arith, rules, tests}
+use Rattle.std.proofs.Common.{◌≡◌, ◌≢◌, ℕ, ◌+◌, ◌^◌, ◌<◌, ◌≤◌, ◌⊎◌, inl, inr, ◌==◌, List, [], ◌∷◌, ◌++◌, length, drop, All, Contains, Some, codes, flat_map, decimal, refl, sym, ap, ◌∙◌, subst, append_assoc, append-nil, length-append, lit<, drop_at, arith}
 use Rattle.std.specs.List.{slice_get}
 use Rattle.std.specs.Int.{IsInRange}
 use Rattle.std.proofs.lemmas.Bool.{cases_eq, cond-true, cond-false, eq-eqb, ne_eqb, eqb-false}
@@ -13,7 +13,7 @@ use Rattle.url.proofs.HostRoundTrip.{All-decimal}
 use Rattle.acq_base.specs.declared.uri.Uri.{Uri}
 use Rattle.acq_base.specs.declared.uri.Scheme.{Scheme}
 use Rattle.acq_base.specs.declared.uri.Scheme.TheVariants.{Http, File}
-use Rattle.acq_base.specs.Uri.{port_text, text_of_parts, uri_text, IsHostCharacter, IsHttpHost, IsAuthority, KeepsColonsInBrackets, IsSound, name_byte, name_of_parts, list_name}
+use Rattle.acq_base.specs.Uri.{port_text, text_of_parts, uri_text, IsHostCharacter, IsHttpHost, IsAuthority, IsSound, name_byte, name_of_parts, list_name}
 use Rattle.uri_names.proofs.BelowSound.{IsRooted, root}
 use Rattle.uri_names.proofs.ListNames.{escaped_injective, escaped_long}
 

@@ -1,12 +1,9 @@
 -- The segments of a path, and those that stay once dot segments are removed.
-use Rattle.std.proofs.Common.{◌≡◌, ◌≢◌, ℕ, zero, suc, ◌+◌, ◌-◌, ◌<◌, ◌≤◌, ◌⊎◌, inl, inr, Bool, true, false, not, ◌&&◌, ◌||◌, ◌==◌, cond, List, [], ◌∷◌, ◌++◌, length, get_or, take, drop, All, fold, codes, refl, sym, ap, ◌∙◌, subst, lit<, lit≤, length-append, arith, rules, tests}
-use Rattle.std.specs.Str.{bytes_eq}
-use Rattle.std.specs.List.{flat_map, slice_split, onto_first}
-use Rattle.std.proofs.lemmas.Bool.{cases_Bool, cond_both, cond-true, cond-false, or_parts, or_from, eqb-false}
-use Rattle.std.proofs.lemmas.List.Concat.{flat_map-append}
+use Rattle.std.proofs.Common.{◌≡◌, ◌≢◌, ℕ, ◌-◌, false, ◌||◌, List, [], ◌∷◌, ◌++◌, length, take, All, fold}
+use Rattle.std.specs.List.{slice_split, onto_first}
+use Rattle.std.proofs.lemmas.Bool.{cond_both, or_from, eqb-false}
 use Rattle.std.proofs.lemmas.List.Elements.{All-nil, All-cons, All-head, All-tail, All-append, All-push, All-take}
-use Rattle.std.proofs.lemmas.List.Splits.{slice_split-cons_yes, slice_split-cons_no}
-use Rattle.uri_names.specs.Folder.{is_slash, is_dot, is_dot_dot, enter, ends_in_dots, resolved, joined, remove_dot_segments}
+use Rattle.uri_names.specs.Folder.{is_slash, is_dot, is_dot_dot, enter, ends_in_dots, resolved, joined}
 
 abbrev pub AllOf : (ℕ → Type 0) → List ℕ → Type 0
 AllOf C text = All C text

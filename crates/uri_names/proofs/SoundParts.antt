@@ -1,8 +1,7 @@
 -- A URI in the URL Standard's spelling is sound, its length aside.
-use Rattle.std.proofs.Common.{◌≡◌, ◌≢◌, ℕ, zero, suc, ◌+◌, ◌-◌, ◌^◌, ◌<◌, ◌≤◌, ◌⊎◌, inl, inr, Bool, true, false, not, ◌&&◌, ◌||◌, ◌==◌, List, [], ◌∷◌, ◌++◌, length, get_or, take, drop, Option, Some, None, unwrap_or, All, Contains, IsTrue, codes, refl, sym, ap, ◌∙◌, subst, lit<, lit≤, length-append, arith, rules, tests}
-use Rattle.std.specs.List.{list_all, slice_get, AllPass}
+use Rattle.std.proofs.Common.{◌≡◌, ◌≢◌, ℕ, zero, suc, ◌^◌, ◌<◌, ◌≤◌, inl, inr, true, false, ◌==◌, List, [], ◌∷◌, ◌++◌, length, take, drop, Option, Some, None, unwrap_or, All, Contains, IsTrue, codes, refl, ap, ◌∙◌, subst, lit<, length-append, arith}
+use Rattle.std.specs.List.{list_all, slice_get}
 use Rattle.std.proofs.lemmas.Bool.{eqb-false}
-use Rattle.std.proofs.lemmas.Bool.Decides.{nat_tests}
 use Rattle.std.proofs.lemmas.List.Elements.{All-weaker}
 use Rattle.std.proofs.lemmas.List.Sums.{AllPass-from_list_all}
 use Rattle.std.proofs.lemmas.Option.{same_Some, none-some, slice_get-get_or, get_or_from_slice_get, slice_get_within}
@@ -13,24 +12,20 @@ use Rattle.std.proofs.lemmas.List.{get_or_push}
 use Rattle.url.specs.declared.sets.TheConstants.{FORBIDDEN_DOMAIN}
 use Rattle.url.specs.declared.host.Host.{Host}
 use Rattle.url.specs.declared.host.Host.TheVariants.{Domain, Ipv4, Ipv6}
-use Rattle.url.specs.declared.scheme.SchemeType.{SchemeType}
 use Rattle.url.specs.declared.scheme.SchemeType.TheVariants as kind
 use Rattle.url.specs.Scheme.{default_port, scheme_type, is_special}
 use Rattle.url.specs.Host.{host_text, IsHostOf}
-use Rattle.url.specs.Path.{IsSegmentList}
-use Rattle.url.specs.Parts.{Parts, kind_of, host_or_empty, has_authority, IsValid, IsValidHead, IsPortOf}
+use Rattle.url.specs.Parts.{Parts, kind_of, host_or_empty, IsValid, IsPortOf}
 use Rattle.url.proofs.HostRoundTrip.{IsHostByte, host_text_plain}
 use Rattle.url.proofs.RoundTrip.{host_nonempty}
 use Rattle.url.proofs.PathLemmas.{rooted}
 use Rattle.url.proofs.SetLemmas.{kept_differs}
 use Rattle.url.proofs.SetterLemmas.{own_host}
 use Rattle.url.proofs.ValidLemmas.{hierarchical, special_has_authority, base_from_authority}
-use Rattle.acq_base.specs.declared.uri.Scheme.TheVariants.{Http, File}
 use Rattle.acq_base.specs.declared.uri.Uri.{Uri}
 use Rattle.acq_base.specs.Uri.{uri_text, is_uri_character, IsHostCharacter, KeepsColonsInBrackets, IsHttpHost, IsAuthority, IsSound}
-use Rattle.uri_names.specs.Parts.{target_of, uri_of_parts}
 use Rattle.uri_names.specs.Normal.{IsNormal}
-use Rattle.uri_names.proofs.Shapes.{IsHttp, IsFile, http_uri, file_uri, shape}
+use Rattle.uri_names.proofs.Shapes.{IsHttp, IsFile, shape}
 
 -- what is left of soundness beside the length
 pub record IsSoundBut (uri : Uri) : Type 0 where

@@ -1,37 +1,19 @@
 -- The text of a URI in the URL Standard's spelling is the URL's own text, and reads back.
-use Rattle.std.proofs.Common.{◌≡◌, ◌≢◌, ℕ, zero, suc, ◌+◌, ◌-◌, ◌^◌, ◌<◌, ◌≤◌, ◌⊎◌, inl, inr, Bool, true, false, not, ◌&&◌, ◌||◌, ◌==◌, nat_le, cond, List, [], ◌∷◌, ◌++◌, length, get_or, take, drop, All, IsTrue, Option, Some, None, is_some, unwrap_or, option_map, IfSome, Result, Ok, Err, codes, decimal, refl, sym, ap, ◌∙◌, subst, append_assoc, append-nil, length-append, lit<, lit≤, arith, rules, tests}
-use Rattle.std.specs.List.{list_all, list_any, concat}
-use Rattle.std.specs.Char.{is_ascii_graphic}
-use Rattle.std.specs.Int.{IsInRange}
-use Rattle.std.proofs.lemmas.Bool.{cases_eq, cases_Bool, cond-true, cond-false, and_from, not_from_false, or_parts, or_right, both_ways, eq-eqb, ne_eqb, eqb-false, le-leb}
-use Rattle.std.proofs.lemmas.Bool.Decides.{nat_tests}
-use Rattle.std.proofs.lemmas.List.Elements.{All-nil, All-cons, All-append, All-weaker}
-use Rattle.std.proofs.lemmas.List.Sums.{list_all-from_AllPass}
+use Rattle.std.proofs.Common.{◌≡◌, ℕ, Bool, true, false, not, ◌&&◌, ◌||◌, ◌==◌, cond, List, [], ◌∷◌, ◌++◌, length, get_or, Option, Some, None, is_some, unwrap_or, option_map, codes, decimal, refl, sym, ap, ◌∙◌, subst, append_assoc, append-nil, arith}
+use Rattle.std.specs.List.{concat}
+use Rattle.std.proofs.lemmas.Bool.{cond-false, not_from_false, or_parts, or_right, both_ways, ne_eqb}
 use Rattle.url.specs.declared.host.Host.{Host}
 use Rattle.url.specs.declared.host.Host.TheVariants.{Domain, Ipv4, Ipv6}
-use Rattle.url.specs.declared.scheme.SchemeType.{SchemeType}
-use Rattle.url.specs.declared.scheme.SchemeType.TheVariants as kind
-use Rattle.url.specs.Scheme.{default_port, scheme_type, is_special, is_file}
-use Rattle.url.specs.Host.{host_text, is_empty_host, IsHostOf}
+use Rattle.url.specs.Scheme.{default_port, is_special, is_file}
+use Rattle.url.specs.Host.{host_text, is_empty_host}
 use Rattle.url.specs.Input.{is_empty, when}
-use Rattle.url.specs.Path.{is_windows_drive_letter, segment_len}
-use Rattle.url.specs.Parts.{Parts, kind_of, host_or_empty, has_authority, has_credentials, has_host, needs_guard, serialize, pieces, IsValid, IsPortOf}
-use Rattle.url.specs.Parser.{Parsed, parse_url}
-use Rattle.url.specs.Canonical.{first_segment, IsCanonicalFile, IsCanonicalAs, IsCanonical}
-use Rattle.url.proofs.HostRoundTrip.{All-decimal, IsHostByte, host_text_plain}
-use Rattle.url.proofs.SetterLemmas.{own_host}
-use Rattle.url.proofs.Theorems.{parse_url-serialize}
+use Rattle.url.specs.Parts.{Parts, host_or_empty, has_authority, has_credentials, serialize, IsValid, IsPortOf}
 use Rattle.url.proofs.ValidLemmas.{special_has_authority}
-use Rattle.acq_base.specs.declared.uri.Scheme.TheVariants.{Http, File}
 use Rattle.acq_base.specs.declared.uri.Uri.{Uri}
-use Rattle.acq_base.specs.Uri.{uri_text, text_of_parts, port_text, is_alphanumeric, is_uri_character}
-use Rattle.uri_names.specs.declared.error.UriError.{UriError}
-use Rattle.uri_names.specs.declared.error.UriError.TheVariants.{BadUri}
-use Rattle.uri_names.specs.Parts.{query_text, target_of, uri_of_parts, within}
-use Rattle.uri_names.specs.Reading.{has_scheme, is_uri_text, uri_of_url, judged, read_uri_of}
-use Rattle.uri_names.specs.Normal.{IsNormal}
-use Rattle.uri_names.proofs.Shapes.{IsHttp, IsFile, http_uri, file_uri, shape}
-use Rattle.uri_names.proofs.SoundParts.{http_kind, file_kind, sound_but}
+use Rattle.acq_base.specs.Uri.{uri_text, text_of_parts, port_text}
+use Rattle.uri_names.specs.Parts.{query_text}
+use Rattle.uri_names.proofs.Shapes.{IsHttp, IsFile, http_uri, file_uri}
+use Rattle.uri_names.proofs.SoundParts.{http_kind, file_kind}
 
 -- ---- the text
 

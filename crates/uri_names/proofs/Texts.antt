@@ -1,7 +1,7 @@
 -- Texts of ASCII are UTF-8, and where a `:` stands.
-use Rattle.std.proofs.Common.{◌≡◌, ℕ, ◌<◌, ◌≤◌, nat_lt, true, false, cond, ◌&&◌, Bool, List, [], ◌∷◌, length, get_or, refl, sym, ◌∙◌, ap, inl, inr, lit<, subst, arith, rules, tests}
+use Rattle.std.proofs.Common.{◌≡◌, ℕ, ◌<◌, nat_lt, true, false, ◌&&◌, Bool, List, [], ◌∷◌, length, get_or, refl, inl, inr, lit<, arith, rules, tests}
 use Rattle.std.specs.Char.{is_ascii, is_ascii_graphic}
-use Rattle.std.specs.List.{list_all, list_any, position_or_len, AllPass}
+use Rattle.std.specs.List.{list_all, list_any, position_or_len}
 use Rattle.std.specs.Str.{IsUtf8, IsAscii}
 use Rattle.std.proofs.lemmas.Bool.{cases_lt}
 use Rattle.std.proofs.lemmas.List.Sums.{AllPass-from_list_all}

@@ -1,5 +1,5 @@
 -- Which URLs are URIs of this profile, and what they are as such.
-use Rattle.std.specs.Prelude.{ℕ, ◌==◌, ◌&&◌, Bool, not, nat_le, if◌then◌else◌, List, [], ◌∷◌, ◌++◌, length, codes, bytes_eq, Option, Some, None, is_some, unwrap_or}
+use Rattle.std.specs.Prelude.{ℕ, ◌&&◌, not, nat_le, if◌then◌else◌, List, [], ◌∷◌, ◌++◌, length, codes, bytes_eq, Option, Some, None, is_some, unwrap_or}
 use Rattle.std.specs.List.{list_all}
 use Rattle.url.specs.Host.{host_text}
 use Rattle.url.specs.Parts.{Parts, has_host, has_credentials, host_or_empty}

@@ -1,4 +1,4 @@
-use Rattle.std.proofs.Common.{◌≡◌, ◌<◌, ◌+◌, ◌++◌, ◌∷◌, [], List, ℕ, length, ap, ◌∙◌, rules}
+use Rattle.std.proofs.Common.{◌≡◌, ◌+◌, ◌++◌, ◌∷◌, [], List, ℕ, length, ap, ◌∙◌, rules}
 use Rattle.std.specs.Prelude.{codes, None}
 use Rattle.apt_conf.proofs.EntryLemmas.{entry_of, enters_steps, allowed_steps}
 use Rattle.apt_conf.proofs.position.enters.Goals as goal

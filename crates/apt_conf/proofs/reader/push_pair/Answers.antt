@@ -1,6 +1,3 @@
-use Rattle.std.proofs.Common.{◌≡◌, List, ℕ, [], ◌∷◌, ◌++◌, ap, ◌∙◌}
-use Rattle.std.specs.Prelude.{Some}
-use Rattle.apt_conf.specs.declared.entry.Entry.{Entry}
 use Rattle.apt_conf.proofs.EntryLemmas.{pushed_pair}
 use Rattle.apt_conf.proofs.reader.push_pair.Goals as goal
 

@@ -1,5 +1,5 @@
 -- The pieces that `split` gives.
-use Rattle.std.proofs.Common.{rules, tests, IfOk}
+use Rattle.std.proofs.Common.{rules, tests}
 use Rattle.std.proofs.lemmas.Iterator.Consumers.{map_from_collect}
 use Rattle.std.proofs.lemmas.Iterator.Splits.{YieldsList-from_slice_split}
 use Rattle.uri_names.proofs.folder.segments_of.Goals as goal
