@@ -11,7 +11,8 @@ use Rattle.std.proofs.lemmas.List.Folds.{list_any-append}
 use Rattle.deb822_text.specs.declared.paragraph.Field.{Field}
 use Rattle.deb822_text.specs.declared.paragraph.Paragraph.{Paragraph}
 use Rattle.deb822_text.specs.Control.{Line, Separator, Continuation, Named, is_empty, is_name, has_name, field_named, line_of, lines_from, lines_of, paragraphs_of}
-use Rattle.deb822_text.specs.Scan.{State, start, names_of, fault_at, step, scan}
+use Rattle.deb822_text.specs.Names.{names_of}
+use Rattle.deb822_text.specs.Scan.{State, start, fault_at, step, scan}
 use Rattle.deb822_text.specs.Written.{is_line_character, is_first_line, is_later_line, are_field_lines, is_writable_field, are_distinct, is_writable_paragraph, is_writable, first_line_text, later_line_text, lines_text, field_text, paragraph_text, next_paragraph_text, text_of, unplaced_field, unplaced, ReadsAs}
 use Rattle.deb822_text.proofs.Steps.{is_empty-push, add_line-push, names_of-push}
 use Rattle.deb822_text.proofs.Groups.{scan-start}

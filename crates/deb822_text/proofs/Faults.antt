@@ -13,7 +13,8 @@ use Rattle.deb822_text.specs.declared.error.TextError.{TextError}
 use Rattle.deb822_text.specs.declared.error.TextError.TheVariants.{Twice, Loose, NoMemory}
 use Rattle.deb822_text.specs.Control.{Line, Separator, Comment, Continuation, Named, Unknown, is_empty, is_separator, names_in, has_name}
 use Rattle.deb822_text.specs.Refused.{names_behind, IsSameName, IsFault, AreAllowed, IsFirstFault}
-use Rattle.deb822_text.specs.Scan.{State, start, add_line, names_of, fault_at, step, unless, scan}
+use Rattle.deb822_text.specs.Names.{names_of}
+use Rattle.deb822_text.specs.Scan.{State, start, add_line, fault_at, step, unless, scan}
 use Rattle.deb822_text.proofs.Steps.{names_of-push}
 
 -- ---- the names behind the last separator, one line on

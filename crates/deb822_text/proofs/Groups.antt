@@ -7,7 +7,8 @@ use Rattle.deb822_text.specs.declared.paragraph.Paragraph.{Paragraph}
 use Rattle.deb822_text.specs.declared.error.TextError.{TextError}
 use Rattle.deb822_text.specs.declared.error.TextError.TheVariants.{Twice, Loose}
 use Rattle.deb822_text.specs.Control.{Line, Separator, Comment, Continuation, Named, Unknown, is_empty, groups_of, continued, fields_of, paragraphs_in, names_in, has_name, line_fault, or_else, fault_behind, first_fault, refused_or, reading_of}
-use Rattle.deb822_text.specs.Scan.{State, start, add_line, names_of, closed, fault_at, step, unless, scan}
+use Rattle.deb822_text.specs.Names.{names_of}
+use Rattle.deb822_text.specs.Scan.{State, start, add_line, closed, fault_at, step, unless, scan}
 
 -- ---- the fields of a group that goes on
 

@@ -48,3 +48,5 @@ is_some-copied None = refl
 is_some-copied (Some x) = refl
 
 pub ruleset emptiness = (is_empty-length, is_some-copied)
+
+pub ruleset naming = (is_some-field_named)

@@ -1,12 +1,12 @@
 -- Reading line by line: what a reader that goes on from what it has read so far does at each line.
-use Rattle.std.specs.Prelude.{◌≡◌, ℕ, ◌⊎◌, if◌then◌else◌, List, [], ◌∷◌, ◌++◌, map, Option, Some, None, option_to_list, Result, Ok, Err}
+use Rattle.std.specs.Prelude.{◌≡◌, ℕ, ◌⊎◌, if◌then◌else◌, List, [], ◌∷◌, ◌++◌, Option, Some, None, Result, Ok, Err}
 use Rattle.deb822_text.specs.declared.paragraph.Field.{Field}
 use Rattle.deb822_text.specs.declared.paragraph.Paragraph.{Paragraph}
 use Rattle.deb822_text.specs.declared.error.TextError.{TextError}
 use Rattle.deb822_text.specs.declared.error.TextError.TheVariants.{BadField, Twice, Loose, NoMemory}
 use Rattle.deb822_text.specs.declared.reading.Reading.{Reading}
-use Rattle.deb822_text.specs.Control.{Line, Separator, Comment, Continuation, Named, Unknown, is_empty, has_name}
-use Rattle.deb822_text.specs.Names.{HasNames}
+use Rattle.deb822_text.specs.Control.{Line, Separator, Comment, Continuation, Named, Unknown, is_empty, has_name, or_else}
+use Rattle.deb822_text.specs.Names.{names_of, repeated}
 
 -- the whole paragraphs, and the fields of the one that is open
 pub record State : Type 0 where
@@ -21,9 +21,6 @@ abbrev pub add_line : List Field → List ℕ → List Field
 add_line [] text = []
 add_line (field ∷ []) text = record field { lines = field.lines ++ text ∷ [] } ∷ []
 add_line (field ∷ next ∷ more) text = field ∷ add_line (next ∷ more) text
-
-abbrev pub names_of : List Field → List (List ℕ)
-names_of fields = map (λ field. field.name) fields
 
 -- the paragraphs with the open one, if it has a field
 abbrev pub closed : State → List Paragraph
@@ -54,19 +51,18 @@ scan state (line ∷ lines) = unless (fault_at state.fields line) (scan (step st
 -- ---- the program's reader
 
 abbrev pub state_of : Reading → State
-state_of reading = record { paragraphs = reading.paragraphs; fields = reading.fields ++ option_to_list reading.last }
+state_of reading = record { paragraphs = reading.paragraphs; fields = reading.fields.items }
 
--- there are fields before the last one only where there is a last one
-abbrev pub IsOpen : List Field → Option Field → Type 0
-IsOpen fields None = fields ≡ []
-IsOpen fields (Some last) = Unit {0}
+-- The names of an open paragraph are compared where it ends, or where a line is refused, so up to there a name that
+-- an earlier field has is a fault still owed: it comes before that of any line behind it.
+abbrev pub owed : State → Line → Option TextError
+owed state line = or_else (repeated state.fields) (fault_at state.fields line)
 
--- its set has the names of the open paragraph's fields
-pub record IsSound (reading : Reading) : Type 0 where
-  pub last : IsOpen reading.fields reading.last
-  pub names : HasNames reading.names (names_of (state_of reading).fields)
+-- it takes a line as a step, and owes what it owed or the line's fault
+abbrev pub GoesOn : State → Line → State → Type 0
+GoesOn old line new = (repeated new.fields ≡ owed old line) × (new ≡ step old line)
 
--- it takes a line as a step, or refuses it with its fault
+-- it goes on, or refuses the text with what it owes then
 abbrev pub Takes : {X : Type 0} → State → Line → Result X TextError → State → Type 0
-Takes old line (Ok done) new = (fault_at old.fields line ≡ None) × (new ≡ step old line)
-Takes old line (Err fault) new = (fault ≡ NoMemory) ⊎ (fault_at old.fields line ≡ Some fault)
+Takes old line (Ok done) new = GoesOn old line new
+Takes old line (Err fault) new = (fault ≡ NoMemory) ⊎ (owed old line ≡ Some fault)

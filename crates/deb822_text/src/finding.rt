@@ -1,4 +1,4 @@
-ghost use Rattle.std.specs.Prelude.{◌≡◌, option_copied};
+ghost use Rattle.std.specs.Prelude.{◌≡◌, option_copied, is_some};
 ghost use Rattle.deb822_text.specs.Control.{field_named};
 
 use crate::names::same_name;
@@ -18,4 +18,12 @@ pub fn field_of<'a>(fields: &'a [Field], name: &[u8]) -> Option<&'a Field>
     fields
         .iter()
         .find(|field| same_name(field.name.as_bytes(), name))
+}
+
+/// Whether one of the fields has this name.
+#[tactic(auto, using(crate::proofs::Lookups::emptiness))]
+pub fn names_field(fields: &[Field], name: &[u8]) -> bool
+    ensures { result ≡ is_some (field_named fields.now name.now) }
+{
+    field_of(fields, name).is_some()
 }

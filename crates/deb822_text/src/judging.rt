@@ -4,7 +4,7 @@ ghost use Rattle.std.specs.List.{list_all};
 ghost use Rattle.acq_base.specs.Words.{is_blank};
 ghost use Rattle.deb822_text.specs.Control.{begins_with, field_named};
 
-use crate::finding::field_of;
+use crate::finding::names_field;
 use crate::line::{all_blank, sound_name};
 use crate::{Field, Paragraph};
 use acq_base::{Row, Text, is_blank};
@@ -113,12 +113,4 @@ fn distinct(fields: &[Field]) -> bool
         rest = others;
     }
     true
-}
-
-/// Whether one of the fields has this name.
-#[tactic(auto, using(crate::proofs::Lookups::emptiness))]
-fn names_field(fields: &[Field], name: &[u8]) -> bool
-    ensures { result ≡ is_some (field_named fields.now name.now) }
-{
-    field_of(fields, name).is_some()
 }

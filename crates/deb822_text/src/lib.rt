@@ -18,6 +18,7 @@ mod line;
 mod names;
 mod paragraph;
 mod reading;
+mod repeated;
 #[cfg(test)]
 mod tests;
 mod writing;

@@ -1,7 +1,7 @@
 ghost use Rattle.std.specs.Prelude.{◌≡◌, ◌++◌, ◌∷◌, [], not, List, ℕ, IfOk};
 ghost use Rattle.std.specs.Str.{str_eq_ignore_ascii_case, str_to_ascii_lowercase};
 ghost use Rattle.deb822_text.specs.Control.{has_name};
-ghost use Rattle.deb822_text.specs.Names.{HasNames};
+ghost use Rattle.deb822_text.specs.Names.{HasNames, digest_of};
 
 use acq_base::{NoMemory, Text};
 use std::alloc::Global;
@@ -26,6 +26,20 @@ pub fn add_name(names: &mut BTreeSet<Text>, alloc: Global, name: &[u8]) -> Resul
 fn lowered(alloc: Global, text: &[u8]) -> Result<Text, NoMemory>
     ensures { IfOk result (λ lower. lower ≡ str_to_ascii_lowercase text.now) }
 {
-    let lower = text.to_ascii_lowercase(alloc)?;
-    Text::from_bytes(alloc, lower.as_slice())
+    Ok(Text::from(text.to_ascii_lowercase(alloc)?))
+}
+
+/// A number for a name, the same for names that are one. Different names hardly ever share one by chance, but a
+/// text can be made so that they do.
+#[tactic(auto, unfolding(crate::specs::Names::digest_of))]
+pub fn digest(name: &[u8]) -> u64
+    ensures { result ≡ digest_of name.now }
+{
+    let mut digest: u64 = 0;
+    for byte in name {
+        digest = digest
+            .wrapping_mul(1_099_511_628_211)
+            .wrapping_add(u64::from(byte.to_ascii_lowercase()));
+    }
+    digest
 }

@@ -1,16 +1,16 @@
-ghost use Rattle.std.specs.Prelude.{◌≡◌, ◌⊎◌, ◌++◌, ◌∷◌, [], option_to_list, Err, OnOk, IfOk, IfErr};
-ghost use Rattle.deb822_text.specs.Control.{paragraphs_of, lines_of, Separator, Continuation, Named};
-ghost use Rattle.deb822_text.specs.Scan.{scan, start, step, state_of, IsSound, Takes};
+ghost use Rattle.std.specs.Prelude.{◌≡◌, ◌⊎◌, ◌++◌, ◌∷◌, [], Some, Err, OnOk, IfOk, IfErr};
+ghost use Rattle.deb822_text.specs.Control.{paragraphs_of, lines_of, or_else, Separator, Continuation, Named};
+ghost use Rattle.deb822_text.specs.Scan.{scan, start, state_of, GoesOn, Takes};
+ghost use Rattle.deb822_text.specs.Names.{repeated, Tells};
 ghost use Rattle.deb822_text.specs.Seen.{seen};
 ghost use Rattle.deb822_text.specs.Refused.{IsFirstFault, AreAllowed};
 
 use crate::cutting::first_line;
 use crate::line::{Kind, kind_of};
-use crate::names::add_name;
+use crate::repeated::check_names;
 use crate::{Field, Paragraph, TextError};
 use acq_base::{NoMemory, Row, Text};
 use std::alloc::Global;
-use std::collections::BTreeSet;
 use std::mem;
 
 /// The paragraphs of a control text (Debian Policy, section 5.1). With `comments`, a line that begins with `#` is passed
@@ -45,96 +45,100 @@ fn scanned(alloc: Global, bytes: &[u8], comments: bool) -> Result<Row<Paragraph>
     Ok(reading.paragraphs)
 }
 
-/// What is read so far: whole paragraphs, and the one that is open, its last field apart, with the names of its fields.
+/// What is read so far: whole paragraphs, and the fields of the one that is open, whose names aren't compared yet.
 #[derive(Drop)]
 struct Reading {
     paragraphs: Row<Paragraph>,
-    fields: Row<Field>,
-    last: Option<Field>,
-    names: BTreeSet<Text>,
+    fields: Vec<Field>,
 }
 
 impl Reading {
     fn new(alloc: Global) -> Reading
-        ensures state { state_of result ≡ start }
-        ensures sound { IsSound result }
+        ensures { state_of result ≡ start }
     {
         Reading {
             paragraphs: Row::new(alloc),
-            fields: Row::new(alloc),
-            last: None,
-            names: BTreeSet::new(alloc),
+            fields: Vec::new(alloc),
         }
     }
 
     /// Takes the next line.
+    #[tactic(auto, using(crate::proofs::Steps::steps))]
     fn take(&mut self, alloc: Global, kind: Kind<'_>) -> Result<(), TextError>
-        requires { IsSound self.old }
-        ensures taken { Takes (state_of self.old) (seen kind.entry) result (state_of self.new) }
-        ensures sound { OnOk result (IsSound self.new) }
+        ensures { Takes (state_of self.old) (seen kind.entry) result (state_of self.new) }
     {
         match kind {
-            Kind::Separator => Ok(self.close(alloc)?),
+            Kind::Separator => self.close(alloc),
             Kind::Comment => Ok(()),
             Kind::Continuation(at, text) => self.go_on(alloc, at, text),
-            Kind::Named(at, name, text) => self.begin(alloc, at, name, text),
-            Kind::Unknown(at) => Err(TextError::BadField(at)),
+            Kind::Named(at, name, text) => Ok(self.begin(alloc, at, name, text)?),
+            Kind::Unknown(at) => Err(self.refusal(alloc, TextError::BadField(at))),
         }
     }
 
     /// A line more of the last field.
     #[tactic(auto, using(crate::proofs::Steps::steps))]
     fn go_on(&mut self, alloc: Global, at: u64, text: &[u8]) -> Result<(), TextError>
-        requires { IsSound self.old }
-        ensures taken { Takes (state_of self.old) (Continuation at text.now) result (state_of self.new) }
-        ensures sound { OnOk result (IsSound self.new) }
+        ensures { Takes (state_of self.old) (Continuation at text.now) result (state_of self.new) }
     {
-        match self.last.take() {
+        match self.fields.pop() {
             None => Err(TextError::Loose(at)),
             Some(field) => {
-                self.last = Some(longer(alloc, field, text)?);
-                Ok(())
+                let field = longer(alloc, field, text)?;
+                Ok(self.put(field)?)
             }
         }
     }
 
     /// A new field.
     #[tactic(auto, using(crate::proofs::Steps::steps))]
-    fn begin(&mut self, alloc: Global, at: u64, name: &[u8], text: &[u8]) -> Result<(), TextError>
-        requires { IsSound self.old }
-        ensures taken { Takes (state_of self.old) (Named at name.now text.now) result (state_of self.new) }
-        ensures sound { OnOk result (IsSound self.new) }
+    fn begin(&mut self, alloc: Global, at: u64, name: &[u8], text: &[u8]) -> Result<(), NoMemory>
+        ensures { OnOk result (GoesOn (state_of self.old) (Named at name.now text.now) (state_of self.new)) }
     {
-        if !add_name(&mut self.names, alloc, name)? {
-            return Err(TextError::Twice(at));
+        self.make_room(alloc)?;
+        self.put(new_field(alloc, at, name, text)?)
+    }
+
+    /// Room for just one field at first, since a text may be of many tiny paragraphs.
+    fn make_room(&mut self, alloc: Global) -> Result<(), NoMemory>
+        ensures { OnOk result (state_of self.new ≡ state_of self.old) }
+    {
+        if self.fields.is_empty() {
+            self.fields = Vec::with_capacity(alloc, 1)?;
         }
-        self.put_last()?;
-        self.last = Some(new_field(alloc, at, name, text)?);
         Ok(())
     }
 
-    /// Puts the last field, if there is one, to the others.
-    fn put_last(&mut self) -> Result<(), NoMemory>
-        ensures { OnOk result (self.new ≡ record self.old { fields = self.old.fields ++ option_to_list self.old.last; last = None }) }
+    /// Puts a field to the others.
+    fn put(&mut self, field: Field) -> Result<(), NoMemory>
+        ensures paragraphs { self.new.paragraphs ≡ self.old.paragraphs }
+        ensures fields { OnOk result (self.new.fields.items ≡ self.old.fields.items ++ field ∷ []) }
     {
-        match self.last.take() {
-            None => Ok(()),
-            Some(field) => self.fields.push(field),
-        }
+        self.fields.push(field)?;
+        Ok(())
     }
 
     /// Ends the open paragraph, if it has a field.
-    fn close(&mut self, alloc: Global) -> Result<(), NoMemory>
-        ensures state { OnOk result (state_of self.new ≡ step (state_of self.old) Separator) }
-        ensures sound { OnOk result (IsSound self.new) }
+    #[tactic(auto, using(crate::proofs::Steps::steps))]
+    fn close(&mut self, alloc: Global) -> Result<(), TextError>
+        ensures { Takes (state_of self.old) Separator result (state_of self.new) }
     {
-        self.put_last()?;
-        let fields = mem::replace(&mut self.fields, Row::new(alloc));
-        self.names = BTreeSet::new(alloc);
-        if fields.is_empty() {
+        if self.fields.is_empty() {
             return Ok(());
         }
-        self.paragraphs.push(Paragraph { fields })
+        check_names(alloc, self.fields.as_slice())?;
+        let fields = Row::from(mem::replace(&mut self.fields, Vec::new(alloc)));
+        Ok(self.paragraphs.push(Paragraph { fields })?)
+    }
+
+    /// This refusal, or that of a field above it, whose name an earlier one has.
+    fn refusal(&self, alloc: Global, fault: TextError) -> TextError
+        ensures { (result ≡ TextError.NoMemory) ⊎ (or_else (repeated self.now.fields.items) (Some fault) ≡ Some result) }
+    {
+        match check_names(alloc, self.fields.as_slice()) {
+            Ok(()) => fault,
+            Err(earlier) => earlier,
+        }
     }
 }
 
@@ -142,11 +146,11 @@ impl Reading {
 fn new_field(alloc: Global, at: u64, name: &[u8], text: &[u8]) -> Result<Field, NoMemory>
     ensures { IfOk result (λ field. field ≡ record { name = name.now; lines = text.now ∷ []; at = at }) }
 {
-    let mut lines = Row::new(alloc);
+    let mut lines = Vec::with_capacity(alloc, 1)?;
     lines.push(Text::from_bytes(alloc, text)?)?;
     Ok(Field {
         name: Text::from_bytes(alloc, name)?,
-        lines,
+        lines: Row::from(lines),
         at,
     })
 }
