@@ -2,7 +2,8 @@ pub mod Cuts
 pub mod Lookups
 pub mod Steps
 pub mod Repeats
-pub mod Digests
+pub mod Order
+pub mod Keys
 pub mod Scans
 pub mod Groups
 pub mod Faults

@@ -11,9 +11,9 @@ use acq_base::{Row, Text, is_blank};
 
 /// Whether `write` can write these paragraphs, so that reading gives them again.
 ///
-/// Each paragraph has a field. A name is one to 126 of the printable ASCII characters, not the colon, `#` and `-` not
-/// first, and no two of a paragraph's are one, ASCII case aside. Each field has a line, and no line holds a line feed or
-/// a carriage return. A first line has no blank at an end; a later one has none at its end, and isn't of blanks alone.
+/// Each paragraph has a field. A name is one or more printable ASCII characters, not the colon, `#` and `-` not first,
+/// and no two of a paragraph's are one, ASCII case aside. Each field has a line, and no line holds a line feed or a
+/// carriage return. A first line has no blank at an end; a later one has none at its end, and isn't of blanks alone.
 /// It takes no memory, so its time grows with the square of a paragraph's number of fields.
 #[tactic(auto, unfolding(crate::specs::Written::is_writable))]
 pub fn writable(paragraphs: &Row<Paragraph>) -> bool

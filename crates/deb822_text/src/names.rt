@@ -1,11 +1,91 @@
-ghost use Rattle.std.specs.Prelude.{◌≡◌, ◌++◌, ◌∷◌, [], not, List, ℕ, IfOk};
+ghost use Rattle.std.specs.Prelude.{◌≡◌};
+ghost use Rattle.std.specs.Ordering.{nat_cmp};
+ghost use Rattle.std.specs.Cmp.Lexicographic.{slice_cmp};
 ghost use Rattle.std.specs.Str.{str_eq_ignore_ascii_case, str_to_ascii_lowercase};
-ghost use Rattle.deb822_text.specs.Control.{has_name};
-ghost use Rattle.deb822_text.specs.Names.{HasNames, digest_of};
+ghost use Rattle.deb822_text.specs.Names.{digest_of};
 
-use acq_base::{NoMemory, Text};
-use std::alloc::Global;
-use std::collections::BTreeSet;
+use std::cmp::Ordering;
+use std::marker::Model;
+
+/// A field's name. Contracts see it in lower case, so names that differ in ASCII case alone are equal.
+#[derive(Debug, Drop)]
+pub struct Name<'a> {
+    bytes: &'a [u8],
+}
+
+impl<'a> Model for Name<'a> {
+    ghost use Rattle.std.specs.Prelude.{List, ℕ};
+    ghost use Rattle.std.specs.Str.{str_to_ascii_lowercase};
+
+    ghost Value = { List ℕ };
+
+    ghost view = { λ name. str_to_ascii_lowercase name.bytes.now };
+}
+
+impl<'a> Name<'a> {
+    pub fn new(bytes: &'a [u8]) -> Name<'a>
+        ensures { result ≡ str_to_ascii_lowercase bytes.entry.now }
+    {
+        Name { bytes }
+    }
+}
+
+impl<'a> PartialEq for Name<'a> {
+    ghost use Rattle.std.specs.Prelude.{nat_eq};
+    ghost use Rattle.std.specs.Cmp.Lexicographic.{pointwise};
+    ghost use Rattle.std.specs.Cmp.Rules.{comparing};
+    ghost use Rattle.std.proofs.Common.{rules};
+
+    ghost eq = { λ a b. pointwise nat_eq a b };
+
+    ghost laws = { Prim.search (comparing, rules) };
+
+    fn eq(&self, other: &Name<'a>) -> bool {
+        same_name(self.bytes, other.bytes)
+    }
+}
+
+impl<'a> Eq for Name<'a> {
+    ghost use Rattle.std.specs.Cmp.Rules.{comparing};
+    ghost use Rattle.std.proofs.Common.{rules};
+
+    ghost laws = { Prim.search (comparing, rules) };
+}
+
+impl<'a> Ord for Name<'a> {
+    ghost use Rattle.std.specs.Ordering.{nat_cmp};
+    ghost use Rattle.std.specs.Cmp.Lexicographic.{slice_cmp};
+    ghost use Rattle.std.specs.Cmp.Rules.{comparing};
+    ghost use Rattle.std.proofs.Common.{rules};
+
+    ghost cmp = { slice_cmp nat_cmp };
+
+    ghost total = { Prim.search (comparing, rules) };
+
+    ghost matches_partial_cmp = { Prim.search (comparing, rules) };
+
+    ghost matches_eq = { Prim.search (comparing, rules) };
+
+    fn cmp(&self, other: &Name<'a>) -> Ordering {
+        compare(self.bytes, other.bytes)
+    }
+}
+
+impl<'a> PartialOrd for Name<'a> {
+    ghost use Rattle.std.specs.Ordering.{nat_cmp, as_partial_cmp};
+    ghost use Rattle.std.specs.Cmp.Lexicographic.{slice_cmp};
+    ghost use Rattle.std.specs.Cmp.{partial_order_from_own_ties};
+    ghost use Rattle.std.specs.Cmp.Rules.{comparing};
+    ghost use Rattle.std.proofs.Common.{rules};
+
+    ghost partial_cmp = { as_partial_cmp (slice_cmp nat_cmp) };
+
+    ghost laws = { partial_order_from_own_ties (Prim.search (comparing, rules)) (Prim.search (comparing, rules)) };
+
+    fn partial_cmp(&self, other: &Name<'a>) -> Option<Ordering> {
+        Some(self.cmp(other))
+    }
+}
 
 /// Whether two names are one, ASCII case aside.
 pub fn same_name(a: &[u8], b: &[u8]) -> bool
@@ -14,26 +94,11 @@ pub fn same_name(a: &[u8], b: &[u8]) -> bool
     a.eq_ignore_ascii_case(b)
 }
 
-/// Adds a name in lower case, and answers whether it is new to the set.
-pub fn add_name(names: &mut BTreeSet<Text>, alloc: Global, name: &[u8]) -> Result<bool, NoMemory>
-    ensures { (before : List (List ℕ)) → HasNames names.old before → IfOk result (λ added. (added ≡ not (has_name before name.now)) × HasNames names.new (before ++ name.now ∷ [])) }
-{
-    let name = lowered(alloc, name)?;
-    Ok(names.insert(name)?)
-}
-
-/// A text in lower case.
-fn lowered(alloc: Global, text: &[u8]) -> Result<Text, NoMemory>
-    ensures { IfOk result (λ lower. lower ≡ str_to_ascii_lowercase text.now) }
-{
-    Ok(Text::from(text.to_ascii_lowercase(alloc)?))
-}
-
-/// A number for a name, the same for names that are one. Different names hardly ever share one by chance, but a
-/// text can be made so that they do.
+/// A number for a name, the same for names that are one. Different names hardly ever share one, unless a text is made
+/// so that they do.
 #[tactic(auto, unfolding(crate::specs::Names::digest_of))]
 pub fn digest(name: &[u8]) -> u64
-    ensures { result ≡ digest_of name.now }
+    ensures { result ≡ digest_of (str_to_ascii_lowercase name.now) }
 {
     let mut digest: u64 = 0;
     for byte in name {
@@ -42,4 +107,19 @@ pub fn digest(name: &[u8]) -> u64
             .wrapping_add(u64::from(byte.to_ascii_lowercase()));
     }
     digest
+}
+
+/// The order of two names, ASCII case aside.
+fn compare(a: &[u8], b: &[u8]) -> Ordering
+    ensures { result ≡ slice_cmp nat_cmp (str_to_ascii_lowercase a.now) (str_to_ascii_lowercase b.now) }
+{
+    let mut at = 0;
+    while at < a.len() && at < b.len() {
+        let order = a[at].to_ascii_lowercase().cmp(&b[at].to_ascii_lowercase());
+        if order != Ordering::Equal {
+            return order;
+        }
+        at += 1;
+    }
+    (a.len() - at).cmp(&(b.len() - at))
 }

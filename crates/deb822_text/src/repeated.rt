@@ -1,21 +1,22 @@
-ghost use Rattle.std.specs.Prelude.{◌≡◌, ◌<◌, None, Some, MatchOption, IfOk, length, take};
+ghost use Rattle.std.specs.Prelude.{◌≡◌, ◌<◌, ◌+◌, ◌∷◌, IfOk, length, drop, slice_index_or};
 ghost use Rattle.std.specs.List.Sorted.{IsPermutation, IsSorted};
-ghost use Rattle.deb822_text.specs.Names.{repeated, Tells, names_of, name_fault, keys_of, key_cmp, lesser as lesser_of, shared_next as shared_next_of, least_shared};
+ghost use Rattle.deb822_text.specs.declared.error.TextError.TheVariants.{Twice};
+ghost use Rattle.deb822_text.specs.Names.{repeated, Tells, names_of, name_fault, keys_from, keys_of, key_cmp, lesser as lesser_of, is_repeated as is_repeated_by, next_place as next_place_of, least_place};
 
 use crate::finding::names_field;
-use crate::names::{add_name, digest};
+use crate::names::{Name, digest};
 use crate::{Field, TextError};
 use acq_base::NoMemory;
 use std::alloc::Global;
-use std::collections::BTreeSet;
 
 /// How many names are compared each with each. With more of them that would take too long.
 const FEW: usize = 32;
 
-/// A field's place among the fields, behind a number that fields of one name share.
-#[derive(Clone, Copy, Debug, PartialEq, Eq, PartialOrd, Ord)]
-pub struct Key {
+/// A field's name and place among the fields, behind the name's digest, by which most names are told apart.
+#[derive(Debug, PartialEq, Eq, PartialOrd, Ord, Drop)]
+pub struct Key<'a> {
     pub digest: u64,
+    pub name: Name<'a>,
     pub place: usize,
 }
 
@@ -53,46 +54,27 @@ fn check_behind(before: &[Field], field: &Field) -> Result<(), TextError>
     Ok(())
 }
 
-/// Sorts the names by their digests, so that those of one name stand side by side.
+/// Sorts the names, so that those that are one stand side by side.
 fn check_many(alloc: Global, fields: &[Field]) -> Result<(), TextError>
     ensures { Tells (repeated fields.now) result }
 {
     let keys = sorted_keys(alloc, fields)?;
-    match first_shared(keys.as_slice()) {
+    match first_place(keys.as_slice()) {
         None => Ok(()),
-        Some(place) => check_from(alloc, fields, place),
+        Some(place) => Err(twice_at(fields, place)),
     }
 }
 
-/// Checks names of which those before a place are all different. The name there most likely has the digest of an
-/// earlier one because it is that one. Where it isn't, all are looked at one by one.
-fn check_from(alloc: Global, fields: &[Field], place: usize) -> Result<(), TextError>
-    requires { repeated (take place fields.now) ≡ None }
-    ensures { Tells (repeated fields.now) result }
+/// The refusal of the field at a place.
+fn twice_at(fields: &[Field], place: usize) -> TextError
+    requires { place < length fields.now }
+    ensures { (d : Field) → result ≡ Twice (slice_index_or fields.now place d).at }
 {
-    if place < fields.len() {
-        let (before, _) = fields.split_at(place);
-        check_behind(before, &fields[place])?;
-    }
-    check_each(alloc, fields)
-}
-
-/// Looks each name up among those before it.
-#[tactic(auto, unfolding(crate::specs::Names::repeated))]
-fn check_each(alloc: Global, fields: &[Field]) -> Result<(), TextError>
-    ensures { Tells (repeated fields.now) result }
-{
-    let mut names = BTreeSet::new(alloc);
-    for field in fields {
-        if !add_name(&mut names, alloc, field.name.as_bytes())? {
-            return Err(TextError::Twice(field.at));
-        }
-    }
-    Ok(())
+    TextError::Twice(fields[place].at)
 }
 
 /// The keys of the fields in order.
-fn sorted_keys(alloc: Global, fields: &[Field]) -> Result<Vec<Key>, NoMemory>
+fn sorted_keys(alloc: Global, fields: &[Field]) -> Result<Vec<Key<'_>>, NoMemory>
     ensures permutation { IfOk result (λ keys. IsPermutation (keys_of fields.now) keys.items) }
     ensures sorted { IfOk result (λ keys. IsSorted key_cmp keys.items) }
 {
@@ -102,39 +84,56 @@ fn sorted_keys(alloc: Global, fields: &[Field]) -> Result<Vec<Key>, NoMemory>
 }
 
 /// The key of each field.
-fn keys(alloc: Global, fields: &[Field]) -> Result<Vec<Key>, NoMemory>
+fn keys(alloc: Global, fields: &[Field]) -> Result<Vec<Key<'_>>, NoMemory>
     ensures { IfOk result (λ keys. keys.items ≡ keys_of fields.now) }
 {
     let mut keys = Vec::with_capacity(alloc, fields.len())?;
-    for (place, field) in fields.iter().enumerate() {
-        let digest = digest(field.name.as_bytes());
-        keys.push(Key { digest, place })?;
+    for place in 0..fields.len() {
+        keys.push(key_at(fields, place))?;
     }
     Ok(keys)
 }
 
-/// The least place of a key behind one of the same digest.
-#[tactic(auto, using(crate::proofs::Repeats::lessers))]
-fn first_shared(keys: &[Key]) -> Option<usize>
-    ensures { result ≡ least_shared keys.now }
+/// The key of the field at a place.
+fn key_at(fields: &[Field], place: usize) -> Key<'_>
+    requires { place < length fields.now }
+    ensures { keys_from place (drop place fields.now) ≡ result ∷ keys_from (place + 1) (drop (place + 1) fields.now) }
+{
+    let name = fields[place].name.as_bytes();
+    Key {
+        digest: digest(name),
+        name: Name::new(name),
+        place,
+    }
+}
+
+/// The least place of a key behind that of an earlier field of the same name.
+fn first_place(keys: &[Key<'_>]) -> Option<usize>
+    ensures { result ≡ least_place keys.now }
 {
     let mut least = None;
-    let mut rest = keys;
-    while let Some((key, behind)) = rest.split_first() {
-        least = lesser(least, shared_next(key, behind));
-        rest = behind;
+    for at in 0..keys.len() {
+        let (_, rest) = keys.split_at(at);
+        least = lesser(least, next_place(rest));
     }
     least
 }
 
-/// The place of the next key, if it has the same digest.
-fn shared_next(key: &Key, behind: &[Key]) -> Option<usize>
-    ensures { result ≡ shared_next_of key.now behind.now }
+/// The place of the second key, if it is of a later field of the same name than the first.
+fn next_place(keys: &[Key<'_>]) -> Option<usize>
+    ensures { result ≡ next_place_of keys.now }
 {
-    match behind.first() {
-        Some(next) if next.digest == key.digest => Some(next.place),
+    match keys {
+        [key, next, ..] if is_repeated(key, next) => Some(next.place),
         _ => None,
     }
+}
+
+/// Whether a key is of a later field of the same name.
+fn is_repeated(key: &Key<'_>, next: &Key<'_>) -> bool
+    ensures { result ≡ is_repeated_by key.now next.now }
+{
+    key.digest == next.digest && key.name == next.name && key.place < next.place
 }
 
 /// The lesser of two places, if there are two.

@@ -55,6 +55,49 @@ fn refusals_and_paragraphs(rt: HostRuntime) {
     }
 }
 
+/// Names of one digest, which are told apart all the same.
+const ALIKE: &[u8] = b"\")\"!!!/$3.!2: 1\n!!$%+'!\"!!0!: 2\n";
+
+/// Lines behind forty fields `F00:` to `F39:`, and the refusal's number and line, or the number of paragraphs.
+const BEHIND_MANY: [(&[u8], (u32, u64)); 9] = [
+    (b"", (0, 1)),
+    (b"F40: 1\n b\n", (0, 1)),
+    (b"f00: 1\n", (4, 41)),
+    (b"G: 1\nf39: 1\nF00: 1\ng: 1\n", (4, 42)),
+    (b"G: 1\ng: 1\nno field\n", (4, 42)),
+    (b"no field\nF00: 1\n", (3, 41)),
+    (b"\nF00: 1\n", (0, 2)),
+    (ALIKE, (0, 1)),
+    (
+        b"!!$%+'!\"!!0!: 1\n\")\"!!!/$3.!2: 2\nF07: 3\n!!$%+'!\"!!0!: 4\n",
+        (4, 43),
+    ),
+];
+
+fn many_fields(rt: &HostRuntime, behind: &[u8]) -> Result<Text, NoMemory> {
+    let mut text = Text::new(rt.alloc());
+    for tens in b"0123" {
+        for ones in b"0123456789" {
+            text.append(&[b'F', *tens, *ones, b':', b'\n'])?;
+        }
+    }
+    text.append(behind)?;
+    Ok(text)
+}
+
+#[test]
+fn names_among_many(rt: HostRuntime) -> Result<(), Fail> {
+    for (behind, wanted) in BEHIND_MANY {
+        let text = many_fields(&rt, behind).ok().ok_or("memory is there")?;
+        assert_eq!(rt;
+            answer(&rt, text.as_bytes(), false),
+            wanted,
+            "at {behind:?}"
+        );
+    }
+    Ok(())
+}
+
 /// Texts of one field, and its lines.
 const FIELDS: [(&[u8], &[&[u8]]); 8] = [
     (b"A: 1\n b\n", &[b"1", b"b"]),

@@ -1,10 +1,9 @@
 use Rattle.std.proofs.Common.{◌≡◌, ◌+◌, length, ap, sym, ◌∙◌, inr, arith}
-use Rattle.std.specs.Str.Lines.{lines as text_lines}
 use Rattle.std.proofs.lemmas.Result.{err_from_is_err_and}
 use Rattle.std.proofs.lemmas.Bool.{eqb-true}
-use Rattle.deb822_text.specs.Control.{lines_from, lines_of}
+use Rattle.deb822_text.specs.Control.{lines_of}
 use Rattle.deb822_text.specs.Names.{repeated}
-use Rattle.deb822_text.specs.Scan.{State, unless, scan, state_of}
+use Rattle.deb822_text.specs.Scan.{State, state_of}
 use Rattle.deb822_text.proofs.Scans.{rest_of, refuses, goes_on, ends}
 use Rattle.deb822_text.proofs.reading.scanned.Goals as goal
 

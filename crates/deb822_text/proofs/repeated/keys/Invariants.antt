@@ -1,4 +1,4 @@
-use Rattle.std.proofs.Common.{◌≡◌, ◌++◌, ◌≤◌, length, drop}
+use Rattle.std.proofs.Common.{◌≡◌, ◌++◌, drop}
 use Rattle.deb822_text.specs.Names.{keys_of, keys_from}
 use Rattle.deb822_text.proofs.repeated.keys.Given as goal
 
