@@ -150,7 +150,7 @@ items_read (sets_block key quoted value inside rest) room blocks more r h =
     ∙ front-front (given_by inner inside) (given_by blocks rest) (bare (begin blocks) more))
     ∙ front-front set (given_by inner inside ++ given_by blocks rest) (bare (begin blocks) more)
 
-pub ok_from : (r : Result (List Pair) ConfError) (pairs : List Pair) → result_ok r ≡ Some pairs → r ≡ Ok pairs
+ok_from : (r : Result (List Pair) ConfError) (pairs : List Pair) → result_ok r ≡ Some pairs → r ≡ Ok pairs
 ok_from (Ok found) pairs h = cc
 ok_from (Err e) pairs h = absurd cc
 

@@ -1,6 +1,6 @@
 -- A text that is read spells statements: they are found in its tokens, from the left.
 use Rattle.std.proofs.Common.{◌≡◌, ℕ, zero, suc, ◌+◌, ◌-◌, ◌<◌, ◌≤◌, inl, inr, Bool, true, false, List, [], ◌∷◌, ◌++◌, length, map, Option, Some, None, Result, Ok, Err, refl, sym, ap, ◌∙◌, subst, append_assoc, length-append, arith}
-use Rattle.std.specs.Prelude.{if◌then◌else◌, ◌==◌, ◌&&◌, nat_lt, nat_eq, OnOk}
+use Rattle.std.specs.Prelude.{if◌then◌else◌, ◌==◌, ◌&&◌, nat_lt, OnOk}
 use Rattle.std.specs.Result.{result_ok}
 use Rattle.std.proofs.lemmas.Bool.{cases_Bool}
 use Rattle.std.proofs.lemmas.Bool.Decides.{nat_tests}
@@ -8,7 +8,7 @@ use Rattle.std.proofs.lemmas.List.{append-nil}
 use Rattle.apt_conf.specs.declared.entry.Entry.{Entry}
 use Rattle.apt_conf.specs.declared.error.ConfError.{ConfError}
 use Rattle.apt_conf.specs.declared.statement.Part.{Part}
-use Rattle.apt_conf.specs.declared.statement.Part.TheVariants.{Start, Listed, Named, Valued}
+use Rattle.apt_conf.specs.declared.statement.Part.TheVariants.{Listed, Named, Valued}
 use Rattle.apt_conf.specs.declared.token.Token.{Token}
 use Rattle.apt_conf.specs.declared.token.Token.TheVariants.{Word, Quoted, Semicolon, Open, Close, Torn}
 use Rattle.apt_conf.specs.Keys.{Pair, is_key}
@@ -18,7 +18,7 @@ use Rattle.apt_conf.specs.Statements.{start, given, prefix_of, is_start, is_clos
 use Rattle.apt_conf.specs.Progress.{Reads}
 use Rattle.apt_conf.specs.Reading.{pairs_of}
 use Rattle.apt_conf.specs.Grammar.{Items, nothing, empty, listed, named, sets, block, sets_block, value_token, spelled, given_by, AreItems, Spells, Adds}
-use Rattle.apt_conf.proofs.GrammarLemmas.{front, front-nil, after, bare, pairs_from-bare, begin, at, key_step, value_step, enter_step, set_and_enter_step, leave_step, end_step, set_step, empty_step, listed_step, deeper}
+use Rattle.apt_conf.proofs.GrammarLemmas.{front, front-nil, bare, pairs_from-bare, begin, at, key_step, value_step, enter_step, set_and_enter_step, leave_step, end_step, set_step, empty_step, listed_step, deeper}
 
 -- ---- what an answer says of its parts
 
