@@ -18,22 +18,22 @@ use Rattle.apt_conf.specs.Grammar.{Items, nothing, empty, listed, named, sets, b
 
 -- ---- the pairs of tokens, wherever they stand
 
-abbrev front : List Pair → Option (List Pair) → Option (List Pair)
+abbrev pub front : List Pair → Option (List Pair) → Option (List Pair)
 front pairs read = option_map (λ more. pairs ++ more) read
 
 front-front : (a b : List Pair) (read : Option (List Pair)) → front a (front b read) ≡ front (a ++ b) read
 front-front a b (Some pairs) = ap (λ (ps : List Pair). Some ps) (sym (append_assoc a b pairs))
 front-front a b None = refl
 
-front-nil : (read : Option (List Pair)) → front [] read ≡ read
+pub front-nil : (read : Option (List Pair)) → front [] read ≡ read
 front-nil (Some pairs) = refl
 front-nil None = refl
 
-abbrev after : Option Moved → (Place → Option (List Pair)) → Option (List Pair)
+abbrev pub after : Option Moved → (Place → Option (List Pair)) → Option (List Pair)
 after (Some m) read = front m.pairs (read m.place)
 after None read = None
 
-bare : Place → List Token → Option (List Pair)
+unfoldable pub bare : Place → List Token → Option (List Pair)
 bare place [] = if is_closed place then Some [] else None
 bare place (t ∷ ts) = after (moved place t) (λ p. bare p ts)
 
@@ -50,43 +50,43 @@ step_ok line (Some m) read same h = inner (read m.place) ∙ ap (front m.pairs) 
     inner (Ok pairs) = refl
     inner (Err e) = refl
 
-pairs_from-bare : (last : ℕ) (place : Place) (ts : List Placed) → result_ok (pairs_from last place ts) ≡ bare place (map (λ t. t.token) ts)
+pub pairs_from-bare : (last : ℕ) (place : Place) (ts : List Placed) → result_ok (pairs_from last place ts) ≡ bare place (map (λ t. t.token) ts)
 unfolding pairs_from bare
 pairs_from-bare last place [] = closed_ok last (is_closed place)
 pairs_from-bare last place (t ∷ ts) = step_ok t.line (moved place t.token) (λ p. pairs_from last p ts) (λ p. bare p (map (λ s. s.token) ts)) (λ p. pairs_from-bare last p ts)
 
 -- ---- statements are read
 
-abbrev begin : List (List ℕ) → Place
+abbrev pub begin : List (List ℕ) → Place
 begin blocks = record { blocks = blocks; part = Start }
 
-abbrev at : List (List ℕ) → Part → Place
+abbrev pub at : List (List ℕ) → Part → Place
 at blocks part = record { blocks = blocks; part = part }
 
 -- a key begins a statement
-key_step : (blocks : List (List ℕ)) (key : List ℕ) (ts : List Token) → is_key key ≡ true → bare (begin blocks) (Word key ∷ ts) ≡ bare (at blocks (Named key)) ts
+pub key_step : (blocks : List (List ℕ)) (key : List ℕ) (ts : List Token) → is_key key ≡ true → bare (begin blocks) (Word key ∷ ts) ≡ bare (at blocks (Named key)) ts
 unfolding bare step_at_start
 key_step blocks key ts k = rw k (front-nil (bare (at blocks (Named key)) ts))
 
-value_step : (blocks : List (List ℕ)) (key : List ℕ) (quoted : Bool) (value : List ℕ) (ts : List Token) → bare (at blocks (Named key)) (value_token quoted value ∷ ts) ≡ bare (at blocks (Valued key value)) ts
+pub value_step : (blocks : List (List ℕ)) (key : List ℕ) (quoted : Bool) (value : List ℕ) (ts : List Token) → bare (at blocks (Named key)) (value_token quoted value ∷ ts) ≡ bare (at blocks (Valued key value)) ts
 unfolding bare step_when_named
 value_step blocks key true value ts = front-nil (bare (at blocks (Valued key value)) ts)
 value_step blocks key false value ts = front-nil (bare (at blocks (Valued key value)) ts)
 
 -- a block that is entered and left
-enter_step : (blocks : List (List ℕ)) (key : List ℕ) (ts : List Token) → length blocks < 16 → bare (at blocks (Named key)) (Open ∷ ts) ≡ bare (begin (blocks ++ key ∷ [])) ts
+pub enter_step : (blocks : List (List ℕ)) (key : List ℕ) (ts : List Token) → length blocks < 16 → bare (at blocks (Named key)) (Open ∷ ts) ≡ bare (begin (blocks ++ key ∷ [])) ts
 unfolding bare step_when_named
 enter_step blocks key ts lt =
     let t : nat_lt (length blocks) 16 ≡ true = grind (arith, nat_tests) in
     rw t (front-nil (bare (begin (blocks ++ key ∷ [])) ts))
 
-set_and_enter_step : (blocks : List (List ℕ)) (key value : List ℕ) (ts : List Token) → length blocks < 16 → bare (at blocks (Valued key value)) (Open ∷ ts) ≡ front (given (prefix_of blocks ++ key) value) (bare (begin (blocks ++ key ∷ [])) ts)
+pub set_and_enter_step : (blocks : List (List ℕ)) (key value : List ℕ) (ts : List Token) → length blocks < 16 → bare (at blocks (Valued key value)) (Open ∷ ts) ≡ front (given (prefix_of blocks ++ key) value) (bare (begin (blocks ++ key ∷ [])) ts)
 unfolding bare step_when_valued
 set_and_enter_step blocks key value ts lt =
     let t : nat_lt (length blocks) 16 ≡ true = grind (arith, nat_tests) in
     rw t refl
 
-leave_step : (blocks : List (List ℕ)) (key : List ℕ) (ts : List Token) → bare (begin (blocks ++ key ∷ [])) (Close ∷ ts) ≡ bare (begin blocks) ts
+pub leave_step : (blocks : List (List ℕ)) (key : List ℕ) (ts : List Token) → bare (begin (blocks ++ key ∷ [])) (Close ∷ ts) ≡ bare (begin blocks) ts
 unfolding bare step_at_start
 leave_step blocks key ts =
     let n : length (blocks ++ key ∷ []) ≡ length blocks + 1 = length-append blocks (key ∷ []) in
@@ -96,23 +96,23 @@ leave_step blocks key ts =
     rw (t, b) (front-nil (bare (begin blocks) ts))
 
 -- behind a key: an end, a value and an end
-end_step : (blocks : List (List ℕ)) (key : List ℕ) (ts : List Token) → bare (at blocks (Named key)) (Semicolon ∷ ts) ≡ bare (begin blocks) ts
+pub end_step : (blocks : List (List ℕ)) (key : List ℕ) (ts : List Token) → bare (at blocks (Named key)) (Semicolon ∷ ts) ≡ bare (begin blocks) ts
 unfolding bare step_when_named
 end_step blocks key ts = front-nil (bare (begin blocks) ts)
 
-set_step : (blocks : List (List ℕ)) (key value : List ℕ) (ts : List Token) → bare (at blocks (Valued key value)) (Semicolon ∷ ts) ≡ front (given (prefix_of blocks ++ key) value) (bare (begin blocks) ts)
+pub set_step : (blocks : List (List ℕ)) (key value : List ℕ) (ts : List Token) → bare (at blocks (Valued key value)) (Semicolon ∷ ts) ≡ front (given (prefix_of blocks ++ key) value) (bare (begin blocks) ts)
 unfolding bare step_when_valued
 set_step blocks key value ts = refl
 
-empty_step : (blocks : List (List ℕ)) (ts : List Token) → bare (begin blocks) (Semicolon ∷ ts) ≡ bare (begin blocks) ts
+pub empty_step : (blocks : List (List ℕ)) (ts : List Token) → bare (begin blocks) (Semicolon ∷ ts) ≡ bare (begin blocks) ts
 unfolding bare step_at_start
 empty_step blocks ts = front-nil (bare (begin blocks) ts)
 
-listed_step : (blocks : List (List ℕ)) (value : List ℕ) (ts : List Token) → bare (begin blocks) (Quoted value ∷ Semicolon ∷ ts) ≡ bare (begin blocks) ts
+pub listed_step : (blocks : List (List ℕ)) (value : List ℕ) (ts : List Token) → bare (begin blocks) (Quoted value ∷ Semicolon ∷ ts) ≡ bare (begin blocks) ts
 unfolding bare step_at_start step_when_listed
 listed_step blocks value ts = front-nil (front [] (bare (begin blocks) ts)) ∙ front-nil (bare (begin blocks) ts)
 
-deeper : (blocks : List (List ℕ)) (key : List ℕ) (room : ℕ) → room + length blocks ≡ 16 → 0 < room → (room - 1) + length (blocks ++ key ∷ []) ≡ 16
+pub deeper : (blocks : List (List ℕ)) (key : List ℕ) (room : ℕ) → room + length blocks ≡ 16 → 0 < room → (room - 1) + length (blocks ++ key ∷ []) ≡ 16
 deeper blocks key room r some = omega (arith, length-append blocks (key ∷ []))
 
 items_read : (items : Items) (room : ℕ) (blocks : List (List ℕ)) (more : List Token) → room + length blocks ≡ 16 → AreItems room items → bare (begin blocks) (spelled items ++ more) ≡ front (given_by blocks items) (bare (begin blocks) more)

@@ -7,3 +7,4 @@ pub mod ReadingLemmas
 pub mod LookupLemmas
 pub mod SettingLemmas
 pub mod GrammarLemmas
+pub mod TreeLemmas

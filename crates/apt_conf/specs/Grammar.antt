@@ -55,3 +55,10 @@ AreItems room (sets_block key quoted value inside rest) = (is_key key ≡ true) 
 -- a text spells statements where its tokens do, whatever white space and comments stand between them
 abbrev pub Spells : List ℕ → Items → Type 0
 Spells text items = map (λ t. t.token) (tokens_of text) ≡ spelled items
+
+-- what was added to pairs: those of statements that the text spells, blocks at most 16 deep
+pub record Adds (old : List Pair) (text : List ℕ) (new : List Pair) : Type 0 where
+  pub items : Items
+  pub are_items : AreItems 16 items
+  pub spells : Spells text items
+  pub added : new ≡ old ++ given_by [] items

@@ -1,4 +1,4 @@
-ghost use Rattle.apt_conf.specs.Grammar.{Items, AreItems, Spells, given_by};
+ghost use Rattle.apt_conf.specs.Grammar.{Items, Adds, AreItems, Spells, given_by};
 ghost use Rattle.std.specs.Prelude.{◌≡◌, ◌≤◌, length, ◌⊎◌, ◌++◌, [], Ok, Err, OnOk, OnErr, IfOk, IsErrOf};
 ghost use Rattle.std.specs.Option.{option_copied};
 ghost use Rattle.apt_conf.specs.Keys.{value_of};
@@ -28,7 +28,7 @@ impl Model for Conf {
     ghost view = { λ conf. pairs_in [] conf.entries.items };
 }
 
-/// The configuration without pairs.
+/// The configuration without pairs. It takes no memory.
 #[tactic(auto, unfolding(crate::specs::Entries::pairs_in))]
 pub fn new(alloc: Global) -> Conf
     ensures { result ≡ [] }
@@ -41,7 +41,8 @@ pub fn new(alloc: Global) -> Conf
 /// Adds the pairs of a file of apt.conf(5).
 ///
 /// It is refused with `LongFile` where it has more than 1,048,576 bytes, which is looked at first, and else with
-/// `BadConf` at the line where reading stops. A configuration that was refused stays as it was, and can be used on.
+/// `BadConf` at the line where reading stops, counted from 1. `NoMemory` where memory ran out. After each of the three the
+/// configuration is as it was, and can be used on.
 pub fn read_conf(conf: &mut Conf, alloc: Global, bytes: &[u8]) -> Result<(), ConfError>
     ensures answer { (result ≡ Err ConfError.NoMemory) ⊎ (result ≡ answer (pairs_of bytes.now)) }
     ensures ok { OnOk result (IfOk (pairs_of bytes.now) (λ pairs. conf.new ≡ conf.old ++ pairs)) }
@@ -49,14 +50,16 @@ pub fn read_conf(conf: &mut Conf, alloc: Global, bytes: &[u8]) -> Result<(), Con
     // The grammar: a text that spells nested statements gives the pairs of the tree.
     ensures grammar { (items : Items) → length bytes.now ≤ 1048576 → AreItems 16 items → Spells bytes.now items
         → pairs_of bytes.now ≡ Ok (given_by [] items) }
+    // And back: a text that is read spells nested statements, and their pairs are what was added.
+    ensures spelled { OnOk result (Adds conf.old bytes.now conf.new) }
 {
     read_file(&mut conf.entries, alloc, bytes)
 }
 
 /// Adds the pair of an option word `KEY=VALUE`, split at its first `=`.
 ///
-/// It is refused with `BadConf(1)` where it has no `=`, or where no key stands before the first one. A configuration
-/// that was refused stays as it was.
+/// It is refused with `BadConf(1)` where it has no `=`, or where no key stands before the first one. `NoMemory` where
+/// memory ran out. After either the configuration is as it was.
 pub fn set(conf: &mut Conf, alloc: Global, pair: &[u8]) -> Result<(), ConfError>
     ensures answer { (result ≡ Err ConfError.NoMemory) ⊎ (result ≡ answer (pair_of pair.now)) }
     ensures ok { OnOk result (IfOk (pair_of pair.now) (λ pairs. conf.new ≡ conf.old ++ pairs)) }
@@ -65,7 +68,8 @@ pub fn set(conf: &mut Conf, alloc: Global, pair: &[u8]) -> Result<(), ConfError>
     read_pair(&mut conf.entries, alloc, pair)
 }
 
-/// The last value given to a key, which is compared without regard to ASCII case. It takes no memory.
+/// The last value given to a key, which is compared without regard to ASCII case. None where no value was given to it. It
+/// takes no memory.
 pub fn get<'a>(conf: &'a Conf, key: &[u8]) -> Option<&'a Text>
     ensures { option_copied result ≡ value_of conf.now key.now }
 {

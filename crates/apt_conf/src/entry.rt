@@ -6,7 +6,10 @@ use acq_base::Text;
 /// So a configuration takes no more memory than its texts, however long the keys of blocks with many statements are.
 #[derive(Debug, Drop)]
 pub struct Entry {
+    /// How many bytes it takes over, or all where the key before is shorter.
     pub shared: usize,
+    /// The bytes of its key behind them.
     pub rest: Text,
+    /// The value that it gives to its key, if it gives one.
     pub value: Option<Text>,
 }

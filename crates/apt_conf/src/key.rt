@@ -14,7 +14,7 @@ fn all_key_characters(text: &[u8]) -> bool
     text.iter().all(|byte| is_key_character(*byte))
 }
 
-/// Whether a text is a key: letters, digits and `_-.:/+`, at least one.
+/// Whether a text is a key of apt.conf(5): letters, digits and `_-.:/+`, at least one.
 pub fn is_key(text: &[u8]) -> bool
     ensures { result ≡ keys.is_key text.now }
 {
@@ -30,7 +30,7 @@ fn is_parting(first: u8, second: u8) -> bool
     first == b':' && second == b':'
 }
 
-/// Whether a part between, before or after `::` is empty.
+/// Whether a part of a key between, before or after `::` is empty, as in the items of lists, `KEY::`.
 #[tactic(auto, unfolding(crate::specs::Keys::empty_part))]
 pub fn has_empty_part(key: &[u8]) -> bool
     ensures { result ≡ keys.has_empty_part key.now }

@@ -11,8 +11,11 @@ pub enum Lexeme {
     Word(usize, usize),
     /// A quoted value of so many bytes, its two quotes aside.
     Quoted(usize),
+    /// `;`
     Semicolon,
+    /// `{`
     Open,
+    /// `}`
     Close,
     /// Reading stops here: a quoted value that doesn't end in its line, or a command.
     Torn,
@@ -272,7 +275,8 @@ fn token_at(text: &[u8]) -> Lexeme
     }
 }
 
-/// What stands at the front of a text that isn't empty.
+/// What stands at the front of a text that isn't empty. Outside of quotes `#`, `//` and `/*` begin comments, as apt.conf(5)
+/// has them.
 #[tactic(auto, unfolding(crate::specs::Lexemes::lexeme_at))]
 pub fn lexeme_at(text: &[u8]) -> Lexeme
     requires { text.now ≢ [] }
@@ -290,7 +294,7 @@ pub fn lexeme_at(text: &[u8]) -> Lexeme
     }
 }
 
-/// How many bytes it takes.
+/// How many bytes a lexeme takes, its quotes and the comment that ends a word included.
 pub fn extent(lexeme: Lexeme) -> usize
     requires { lexemes.extent lexeme < 2 ^ 64 }
     ensures { result ≡ lexemes.extent lexeme }

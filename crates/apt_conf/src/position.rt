@@ -17,6 +17,7 @@ pub struct Position {
     pub blocks: Vec<Text>,
     /// How many bytes stand before each key in these blocks.
     pub prefix: usize,
+    /// How far the statement at this place has come.
     pub part: Part,
 }
 

@@ -5,7 +5,7 @@ use crate::key::is_key;
 use crate::token::Token;
 use acq_base::Text;
 
-/// How far a statement has come.
+/// How far a statement of apt.conf(5) has come.
 #[derive(Debug, PartialEq, Drop)]
 pub enum Part {
     /// A statement begins.
@@ -21,6 +21,7 @@ pub enum Part {
 /// Where a token leads within a statement.
 #[derive(Debug, PartialEq, Drop)]
 pub enum Step {
+    /// The statement goes on, or the next one begins.
     Goes(Part),
     /// The statement sets a key.
     Sets(Text, Text),

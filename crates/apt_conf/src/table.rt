@@ -27,8 +27,9 @@ use std::alloc::Global;
 /// | `Acquire::PDiffs::SizeLimit` | 0 to 1000 percent | 100 |
 /// | `APT::Get::List-Cleanup` | boolean | yes |
 ///
-/// Blanks and commas separate the words of a list, which has at least one. The first value in this order that isn't
-/// allowed is refused with `BadValue` and its key.
+/// Blanks and commas separate the words of a list, which has at least one. A boolean is one of the words of apt.conf(5),
+/// in any case. The first value in this order that isn't allowed is refused with `BadValue` and its key; the only other
+/// error is `NoMemory`.
 pub fn settings(conf: &Conf, alloc: Global) -> Result<Settings, ConfError>
     ensures { (result ≡ Err ConfError.NoMemory) ⊎ (result ≡ of.settings_of conf.now) }
 {
@@ -61,9 +62,13 @@ fn read_settings(conf: &Conf, alloc: Global) -> Result<Settings, ConfError>
 /// The settings that say which lists are wanted.
 #[derive(Debug, Drop)]
 pub struct Wanted {
+    /// The architecture of this machine.
     pub arch: Text,
+    /// The architectures whose lists are wanted.
     pub archs: Row<Text>,
+    /// The languages whose translations are wanted.
     pub langs: Row<Text>,
+    /// The kinds of lists that are wanted.
     pub pick: Pick,
 }
 
@@ -86,10 +91,15 @@ fn wanted_lists(conf: &Conf, alloc: Global) -> Result<Wanted, ConfError>
 /// The settings that say how lists are fetched.
 #[derive(Clone, Copy, Debug)]
 pub struct Fetching {
+    /// How many times a fetch that failed is tried again.
     pub retries: u32,
+    /// Whether lists are fetched by their digests.
     pub by_hash: ByHash,
+    /// Whether lists are brought up to date by patches.
     pub pdiffs: bool,
+    /// How many patches are taken at most.
     pub file_limit: u32,
+    /// How long patches are together at most, in percent of the list.
     pub size_limit: u32,
 }
 

@@ -9,10 +9,15 @@ use std::alloc::Global;
 /// A token of apt.conf(5).
 #[derive(Debug, PartialEq, Drop)]
 pub enum Token {
+    /// A word outside of quotes: a key, or a value.
     Word(Text),
+    /// What stands between two quotes, byte for byte.
     Quoted(Text),
+    /// `;`
     Semicolon,
+    /// `{`
     Open,
+    /// `}`
     Close,
     /// What no statement takes.
     Torn,

@@ -11,8 +11,11 @@ use std::str;
 /// Which words a list may have.
 #[derive(Clone, Copy, Debug, PartialEq, Eq)]
 pub enum Words {
+    /// Names of architectures.
     Architectures,
+    /// Names of languages.
     Languages,
+    /// Kinds of lists: `Packages`, `Sources`, `Translations`.
     Kinds,
 }
 
@@ -35,6 +38,8 @@ fn all_architecture_characters(text: &[u8]) -> bool
     text.iter().all(|byte| is_architecture_character(*byte))
 }
 
+/// Whether a text is one architecture, as in `APT::Architecture` of apt.conf(5): letters, digits and `._-+~:`, at least
+/// one, and not `..`, since its name becomes a segment of a path.
 #[tactic(auto, unfolding(crate::specs::Values::is_architecture))]
 pub fn is_architecture(text: &[u8]) -> bool
     ensures { result ≡ values.is_architecture text.now }
@@ -93,7 +98,7 @@ fn all_allowed(words: Words, found: &[Text]) -> bool
     found.iter().all(|word| is_allowed(words, word.as_bytes()))
 }
 
-/// The words of a list, if there is one and each is allowed.
+/// The words of a list, which blanks and commas separate. None where it has no word, or one that isn't allowed.
 pub fn listed(alloc: Global, words: Words, text: &[u8]) -> Result<Option<Row<Text>>, NoMemory>
     ensures { IfOk result (λ found. found ≡ values.listed words text.now) }
 {
@@ -114,7 +119,7 @@ fn but_none(alloc: Global, languages: Row<Text>) -> Row<Text>
     }
 }
 
-/// The languages that a list names, if it is one.
+/// The languages that the words of a list name, `none` alone standing for no language. None where there is no list.
 pub fn languages_of(alloc: Global, found: Option<Row<Text>>) -> Option<Row<Text>>
     ensures { result ≡ option_map values.but_none found }
 {
@@ -130,7 +135,7 @@ fn names(words: &[Text], kind: &[u8]) -> bool
     words.iter().any(|name| is_spelled(name.as_bytes(), kind))
 }
 
-/// The kinds that words name.
+/// The kinds of lists that words name; other words name none.
 pub fn picked(words: &[Text]) -> Pick
     ensures { result ≡ values.picked words.now }
 {
@@ -158,7 +163,7 @@ fn parsed(text: &[u8]) -> Option<u64>
     }
 }
 
-/// The number that 1 to 10 decimal digits write, if it is at most `most`.
+/// The number that 1 to 10 decimal digits write. None for any other text, and where the number is above `most`.
 #[tactic(auto, unfolding(crate::specs::Values::number_of))]
 pub fn number_of(most: u64, text: &[u8]) -> Option<u64>
     ensures value { result ≡ values.number_of most text.now }
@@ -171,6 +176,8 @@ pub fn number_of(most: u64, text: &[u8]) -> Option<u64>
     if number <= most { Some(number) } else { None }
 }
 
+/// What a value of `Acquire::By-Hash` of apt.conf(5) says: `yes`, `no` or `force`, spelled exactly so. None for any other
+/// text.
 #[tactic(auto, unfolding(crate::specs::Values::by_hash_of))]
 pub fn by_hash_of(text: &[u8]) -> Option<ByHash>
     ensures { result ≡ values.by_hash_of text.now }
@@ -218,6 +225,8 @@ fn means_no(text: &[u8]) -> bool
         || is_word(text, b"0")
 }
 
+/// What a boolean value of apt.conf(5) says, ASCII case aside: `yes`, `true`, `with`, `on`, `enable` or `1`, and `no`,
+/// `false`, `without`, `off`, `disable` or `0`. None for any other text, other numbers included.
 #[tactic(auto, unfolding(crate::specs::Values::boolean_of))]
 pub fn boolean_of(text: &[u8]) -> Option<bool>
     ensures { result ≡ values.boolean_of text.now }
