@@ -63,6 +63,14 @@ impl MemDisk {
         self.failing.dry
     }
 
+    /// How often it failed.
+    #[cfg(test)]
+    pub fn faults(&self) -> u64
+        ensures { result ≡ (failing_of self.now).faults }
+    {
+        self.failing.faults
+    }
+
     /// Does this change within a call that is counted.
     #[tactic(auto, using(crate::proofs::HeldFiles::files_of_changed))]
     fn apply(&mut self, change: Change) -> Result<(), Fault>

@@ -7,7 +7,9 @@ use crate::{
     Clock, Disk, Etc, Fault, FixedClock, MapMethod, MemDisk, MemEtc, MemSink, Method, OutError,
     Place, Sink, is_name, read_whole, write_whole,
 };
-use acq_base::{Answer, Bytes, Job, Mirror, NoMemory, Reply, Row, Scheme, Text, TryCopy, Uri};
+use acq_base::{
+    Answer, Bytes, Job, Mirror, NoMemory, Refusal, Reply, Row, Scheme, Text, TryCopy, Uri,
+};
 use std::alloc::Global;
 use std::test::Fail;
 
@@ -146,6 +148,7 @@ fn a_folder_gives_its_names_and_files(rt: HostRuntime) -> Result<(), Fail> {
     let mut etc = MemEtc::new(files, only(alloc, 3)?);
     let found = names(alloc, &mut etc, Place::SourcesParts)?;
     assert_eq!(rt; found.len(), 2);
+    assert!(rt; found.as_slice().contains(&one) && found.as_slice().contains(&two));
     assert_eq!(rt; names(alloc, &mut etc, Place::SourcesList)?.len(), 0);
     assert_eq!(rt;
         content(alloc, &mut etc, Place::SourcesParts, &two),
@@ -231,32 +234,97 @@ fn names_of(alloc: Global, first: &[u8], second: &[u8]) -> Result<Row<Text>, NoM
     Ok(names)
 }
 
-/// A disk with one list, of which the second call is to fail.
-fn failing_disk(alloc: Global) -> Result<Option<MemDisk>, NoMemory> {
+/// A disk with one list of these bytes, of which the call of this number is to fail.
+fn failing_disk(alloc: Global, list: &[u8], number: u64) -> Result<Option<MemDisk>, NoMemory> {
     let mut files = Row::new(alloc);
-    files.push((Text::from_bytes(alloc, LIST)?, bytes(alloc, b"old")?))?;
+    files.push((Text::from_bytes(alloc, LIST)?, bytes(alloc, list)?))?;
     if !MemDisk::takes(&files) {
         return Ok(None);
     }
-    Ok(Some(MemDisk::new(alloc, files, false, only(alloc, 2)?)?))
+    Ok(Some(MemDisk::new(alloc, files, false, only(alloc, number)?)?))
+}
+
+/// One byte more than one read of a whole file asks for.
+fn long_list(alloc: Global) -> Result<Bytes, NoMemory> {
+    let mut list = vec![in alloc; b'x'; 65_536]?;
+    list.push(b'y')?;
+    Ok(Row::from(list))
 }
 
 #[test]
-fn a_listed_call_of_a_disk_fails_and_changes_nothing(rt: HostRuntime) -> Result<(), Fail> {
+fn a_call_that_fails_within_a_whole_read_is_one_fault(rt: HostRuntime) -> Result<(), Fail> {
     let alloc = rt.alloc();
     assert!(rt; is_name(LIST));
-    let mut disk = failing_disk(alloc)?.ok_or("no disk begins so")?;
-    assert_eq!(rt; disk.size(LIST), Ok(Some(3)));
-    assert_eq!(rt; write_whole(&mut disk, LIST, b"new"), Err(Fault));
+    let list = long_list(alloc)?;
+    // The length, a whole piece, the last byte, and the end.
+    for number in 1..5u64 {
+        let disk = failing_disk(alloc, list.as_slice(), number)?;
+        let mut disk = disk.ok_or("no disk begins so")?;
+        assert_eq!(rt;
+            read_whole(alloc, &mut disk, LIST),
+            Err(OutError::Fault),
+            "call {number}"
+        );
+        assert_eq!(rt; (disk.faults(), disk.dry()), (1, 0), "call {number}");
+        let read = read_whole(alloc, &mut disk, LIST)?.ok_or("the list is gone")?;
+        assert!(rt; read == list, "call {number}");
+    }
+    Ok(())
+}
+
+#[test]
+fn a_call_that_fails_within_a_whole_write_is_one_fault(rt: HostRuntime) -> Result<(), Fail> {
+    let alloc = rt.alloc();
+    assert!(rt; is_name(LIST));
+    // Which call fails, what is written over `old`, and what the calls before it left.
+    let table: [(u64, &[u8], &[u8]); 5] = [
+        (1, b"new", b"old"),
+        (2, b"new", b""),
+        (3, b"new", b"new"),
+        (1, b"", b"old"),
+        (2, b"", b""),
+    ];
+    for (number, written, left) in table {
+        let disk = failing_disk(alloc, b"old", number)?;
+        let mut disk = disk.ok_or("no disk begins so")?;
+        assert_eq!(rt;
+            write_whole(&mut disk, LIST, written),
+            Err(Fault),
+            "call {number}"
+        );
+        assert_eq!(rt; (disk.faults(), disk.dry()), (1, 0), "call {number}");
+        assert_eq!(rt;
+            read_whole(alloc, &mut disk, LIST)?,
+            Some(bytes(alloc, left)?)
+        );
+        write_whole(&mut disk, LIST, written)?;
+        assert_eq!(rt;
+            read_whole(alloc, &mut disk, LIST)?,
+            Some(bytes(alloc, written)?)
+        );
+    }
+    Ok(())
+}
+
+fn named<E: Refusal>(error: &E) -> (u32, u64) {
+    (error.number(), error.line())
+}
+
+#[test]
+fn errors_of_the_outside_have_a_text_and_neither_number_nor_line(
+    rt: HostRuntime,
+) -> Result<(), Fail> {
+    let alloc = rt.alloc();
+    let numbers = [
+        named(&Fault),
+        named(&OutError::Fault),
+        named(&OutError::NoMemory),
+    ];
+    assert_eq!(rt; numbers, [(0, 0); 3]);
+    let texts = format!(in alloc; "{Fault}, {}, {}", OutError::Fault, OutError::NoMemory)?;
     assert_eq!(rt;
-        read_whole(alloc, &mut disk, LIST)?,
-        Some(bytes(alloc, b"old")?)
+        texts.as_str(),
+        "an outside object failed, an outside object failed, out of memory"
     );
-    write_whole(&mut disk, LIST, b"new")?;
-    assert_eq!(rt;
-        read_whole(alloc, &mut disk, LIST)?,
-        Some(bytes(alloc, b"new")?)
-    );
-    assert_eq!(rt; disk.dry(), 0);
     Ok(())
 }
