@@ -27,7 +27,7 @@ impl MemDisk {
     ghost use Rattle.acq_outside.specs.Count.{Rose};
     ghost use Rattle.acq_outside.specs.Failing.{fresh, starved};
     ghost use Rattle.acq_outside.specs.History.{IsNamed, IsStart, files_of, changed, after_change};
-    ghost use Rattle.acq_outside.specs.MemDisk.{past_of, failing_of};
+    ghost use Rattle.acq_outside.specs.MemDisk.{past_of, failing_of, held_of};
 
     /// Whether a disk may begin with these files.
     pub fn takes(files: &Row<(Text, Bytes)>) -> bool
@@ -46,6 +46,7 @@ impl MemDisk {
     ) -> Result<MemDisk, NoMemory>
         requires { IsStart files }
         ensures past { IfOk result (λ disk. past_of disk ≡ record { start = files; changes = [] }) }
+        ensures held { IfOk result (λ disk. held_of disk ≡ held) }
         ensures failing { IfOk result (λ disk. failing_of disk ≡ fresh failing) }
     {
         Ok(MemDisk {
