@@ -1,4 +1,5 @@
 pub mod Count
+pub mod Refusals
 pub mod Etc
 pub mod Disk
 pub mod Mirror

@@ -34,6 +34,7 @@ mod mem_sink;
 mod method;
 mod name;
 mod sink;
+mod start;
 #[cfg(test)]
 mod tests;
 mod whole;

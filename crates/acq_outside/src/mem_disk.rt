@@ -1,13 +1,12 @@
-ghost use Rattle.std.specs.Prelude.{◌≡◌, ◌≤◌, ◌↔◌, length, All, IfOk, IsTrue, option_copied, option_map};
-ghost use Rattle.std.specs.List.{list_any};
-ghost use Rattle.acq_outside.specs.Disk.{IsName, IsRead, same_name};
-ghost use Rattle.acq_outside.specs.History.{IsNamed, names_differ};
+ghost use Rattle.std.specs.Prelude.{◌≡◌, ◌≤◌, length, option_copied, option_map};
+ghost use Rattle.acq_outside.specs.Disk.{IsRead};
 
-use crate::change::Change;
+use crate::change::{Change, cut_change, remove_change, rename_change, sync_change, write_change};
 use crate::failing::Failing;
 use crate::held::read_from;
 use crate::history::History;
-use crate::{Disk, Fault, OutError, is_name};
+use crate::start::{are_names, names_differ};
+use crate::{Disk, Fault, OutError};
 use acq_base::{Bytes, NoMemory, Row, Text};
 use std::alloc::Global;
 
@@ -28,7 +27,7 @@ impl MemDisk {
     ghost use Rattle.acq_outside.specs.Count.{Rose};
     ghost use Rattle.acq_outside.specs.Failing.{fresh, starved};
     ghost use Rattle.acq_outside.specs.History.{IsNamed, IsStart, files_of, changed, after_change};
-    ghost use Rattle.acq_outside.specs.MemDisk.{past_of, failing_of};
+    ghost use Rattle.acq_outside.specs.MemDisk.{past_of, failing_of, held_of};
 
     /// Whether a disk may begin with these files.
     pub fn takes(files: &Row<(Text, Bytes)>) -> bool
@@ -47,6 +46,7 @@ impl MemDisk {
     ) -> Result<MemDisk, NoMemory>
         requires { IsStart files }
         ensures past { IfOk result (λ disk. past_of disk ≡ record { start = files; changes = [] }) }
+        ensures held { IfOk result (λ disk. held_of disk ≡ held) }
         ensures failing { IfOk result (λ disk. failing_of disk ≡ fresh failing) }
     {
         Ok(MemDisk {
@@ -62,6 +62,14 @@ impl MemDisk {
         ensures { result ≡ (failing_of self.now).dry }
     {
         self.failing.dry
+    }
+
+    /// How often it failed.
+    #[cfg(test)]
+    pub fn faults(&self) -> u64
+        ensures { result ≡ (failing_of self.now).faults }
+    {
+        self.failing.faults
     }
 
     /// Does this change within a call that is counted.
@@ -300,87 +308,6 @@ impl Disk for MemDisk {
         self.apply(Change::SyncNames)?;
         Ok(())
     }
-}
-
-fn are_names(files: &[(Text, Bytes)]) -> bool
-    ensures { IsTrue result ↔ All (λ file. IsName file.0) files.now }
-{
-    for file in files {
-        if !is_name(file.0.as_bytes()) {
-            return false;
-        }
-    }
-    true
-}
-
-fn names_differ(files: &[(Text, Bytes)]) -> bool
-    ensures { result ≡ names_differ files.now }
-{
-    let mut rest = files;
-    while let Some((file, others)) = rest.split_first() {
-        if has_name(others, &file.0) {
-            return false;
-        }
-        rest = others;
-    }
-    true
-}
-
-fn has_name(files: &[(Text, Bytes)], name: &Text) -> bool
-    ensures { result ≡ list_any (λ file. same_name file.0 name.now) files.now }
-{
-    files.iter().any(|file| file.0 == *name)
-}
-
-fn write_change(alloc: Global, name: &[u8], at: u64, bytes: &[u8]) -> Result<Change, NoMemory>
-    requires { IsName name.now }
-    ensures change { IfOk result (λ change. change ≡ Change.Write name.now at bytes.now) }
-    ensures named { IfOk result IsNamed }
-{
-    Ok(Change::Write {
-        name: Text::from_bytes(alloc, name)?,
-        at,
-        bytes: Bytes::from(Vec::from_slice(alloc, bytes)?),
-    })
-}
-
-fn cut_change(alloc: Global, name: &[u8], len: u64) -> Result<Change, NoMemory>
-    requires { IsName name.now }
-    ensures change { IfOk result (λ change. change ≡ Change.Cut name.now len) }
-    ensures named { IfOk result IsNamed }
-{
-    Ok(Change::Cut {
-        name: Text::from_bytes(alloc, name)?,
-        len,
-    })
-}
-
-fn sync_change(alloc: Global, name: &[u8]) -> Result<Change, NoMemory>
-    requires { IsName name.now }
-    ensures change { IfOk result (λ change. change ≡ Change.Sync name.now) }
-    ensures named { IfOk result IsNamed }
-{
-    Ok(Change::Sync(Text::from_bytes(alloc, name)?))
-}
-
-fn rename_change(alloc: Global, from: &[u8], to: &[u8]) -> Result<Change, NoMemory>
-    requires from { IsName from.now }
-    requires to { IsName to.now }
-    ensures change { IfOk result (λ change. change ≡ Change.Rename from.now to.now) }
-    ensures named { IfOk result IsNamed }
-{
-    Ok(Change::Rename {
-        from: Text::from_bytes(alloc, from)?,
-        to: Text::from_bytes(alloc, to)?,
-    })
-}
-
-fn remove_change(alloc: Global, name: &[u8]) -> Result<Change, NoMemory>
-    requires { IsName name.now }
-    ensures change { IfOk result (λ change. change ≡ Change.Remove name.now) }
-    ensures named { IfOk result IsNamed }
-{
-    Ok(Change::Remove(Text::from_bytes(alloc, name)?))
 }
 
 /// The length of a content, if there is one.

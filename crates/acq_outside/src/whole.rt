@@ -10,9 +10,11 @@ use std::alloc::Global;
 /// How many bytes one read of a whole file asks for.
 const PIECE: usize = 65_536;
 
-/// Puts these bytes in place of a file's content and makes them lasting; an absent file is made.
+/// Puts these bytes in place of a file's content as reads give it; an absent file is made. A fault comes only where the
+/// disk's count of faults rose.
 ///
-/// After a fault the file may be as before, absent, or hold anything. Other files stay in any case.
+/// After a fault the file may be as before, absent, or hold anything. Other files stay in any case. The file is synced
+/// last, but no clause says so: the clauses speak of what reads give, and not yet of what lasts.
 #[tactic(auto, using(crate::proofs::WholeFiles::emptied))]
 pub fn write_whole<D: Disk>(disk: &mut D, name: &[u8], bytes: &[u8]) -> Result<(), Fault>
     requires { IsName name.now }
@@ -32,7 +34,8 @@ pub fn write_whole<D: Disk>(disk: &mut D, name: &[u8], bytes: &[u8]) -> Result<(
     Ok(())
 }
 
-/// A file's whole content, read in pieces, or `None` where there is no such file.
+/// A file's whole content, read in pieces, or `None` where there is no such file. A fault comes only where the disk's
+/// count of faults rose.
 pub fn read_whole<D: Disk>(
     alloc: Global,
     disk: &mut D,

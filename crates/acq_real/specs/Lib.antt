@@ -1,1 +1,3 @@
+pub mod RealClock
 pub mod RealDisk
+pub mod RealSink

@@ -13,7 +13,14 @@ pub struct RealClock<R: Drop> {
 }
 
 impl<R: rt::Clock + Drop> RealClock<R> {
-    pub fn new(rt: R) -> RealClock<R> {
+    ghost use Rattle.std.specs.Prelude.{◌≡◌, None};
+    ghost use Rattle.acq_real.specs.RealClock.{given_by, last_of};
+
+    /// The clock of this system. It has given no moment yet.
+    pub fn new(rt: R) -> RealClock<R>
+        ensures given { given_by result ≡ 0 }
+        ensures last { last_of result ≡ None }
+    {
         RealClock {
             rt,
             given: 0,

@@ -29,7 +29,9 @@ pub struct RealDisk<R: Drop> {
 impl<R: Files<File = File> + AllocGlobal + Clone + Drop> RealDisk<R> {
     /// The disk of the folder with this path. Its first call makes the folder where the parent is there, and `partial`
     /// in it.
-    pub fn new(alloc: Global, rt: R, folder: &str) -> Result<RealDisk<R>, AllocError> {
+    pub fn new(alloc: Global, rt: R, folder: &str) -> Result<RealDisk<R>, AllocError>
+        ensures { IfOk result (λ disk. faults_of disk ≡ 0) }
+    {
         Ok(RealDisk {
             rt,
             folder: String::from_str(alloc, folder)?,

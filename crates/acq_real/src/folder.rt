@@ -135,6 +135,7 @@ pub fn rename(rt: &impl Files, from: &str, to: &str) -> io::Result<()> {
     }
 }
 
+/// Removes a file. It does nothing where nothing has the path.
 pub fn remove(rt: &impl Files, path: &str) -> io::Result<()> {
     match length(rt, path)? {
         Some(_) => fs::remove_file(rt, path),

@@ -12,7 +12,13 @@ pub struct RealSink<R: Drop> {
 }
 
 impl<R: Print + Drop> RealSink<R> {
-    pub fn new(rt: R) -> RealSink<R> {
+    ghost use Rattle.std.specs.Prelude.{◌≡◌};
+    ghost use Rattle.acq_real.specs.RealSink.{faults_of};
+
+    /// The standard output of this system. It has not failed yet.
+    pub fn new(rt: R) -> RealSink<R>
+        ensures { faults_of result ≡ 0 }
+    {
         RealSink { rt, faults: 0 }
     }
 }
