@@ -1,5 +1,5 @@
 -- A run that follows its mirror ends with the set that is served, or keeps the former one.
-use Rattle.std.proofs.Common.{◌≡◌, ◌≢◌, ◌⊎◌, inl, inr, ℕ, ℤ, Bool, IsTrue, IfSome, List, Option, Some, None, get_or, suc, refl, sym, ◌∙◌, ap, subst, arith}
+use Rattle.std.proofs.Common.{◌≡◌, ◌≢◌, inl, inr, ℕ, ℤ, Bool, IsTrue, IfSome, List, Option, Some, None, get_or, suc, refl, ◌∙◌, ap, arith}
 use Rattle.acq_base.specs.declared.plan.Target.{Target}
 use Rattle.acq_base.specs.declared.plan.Source.{Source}
 use Rattle.acq_outside.specs.Disk.{Files}
@@ -13,7 +13,7 @@ use Rattle.update_program.specs.Files.{with_list, files_after}
 use Rattle.update_program.specs.Lines.{line_of, status_of}
 use Rattle.update_program.specs.Words.{source_of_words}
 use Rattle.update_program.specs.Run.{Outside, ForRun, ForMethod, ByMirror, MethodFailed, FollowsMirror, seen_with}
-use Rattle.update_program.specs.Served.{ServesSet, ServesNone, EndsWithSet, KeepsFormer, EndsAsServed, get_line, held_list}
+use Rattle.update_program.specs.Served.{ServesNone, EndsAsServed, get_line, held_list}
 use Rattle.update_program.proofs.RequestLemmas.{request_of_words}
 use Rattle.update_program.proofs.ServedLemmas.{served-installs, installs-served}
 use Rattle.update_program.proofs.UpdateLemmas.{Follows, for_run-map, for_method-map, with_file-same, with_file-other}

@@ -1,9 +1,9 @@
 -- The outcome that a mirror's answers define installs a set exactly where the mirror serves that set.
-use Rattle.std.proofs.Common.{◌≡◌, ◌≢◌, ◌⊎◌, inl, inr, ℕ, ℤ, ◌≤◌, Bool, true, false, nat_le, nat_lt, nat_eq, List, length, Option, Some, None, Result, Ok, Err, IsOk, IfSome, IsSomeAnd, refl, sym, ◌∙◌, ap, subst, arith}
+use Rattle.std.proofs.Common.{◌≡◌, ℕ, ℤ, ◌≤◌, Bool, true, false, nat_le, nat_lt, nat_eq, List, length, Option, Some, None, Result, Ok, Err, refl, sym, ap, subst, arith}
 use Rattle.std.proofs.lemmas.Bool.Decides.{nat_tests}
 use Rattle.std.specs.Cmp.Lexicographic.{pointwise}
 use lib.Pointwise.{bytes_decides}
-use Rattle.acq_base.specs.Sum.{sum_of, Fits as fits}
+use Rattle.acq_base.specs.Sum.{sum_of}
 use Rattle.acq_base.specs.declared.sum.Sum.{Sum}
 use Rattle.acq_base.specs.declared.plan.Target.{Target}
 use Rattle.acq_base.specs.declared.plan.Source.{Source}
@@ -22,8 +22,6 @@ use Rattle.update_program.specs.declared.cause.Verdict.{Verdict}
 use Rattle.update_program.specs.declared.cause.Verdict.TheVariants.{Fits, Short, Long, Differs as OtherDigest}
 use Rattle.update_program.specs.declared.cause.Outcome.{Outcome}
 use Rattle.update_program.specs.declared.cause.Outcome.TheVariants.{Installs, Older, Kept}
-use Rattle.update_program.specs.declared.cause.Stage.{Stage}
-use Rattle.update_program.specs.declared.cause.Stage.TheVariants.{Over, Wants}
 use Rattle.update_program.specs.Outcome.{verdict_between, verdict_of, served_end, list_end, list_job, release_job, release_end, installed_date, default_dates, listed_stage, judged_stage, read_stage, stage_of, set_of}
 use Rattle.update_program.specs.Heard.{mirror_reply, mirror_end, mirror_outcome}
 use Rattle.update_program.specs.Served.{ServesList, ServesSet}

@@ -1,5 +1,5 @@
 -- What follows of a run from the ways in which it may end.
-use Rattle.std.proofs.Common.{◌≡◌, ◌≢◌, ◌⊎◌, inl, inr, ℕ, ℤ, Bool, true, false, if◌then◌else◌, IsTrue, IfSome, IsSomeAnd, slice_get, slice_index_or, slice_set, ◌<◌, ◌≤◌, length, List, [], ◌∷◌, Option, Some, None, refl, sym, ◌∙◌, ap, subst, arith}
+use Rattle.std.proofs.Common.{◌≡◌, ◌≢◌, ◌⊎◌, inl, inr, ℕ, ℤ, Bool, true, false, IsTrue, IfSome, IsSomeAnd, slice_get, slice_index_or, slice_set, ◌<◌, length, List, [], ◌∷◌, Option, Some, None, refl, sym, ◌∙◌, arith}
 use lib.Pointwise.{bytes_decides}
 use Rattle.acq_base.specs.declared.sum.Sum.{Sum}
 use Rattle.acq_base.specs.Sum.{sum_of}
@@ -18,7 +18,7 @@ use Rattle.std.proofs.lemmas.Grind.{common_steps}
 use Rattle.update_program.specs.Words.{source_of_words}
 use Rattle.update_program.specs.Request.{IsRequest}
 use Rattle.update_program.proofs.RequestLemmas.{request_of_words}
-use Rattle.update_program.specs.Run.{Outside, ForRun, ForMethod, IsRun, IsUpdate, IsUpdateBy, EndsInOneWay, Completes, FailsOnDisk, Said, ByMirror, FollowsMirror, IsWholeSet, LeavesWholeSet, is_status, seen, seen_with, disk_line, memory_line}
+use Rattle.update_program.specs.Run.{Outside, ForRun, ForMethod, IsRun, IsUpdate, IsUpdateBy, EndsInOneWay, Completes, Said, FollowsMirror, IsWholeSet, LeavesWholeSet, is_status, seen, seen_with, disk_line, memory_line}
 use Rattle.update_program.proofs.WholeLemmas.{SoundOutcome, ends_as-sound}
 use Rattle.update_program.proofs.MirrorLemmas.{ends_as-by_mirror}
 

@@ -1,5 +1,5 @@
 -- What is installed is whole: admissible dates, and a list that fits the sum that its Release names.
-use Rattle.std.proofs.Common.{◌≡◌, ◌≢◌, ℕ, ℤ, Bool, true, false, nat_lt, nat_eq, if◌then◌else◌, List, Option, Some, None, Result, Ok, Err, IfSome, IsSomeAnd, refl, sym, ◌∙◌, ap, subst, arith, rules}
+use Rattle.std.proofs.Common.{◌≡◌, ℕ, ℤ, Bool, true, false, nat_lt, nat_eq, if◌then◌else◌, List, Option, Some, None, Result, Ok, Err, refl, sym, ◌∙◌, ap, arith}
 use Rattle.std.specs.Cmp.Lexicographic.{pointwise}
 use lib.Pointwise.{bytes_decides}
 use borrow.Author.Tests.{ltb-false}
@@ -26,7 +26,7 @@ use Rattle.update_program.specs.declared.cause.Outcome.TheVariants.{Installs, Ol
 use Rattle.update_program.specs.declared.cause.Stage.{Stage}
 use Rattle.update_program.specs.declared.cause.Stage.TheVariants.{Over, Wants}
 use Rattle.update_program.specs.Outcome.{verdict_between, verdict_of, served_end, list_end, release_end, default_dates, listed_stage, judged_stage, read_stage, stage_of, set_of}
-use Rattle.update_program.specs.Heard.{Heard, EndsFrom, EndsAs}
+use Rattle.update_program.specs.Heard.{EndsFrom, EndsAs}
 use Rattle.update_program.specs.Run.{IsWholeSet}
 
 -- a sum that fits another is that sum
