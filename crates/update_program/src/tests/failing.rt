@@ -1,3 +1,4 @@
+use crate::run::RunError;
 use crate::tests::cases::{Case, GOOD, MOMENT};
 use crate::tests::objects::{mirror, only, words};
 use crate::tests::running::run;
@@ -65,5 +66,19 @@ fn refuses_other_words_and_touches_nothing(rt: HostRuntime) -> Result<(), Fail> 
     );
     assert_eq!(rt; status, Status(100));
     assert_eq!(rt; out.written().as_slice(), b"E words\n".as_slice());
+    Ok(())
+}
+
+#[test]
+fn prints_why_a_run_was_given_up(rt: HostRuntime) -> Result<(), Fail> {
+    let alloc = rt.alloc();
+    assert_eq!(rt;
+        format!(in alloc; "{}", RunError::DiskFault)?.as_str(),
+        "the lists folder failed"
+    );
+    assert_eq!(rt;
+        format!(in alloc; "{}", RunError::NoMemory)?.as_str(),
+        "out of memory"
+    );
     Ok(())
 }
