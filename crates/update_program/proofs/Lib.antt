@@ -4,3 +4,5 @@ pub mod MirrorLemmas
 pub mod UpdateLemmas
 pub mod WordLemmas
 pub mod RequestLemmas
+pub mod ServedLemmas
+pub mod EndLemmas

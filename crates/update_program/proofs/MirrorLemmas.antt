@@ -1,15 +1,12 @@
 -- Over a mirror that is told, an outcome is the one that its answers define, unless the method failed.
-use Rattle.std.proofs.Common.{◌≡◌, ◌≢◌, ◌⊎◌, inl, inr, ℕ, ℤ, ◌≤◌, List, codes, Option, Some, None, refl, sym, ◌∙◌, ap, subst, arith}
+use Rattle.std.proofs.Common.{◌≡◌, ◌⊎◌, inl, inr, ℕ, ℤ, List, codes, Option, Some, refl, ap}
 use Rattle.acq_base.specs.declared.sum.Sum.{Sum}
 use Rattle.acq_base.specs.declared.plan.Target.{Target}
 use Rattle.acq_base.specs.declared.plan.Source.{Source}
 use Rattle.acq_base.specs.declared.fetch.Reply.{Reply}
 use Rattle.acq_base.specs.declared.fetch.Reply.TheVariants.{Served, Moved, Absent, TooBig, Garbled, Fault, NoMemory}
-use Rattle.acq_outside.specs.Count.{Rose}
 use Rattle.acq_outside.specs.Mirror.{World}
-use Rattle.update_program.specs.declared.cause.Cause.TheVariants.{Method}
 use Rattle.update_program.specs.declared.cause.Outcome.{Outcome}
-use Rattle.update_program.specs.declared.cause.Outcome.TheVariants.{Kept}
 use Rattle.update_program.specs.declared.cause.Stage.{Stage}
 use Rattle.update_program.specs.declared.cause.Stage.TheVariants.{Over, Wants}
 use Rattle.update_program.specs.Outcome.{release_job, list_job, release_end, list_end, stage_of, set_of}

@@ -1,12 +1,12 @@
 -- What accepted words name is a request: its URIs are sound, and its two names are names of their own.
-use Rattle.std.proofs.Common.{◌≡◌, ◌≢◌, ℕ, suc, ◌+◌, ◌-◌, ◌<◌, ◌≤◌, Bool, true, false, ◌||◌, ◌&&◌, ◌⊎◌, not, cond, List, [], ◌∷◌, ◌++◌, length, map, get_or, take, drop, Option, None, Some, IfSome, inl, inr, refl, sym, ap, subst, ◌∙◌, arith, All, codes, length-append, eqb, leb, ltb, lit<, append-nil, take_all}
+use Rattle.std.proofs.Common.{◌≡◌, ◌≢◌, ℕ, suc, ◌+◌, ◌-◌, ◌<◌, ◌≤◌, Bool, true, false, ◌||◌, ◌&&◌, ◌⊎◌, List, [], ◌∷◌, ◌++◌, length, get_or, take, drop, Option, None, Some, IfSome, inl, inr, refl, sym, ap, subst, ◌∙◌, arith, codes, length-append, eqb, leb, ltb, lit<, append-nil, take_all}
 use Rattle.std.proofs.lemmas.List.{length-map}
 use Rattle.std.proofs.lemmas.Option.{slice_get_within, get_or_from_slice_get}
-use Rattle.std.proofs.lemmas.Bool.{cond_both, and_parts, and_from, or_cases, or_left, or_right, cases_Bool, eqb-true, leb-true, ltb-true, false≢true, le-leb, lt-ltb, not-true}
+use Rattle.std.proofs.lemmas.Bool.{cond_both, and_parts, and_from, or_cases, or_left, or_right, cases_Bool, eqb-true, leb-true, ltb-true, false≢true}
 use Rattle.std.proofs.lemmas.Bool.Decides.{nat_tests}
 use Rattle.std.proofs.lemmas.List.Sums.{AllPass-from_list_all}
 use Rattle.std.proofs.lemmas.List.Folds.{list_all-append, list_all-map, list_all_more}
-use Rattle.std.proofs.lemmas.List.Elements.{All-weaker, All-get_or, All-cons, All-nil}
+use Rattle.std.proofs.lemmas.List.Elements.{All-weaker, All-cons, All-nil}
 use Rattle.std.proofs.lemmas.List.Splits.{slice_split-cons_yes, slice_split-cons_no}
 use Rattle.std.proofs.lemmas.Slice.Eq.{bytes_eq-Decides}
 use Rattle.std.proofs.lemmas.Str.{IsUtf8-from_ascii}
@@ -17,10 +17,9 @@ use Rattle.std.specs.List.{list_all, flat_map, slice_get, slice_split, onto_firs
 use Rattle.std.specs.Str.{IsUtf8, str_to_ascii_lowercase}
 use Rattle.acq_base.specs.Uri.{is_alphanumeric, is_uri_character, IsHostCharacter, KeepsColonsInBrackets, IsHttpHost, IsSound, name_byte, name_of_parts, list_name, text_of_parts, uri_text}
 use Rattle.acq_base.specs.declared.uri.Uri.{Uri}
-use Rattle.acq_base.specs.declared.plan.Source.{Source}
-use Rattle.acq_base.specs.Plan.{IsSoundSource, IsSoundTarget}
+use Rattle.acq_base.specs.Plan.{IsSoundTarget}
 use Rattle.acq_outside.specs.Disk.{IsName}
-use Rattle.update_program.specs.Words.{is_slash, is_segment_character, is_host_character, is_segment, is_host, are_segments, is_between_slashes, is_folder_path, host_part, path_part, http_uri, base_of_parts, base_after_scheme, base_of_text, uri_in_suite, packages_path, release_uri, packages_uri, source_with, planned, with_short_name, planned_below, are_plain_words, source_of_five, source_of_words}
+use Rattle.update_program.specs.Words.{is_slash, is_segment_character, is_host_character, is_segment, is_host, are_segments, is_between_slashes, is_folder_path, host_part, path_part, http_uri, base_of_parts, base_after_scheme, base_of_text, uri_in_suite, packages_path, packages_uri, source_with, planned, with_short_name, planned_below, are_plain_words, source_of_five, source_of_words}
 use Rattle.update_program.specs.Request.{IsRequest}
 
 -- a character of a segment, or the `/` between two

@@ -1,5 +1,5 @@
 -- What follows of a run from the ways in which it may end.
-use Rattle.std.proofs.Common.{◌≡◌, ◌≢◌, ◌⊎◌, inl, inr, ℕ, ℤ, Bool, true, false, if◌then◌else◌, IsTrue, IfSome, IsSomeAnd, slice_get, slice_index_or, slice_set, ◌<◌, ◌≤◌, length, List, [], ◌∷◌, Option, Some, None, refl, sym, ◌∙◌, ap, subst, arith}
+use Rattle.std.proofs.Common.{◌≡◌, ◌≢◌, ◌⊎◌, inl, inr, ℕ, ℤ, Bool, true, false, IsTrue, IfSome, IsSomeAnd, slice_get, slice_index_or, slice_set, ◌<◌, length, List, [], ◌∷◌, Option, Some, None, refl, sym, ◌∙◌, arith}
 use lib.Pointwise.{bytes_decides}
 use Rattle.acq_base.specs.declared.sum.Sum.{Sum}
 use Rattle.acq_base.specs.Sum.{sum_of}
@@ -18,7 +18,7 @@ use Rattle.std.proofs.lemmas.Grind.{common_steps}
 use Rattle.update_program.specs.Words.{source_of_words}
 use Rattle.update_program.specs.Request.{IsRequest}
 use Rattle.update_program.proofs.RequestLemmas.{request_of_words}
-use Rattle.update_program.specs.Run.{Outside, ForRun, ForMethod, IsRun, IsUpdate, IsUpdateBy, EndsInOneWay, Completes, FailsOnDisk, Said, ByMirror, FollowsMirror, IsWholeSet, LeavesWholeSet, is_status, seen, seen_with, disk_line, memory_line}
+use Rattle.update_program.specs.Run.{Outside, ForRun, ForMethod, IsRun, IsUpdate, IsUpdateBy, EndsInOneWay, Completes, Said, FollowsMirror, IsWholeSet, LeavesWholeSet, is_status, seen, seen_with, disk_line, memory_line}
 use Rattle.update_program.proofs.WholeLemmas.{SoundOutcome, ends_as-sound}
 use Rattle.update_program.proofs.MirrorLemmas.{ends_as-by_mirror}
 
@@ -131,10 +131,10 @@ other_name a b n = by_test (same_name a b) refl
     by_test true e = absurd (n ((bytes_decides a b).0 e))
     by_test false e = refl
 
-with_file-same : (files : Files) (name : List ℕ) (content : Option (List ℕ)) → with_file files name content name ≡ content
+pub with_file-same : (files : Files) (name : List ℕ) (content : Option (List ℕ)) → with_file files name content name ≡ content
 with_file-same files name content = rw (same_name-refl name) refl
 
-with_file-other : (files : Files) (name other : List ℕ) (content : Option (List ℕ)) → name ≢ other → with_file files name content other ≡ files other
+pub with_file-other : (files : Files) (name other : List ℕ) (content : Option (List ℕ)) → name ≢ other → with_file files name content other ≡ files other
 with_file-other files name other content n = rw (other_name name other n) refl
 
 -- a Release that names no list is whole beside any list
@@ -199,7 +199,7 @@ update-mirror_if_told before after source target now result h = by_world before.
     by_world (Some entries) e = λ tells a b c. update-mirror before after entries source target now result h tells e a b c
 
 -- what holds of the run of each request holds of that of the words that name one
-for_run-map : (P Q : Source → Target → ℤ → Type 0) (named : Option Source) (moment : Option ℤ) → IfSome named IsRequest
+pub for_run-map : (P Q : Source → Target → ℤ → Type 0) (named : Option Source) (moment : Option ℤ) → IfSome named IsRequest
     → ((source : Source) (target : Target) (now : ℤ) → source.release_name.0 ≢ target.name.0 → P source target now → Q source target now)
     → ForRun named moment P → ForRun named moment Q
 for_run-map P Q None moment request f h = tt
@@ -213,7 +213,7 @@ for_run-map P Q (Some source) moment request f h = by_target (slice_get source.t
     by_target None e p = tt
     by_target (Some target) e p = by_moment target moment (λ same. first_is_other source request target e (sym same)) p
 
-for_method-map : {M : Type 0} (P Q : M → M → Type 0) (before after : List M) → ((old new : M) → P old new → Q old new) → ForMethod before after P → ForMethod before after Q
+pub for_method-map : {M : Type 0} (P Q : M → M → Type 0) (before after : List M) → ((old new : M) → P old new → Q old new) → ForMethod before after P → ForMethod before after Q
 for_method-map {M} P Q before after f h = by_old (slice_get before 0) h
   where
     by_new : (old : M) (new : Option M) → IfSome new (P old) → IfSome new (Q old)

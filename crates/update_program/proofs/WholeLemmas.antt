@@ -1,5 +1,5 @@
 -- What is installed is whole: admissible dates, and a list that fits the sum that its Release names.
-use Rattle.std.proofs.Common.{◌≡◌, ◌≢◌, ℕ, ℤ, Bool, true, false, nat_lt, nat_eq, if◌then◌else◌, List, Option, Some, None, Result, Ok, Err, IfSome, IsSomeAnd, refl, sym, ◌∙◌, ap, subst, arith, rules}
+use Rattle.std.proofs.Common.{◌≡◌, ℕ, ℤ, Bool, true, false, nat_lt, nat_eq, if◌then◌else◌, List, Option, Some, None, Result, Ok, Err, refl, sym, ◌∙◌, ap, arith}
 use Rattle.std.specs.Cmp.Lexicographic.{pointwise}
 use lib.Pointwise.{bytes_decides}
 use borrow.Author.Tests.{ltb-false}
@@ -26,7 +26,7 @@ use Rattle.update_program.specs.declared.cause.Outcome.TheVariants.{Installs, Ol
 use Rattle.update_program.specs.declared.cause.Stage.{Stage}
 use Rattle.update_program.specs.declared.cause.Stage.TheVariants.{Over, Wants}
 use Rattle.update_program.specs.Outcome.{verdict_between, verdict_of, served_end, list_end, release_end, default_dates, listed_stage, judged_stage, read_stage, stage_of, set_of}
-use Rattle.update_program.specs.Heard.{Heard, EndsFrom, EndsAs}
+use Rattle.update_program.specs.Heard.{EndsFrom, EndsAs}
 use Rattle.update_program.specs.Run.{IsWholeSet}
 
 -- a sum that fits another is that sum
@@ -43,13 +43,21 @@ fits_is_same got wanted h = by_tests (nat_lt got.size wanted.size) (nat_lt wante
         ap (λ n. made n got.sha.0) sizes ∙ ap (made wanted.size) digests
     by_tests false false false p q r e = absurd (cc)
 
-verdict-fits : (bytes : List ℕ) (sum : Sum) → verdict_of bytes sum ≡ Fits → sum_of bytes ≡ sum
+pub verdict-fits : (bytes : List ℕ) (sum : Sum) → verdict_of bytes sum ≡ Fits → sum_of bytes ≡ sum
 unfolding verdict_of
 verdict-fits bytes sum h = fits_is_same (sum_of bytes) sum h
 
 -- dates that are judged well are admissible
-is_admissible : (release : Release) (installed : Option ℤ) (now : ℤ) → judged release installed default_dates now ≡ Ok tt → IsAdmissible release installed default_dates now
+pub is_admissible : (release : Release) (installed : Option ℤ) (now : ℤ) → judged release installed default_dates now ≡ Ok tt → IsAdmissible release installed default_dates now
 is_admissible release installed now e = (admissible release installed default_dates now (Ok tt) (sym e)).0 refl
+
+-- and admissible dates are judged well
+pub is_judged : (release : Release) (installed : Option ℤ) (now : ℤ) → IsAdmissible release installed default_dates now → judged release installed default_dates now ≡ Ok tt
+is_judged release installed now h = by_result (judged release installed default_dates now) refl
+  where
+    by_result : (result : Result (Unit {0}) DateError) → judged release installed default_dates now ≡ result → result ≡ Ok tt
+    by_result (Ok u) e = refl
+    by_result (Err refusal) e = let ok = (admissible release installed default_dates now (Err refusal) (sym e)).1 h in absurd (cc)
 
 -- an outcome that installs a set installs a whole one
 abbrev pub SoundOutcome : List ℕ → Option ℤ → ℤ → Outcome → Type 0

@@ -1,5 +1,5 @@
 -- What the words name by their number, and that it is a request.
-use Rattle.std.proofs.Common.{◌≡◌, ◌≢◌, ℕ, List, [], ◌∷◌, length, map, get_or, Option, None, Some, Result, Ok, Err, IfOk, IfSome, refl, sym, subst, ◌∙◌, arith}
+use Rattle.std.proofs.Common.{◌≡◌, ◌≢◌, ℕ, List, [], ◌∷◌, length, map, get_or, Option, None, Result, Ok, Err, IfOk, IfSome, refl, sym, subst, ◌∙◌, arith}
 use Rattle.acq_base.specs.declared.memory.NoMemory.{NoMemory}
 use Rattle.acq_base.specs.declared.plan.Source.{Source}
 use Rattle.update_program.specs.Words.{source_of_words, source_of_five}

@@ -5,3 +5,4 @@ pub mod Heard
 pub mod Lines
 pub mod Files
 pub mod Run
+pub mod Served

@@ -1,5 +1,5 @@
 -- What the words of a run ask for: a source with one list, whose two files have names of their own on any disk.
-use Rattle.std.specs.Prelude.{◌≡◌, ◌≢◌, ℕ, List, length, All}
+use Rattle.std.specs.Prelude.{◌≡◌, ◌≢◌, length, All}
 use Rattle.acq_base.specs.declared.plan.Source.{Source}
 use Rattle.acq_base.specs.Plan.{IsSoundSource}
 use Rattle.acq_outside.specs.Disk.{IsName}

@@ -1,5 +1,5 @@
 -- What a run does for its source, over what the outside objects hold and count before and after it.
-use Rattle.std.specs.Prelude.{◌≡◌, ◌≢◌, ◌⊎◌, ℕ, ℤ, ◌≤◌, ◌++◌, ◌==◌, Bool, IsTrue, List, [], ◌∷◌, codes, Option, Ok, IfSome, IsSome, IsSomeAnd, slice_get}
+use Rattle.std.specs.Prelude.{◌≡◌, ◌⊎◌, ℕ, ℤ, ◌≤◌, ◌++◌, ◌==◌, Bool, IsTrue, List, [], ◌∷◌, codes, Option, Ok, IfSome, IsSome, IsSomeAnd, slice_get}
 use Rattle.std.specs.List.{list_any}
 use Rattle.acq_base.specs.Sum.{sum_of}
 use Rattle.acq_base.specs.declared.plan.Target.{Target}
@@ -13,10 +13,10 @@ use Rattle.release_file.specs.Release.{release_of, listed_sum}
 use Rattle.release_file.specs.Dates.{IsAdmissible}
 use Rattle.update_program.specs.declared.cause.Cause.TheVariants.{Method}
 use Rattle.update_program.specs.declared.cause.Outcome.{Outcome}
-use Rattle.update_program.specs.declared.cause.Outcome.TheVariants.{Installs, Older, Kept}
+use Rattle.update_program.specs.declared.cause.Outcome.TheVariants.{Kept}
 use Rattle.update_program.specs.Outcome.{installed_date, default_dates}
 use Rattle.update_program.specs.Heard.{EndsAs, mirror_outcome}
-use Rattle.update_program.specs.Files.{files_after, ChangesOnlyNames}
+use Rattle.update_program.specs.Files.{files_after}
 use Rattle.update_program.specs.Lines.{line_of, status_of, newline}
 
 -- the outside objects at one moment: their counts of faults, and what they hold

@@ -6,6 +6,7 @@ ghost use Rattle.update_program.specs.Words.{source_of_words};
 ghost use Rattle.update_program.specs.Request.{IsRequest};
 ghost use Rattle.update_program.specs.Files.{ChangesOnlyNames};
 ghost use Rattle.update_program.specs.Run.{ForRun, ForMethod, IsUpdateBy, seen_with, FollowsMirror, LeavesWholeSet, ReadsMoment, IsRefused, SaidBy, seen, is_status, memory_line};
+ghost use Rattle.update_program.specs.Served.{EndsAsServed};
 
 use crate::Status;
 use crate::update::{say, update_source};
@@ -157,6 +158,15 @@ pub fn update_call<R: AllocGlobal, E: Etc, D: Disk, M: Method + Send + 'static, 
     // files are those that the mirror's answers define, or the method failed within this call.
     ensures mirror { ForRun (source_of_words (map string_bytes words.now)) (C.last clock.new) (λ source target now. ForMethod methods.old.items methods.new.items (λ before after. IfSome (M.world before) (λ world.
         IsTrue (D.tells disk.old) → result.0 ≢ 102 → result.0 ≢ 103 → result.0 ≢ 105 → FollowsMirror
+        (seen (D.faults disk.old) (D.tells disk.old) (D.files disk.old) (M.faults before) (M.world before) (S.faults out.old) (S.written out.old))
+        (seen (D.faults disk.new) (D.tells disk.new) (D.files disk.new) (M.faults after) (M.world after) (S.faults out.new) (S.written out.new))
+        world source target now result.0))) }
+
+    // The same in the mirror's words: exactly where it serves an admissible Release, and whole the list that this wants,
+    // the source ends with these bytes and the line is Get, unless it tells a fault of the method within this call; else
+    // the source keeps its former set.
+    ensures serves { ForRun (source_of_words (map string_bytes words.now)) (C.last clock.new) (λ source target now. ForMethod methods.old.items methods.new.items (λ before after. IfSome (M.world before) (λ world.
+        IsTrue (D.tells disk.old) → result.0 ≢ 102 → result.0 ≢ 103 → result.0 ≢ 105 → EndsAsServed
         (seen (D.faults disk.old) (D.tells disk.old) (D.files disk.old) (M.faults before) (M.world before) (S.faults out.old) (S.written out.old))
         (seen (D.faults disk.new) (D.tells disk.new) (D.files disk.new) (M.faults after) (M.world after) (S.faults out.new) (S.written out.new))
         world source target now result.0))) }

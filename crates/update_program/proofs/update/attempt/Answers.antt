@@ -1,7 +1,6 @@
 -- A run that came to its outcome either told it or wanted memory to.
 use Rattle.std.proofs.Common.{inl, inr}
 use Rattle.std.proofs.lemmas.Int.{to_z-of_z}
-use Rattle.update_program.specs.Run.{IsRun}
 use Rattle.update_program.proofs.update.attempt.Goals as goal
 
 pub returns-in-Ok-clause-ended : goal.returns-in-Ok-clause-ended
