@@ -43,7 +43,7 @@ pub fn new(alloc: Global) -> Conf
 /// It is refused with `LongFile` where it has more than 1,048,576 bytes, which is looked at first, and else with
 /// `BadConf` at the line where reading stops, counted from 1. `NoMemory` where memory ran out. After each of the three the
 /// configuration is as it was, and can be used on.
-pub fn read_conf(conf: &mut Conf, alloc: Global, bytes: &[u8]) -> Result<(), ConfError>
+pub fn read_conf(alloc: Global, conf: &mut Conf, bytes: &[u8]) -> Result<(), ConfError>
     ensures answer { (result ≡ Err ConfError.NoMemory) ⊎ (result ≡ answer (pairs_of bytes.now)) }
     ensures ok { OnOk result (IfOk (pairs_of bytes.now) (λ pairs. conf.new ≡ conf.old ++ pairs)) }
     ensures err { OnErr result (conf.new ≡ conf.old) }
@@ -53,19 +53,19 @@ pub fn read_conf(conf: &mut Conf, alloc: Global, bytes: &[u8]) -> Result<(), Con
     // And back: a text that is read spells nested statements, and their pairs are what was added.
     ensures spelled { OnOk result (Adds conf.old bytes.now conf.new) }
 {
-    read_file(&mut conf.entries, alloc, bytes)
+    read_file(alloc, &mut conf.entries, bytes)
 }
 
 /// Adds the pair of an option word `KEY=VALUE`, split at its first `=`.
 ///
 /// It is refused with `BadConf(1)` where it has no `=`, or where no key stands before the first one. `NoMemory` where
 /// memory ran out. After either the configuration is as it was.
-pub fn set(conf: &mut Conf, alloc: Global, pair: &[u8]) -> Result<(), ConfError>
+pub fn set(alloc: Global, conf: &mut Conf, pair: &[u8]) -> Result<(), ConfError>
     ensures answer { (result ≡ Err ConfError.NoMemory) ⊎ (result ≡ answer (pair_of pair.now)) }
     ensures ok { OnOk result (IfOk (pair_of pair.now) (λ pairs. conf.new ≡ conf.old ++ pairs)) }
     ensures err { OnErr result (conf.new ≡ conf.old) }
 {
-    read_pair(&mut conf.entries, alloc, pair)
+    read_pair(alloc, &mut conf.entries, pair)
 }
 
 /// The last value given to a key, which is compared without regard to ASCII case. None where no value was given to it. It

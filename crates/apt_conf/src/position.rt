@@ -59,9 +59,9 @@ fn sets(
 
 /// Opens a block of this key.
 fn enters(
+    alloc: Global,
     entries: &mut Vec<Entry>,
     position: &mut Position,
-    alloc: Global,
     key: Text,
     line: u64,
 ) -> Result<(), ConfError>
@@ -103,9 +103,9 @@ fn leaves(entries: &[Entry], position: &mut Position, line: u64) -> Result<(), C
 
 /// Carries out a step on this line.
 fn take_step(
+    alloc: Global,
     entries: &mut Vec<Entry>,
     position: &mut Position,
-    alloc: Global,
     step: Step,
     line: u64,
 ) -> Result<(), ConfError>
@@ -120,10 +120,10 @@ fn take_step(
             Ok(())
         }
         Step::Sets(key, value) => sets(entries, position, key, value),
-        Step::Enters(key) => enters(entries, position, alloc, key, line),
+        Step::Enters(key) => enters(alloc, entries, position, key, line),
         Step::SetsAndEnters(key, value) => {
             sets(entries, position, key.copy(alloc)?, value)?;
-            enters(entries, position, alloc, key, line)
+            enters(alloc, entries, position, key, line)
         }
         Step::Leaves => leaves(entries.as_slice(), position, line),
         Step::Stops => Err(ConfError::BadConf(line)),
@@ -132,9 +132,9 @@ fn take_step(
 
 /// Takes a token that begins on this line.
 pub fn take_token(
+    alloc: Global,
     entries: &mut Vec<Entry>,
     position: &mut Position,
-    alloc: Global,
     token: Token,
     line: u64,
 ) -> Result<(), ConfError>
@@ -144,5 +144,5 @@ pub fn take_token(
         (statements.on_line line (statements.moved_by position.old.blocks.items (statements.step_of position.old.part token))) }
 {
     let part = mem::replace(&mut position.part, Part::Start);
-    take_step(entries, position, alloc, step_of(part, token), line)
+    take_step(alloc, entries, position, step_of(part, token), line)
 }

@@ -20,9 +20,9 @@ use std::alloc::Global;
 
 /// Takes what stands at the front of a rest of a text that begins on this line, and answers how many bytes it has.
 fn take_lexeme(
+    alloc: Global,
     entries: &mut Vec<Entry>,
     position: &mut Position,
-    alloc: Global,
     last: u64,
     line: u64,
     rest: &[u8],
@@ -42,9 +42,9 @@ fn take_lexeme(
     let count = extent(lexeme);
     if let Some(token) = token_at(alloc, lexeme, rest)? {
         take_token(
+            alloc,
             entries,
             position,
-            alloc,
             token,
             token_line(last, line, lexeme),
         )?;
@@ -53,7 +53,7 @@ fn take_lexeme(
 }
 
 /// Adds the pairs of a text to entries.
-fn read_text(entries: &mut Vec<Entry>, alloc: Global, text: &[u8]) -> Result<(), ConfError>
+fn read_text(alloc: Global, entries: &mut Vec<Entry>, text: &[u8]) -> Result<(), ConfError>
     requires { length text.now ≤ 1048576 }
     ensures keeps { Keeps entries.old.items entries.new.items }
     ensures reads { Reads entries.old.items entries.new.items result (pairs_from (tokens.last_line text.now) start (tokens.tokens_of text.now)) }
@@ -67,7 +67,7 @@ fn read_text(entries: &mut Vec<Entry>, alloc: Global, text: &[u8]) -> Result<(),
     let mut rest = text;
     let mut line = 1;
     while !rest.is_empty() {
-        let count = take_lexeme(entries, &mut position, alloc, last, line, rest)?;
+        let count = take_lexeme(alloc, entries, &mut position, last, line, rest)?;
         let (front, behind) = rest.split_at(count);
         line = line_behind(line, front);
         rest = behind;
@@ -88,7 +88,7 @@ fn is_closed(position: &Position) -> bool
 
 /// Adds the pairs of a file to entries, or leaves them.
 #[tactic(auto, unfolding(crate::specs::Reading::pairs_of))]
-pub fn read_file(entries: &mut Vec<Entry>, alloc: Global, bytes: &[u8]) -> Result<(), ConfError>
+pub fn read_file(alloc: Global, entries: &mut Vec<Entry>, bytes: &[u8]) -> Result<(), ConfError>
     ensures reads { Reads entries.old.items entries.new.items result (pairs_of bytes.now) }
     ensures err { OnErr result (entries.new.items ≡ entries.old.items) }
 {
@@ -96,7 +96,7 @@ pub fn read_file(entries: &mut Vec<Entry>, alloc: Global, bytes: &[u8]) -> Resul
         return Err(ConfError::LongFile);
     }
     let before = entries.len();
-    let outcome = read_text(entries, alloc, bytes);
+    let outcome = read_text(alloc, entries, bytes);
     if outcome.is_err() {
         entries.truncate(before);
     }
@@ -123,7 +123,7 @@ fn key_length(word: &[u8]) -> usize
 
 /// Adds the pair of a word to entries, or leaves them.
 #[tactic(auto, unfolding(crate::specs::Reading::pair_of))]
-pub fn read_pair(entries: &mut Vec<Entry>, alloc: Global, word: &[u8]) -> Result<(), ConfError>
+pub fn read_pair(alloc: Global, entries: &mut Vec<Entry>, word: &[u8]) -> Result<(), ConfError>
     ensures reads { Reads entries.old.items entries.new.items result (pair_of word.now) }
     ensures err { OnErr result (entries.new.items ≡ entries.old.items) }
 {
@@ -136,13 +136,13 @@ pub fn read_pair(entries: &mut Vec<Entry>, alloc: Global, word: &[u8]) -> Result
         return Err(ConfError::BadConf(1));
     }
     let (_, value) = word.split_at(count + 1);
-    push_pair(entries, alloc, key, value)
+    push_pair(alloc, entries, key, value)
 }
 
 /// Adds a pair to entries, or leaves them.
 fn push_pair(
-    entries: &mut Vec<Entry>,
     alloc: Global,
+    entries: &mut Vec<Entry>,
     key: &[u8],
     value: &[u8],
 ) -> Result<(), ConfError>

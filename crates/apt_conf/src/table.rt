@@ -30,20 +30,20 @@ use std::alloc::Global;
 /// Blanks and commas separate the words of a list, which has at least one. A boolean is one of the words of apt.conf(5),
 /// in any case. The first value in this order that isn't allowed is refused with `BadValue` and its key; the only other
 /// error is `NoMemory`.
-pub fn settings(conf: &Conf, alloc: Global) -> Result<Settings, ConfError>
+pub fn settings(alloc: Global, conf: &Conf) -> Result<Settings, ConfError>
     ensures { (result ≡ Err ConfError.NoMemory) ⊎ (result ≡ of.settings_of conf.now) }
 {
-    read_settings(conf, alloc)
+    read_settings(alloc, conf)
 }
 
 #[tactic(auto, unfolding(crate::specs::Settings::settings_of))]
-fn read_settings(conf: &Conf, alloc: Global) -> Result<Settings, ConfError>
+fn read_settings(alloc: Global, conf: &Conf) -> Result<Settings, ConfError>
     ensures { Gives result (of.settings_of conf.now) }
 {
-    let lists = wanted_lists(conf, alloc)?;
-    let dates = dates(conf, alloc)?;
-    let ways = ways_to_fetch(conf, alloc)?;
-    let cleanup = boolean(conf, alloc, b"APT::Get::List-Cleanup", true)?;
+    let lists = wanted_lists(alloc, conf)?;
+    let dates = dates(alloc, conf)?;
+    let ways = ways_to_fetch(alloc, conf)?;
+    let cleanup = boolean(alloc, conf, b"APT::Get::List-Cleanup", true)?;
     Ok(Settings {
         arch: lists.arch,
         archs: lists.archs,
@@ -73,13 +73,13 @@ pub struct Wanted {
 }
 
 #[tactic(auto, unfolding(crate::specs::Settings::wanted))]
-fn wanted_lists(conf: &Conf, alloc: Global) -> Result<Wanted, ConfError>
+fn wanted_lists(alloc: Global, conf: &Conf) -> Result<Wanted, ConfError>
     ensures { Gives result (of.wanted conf.now) }
 {
-    let arch = architecture(conf, alloc)?;
-    let archs = architectures(conf, alloc, &arch)?;
-    let langs = languages(conf, alloc)?;
-    let pick = pick(conf, alloc)?;
+    let arch = architecture(alloc, conf)?;
+    let archs = architectures(alloc, conf, &arch)?;
+    let langs = languages(alloc, conf)?;
+    let pick = pick(alloc, conf)?;
     Ok(Wanted {
         arch,
         archs,
@@ -104,14 +104,14 @@ pub struct Fetching {
 }
 
 #[tactic(auto, unfolding(crate::specs::Settings::fetching))]
-fn ways_to_fetch(conf: &Conf, alloc: Global) -> Result<Fetching, ConfError>
+fn ways_to_fetch(alloc: Global, conf: &Conf) -> Result<Fetching, ConfError>
     ensures { Gives result (of.fetching conf.now) }
 {
-    let retries = small_number(conf, alloc, b"Acquire::Retries", 10, 1)?;
-    let by_hash = by_hash(conf, alloc)?;
-    let pdiffs = boolean(conf, alloc, b"Acquire::PDiffs", true)?;
-    let file_limit = small_number(conf, alloc, b"Acquire::PDiffs::FileLimit", 1000, 100)?;
-    let size_limit = small_number(conf, alloc, b"Acquire::PDiffs::SizeLimit", 1000, 100)?;
+    let retries = small_number(alloc, conf, b"Acquire::Retries", 10, 1)?;
+    let by_hash = by_hash(alloc, conf)?;
+    let pdiffs = boolean(alloc, conf, b"Acquire::PDiffs", true)?;
+    let file_limit = small_number(alloc, conf, b"Acquire::PDiffs::FileLimit", 1000, 100)?;
+    let size_limit = small_number(alloc, conf, b"Acquire::PDiffs::SizeLimit", 1000, 100)?;
     Ok(Fetching {
         retries,
         by_hash,
@@ -132,7 +132,7 @@ fn allowed<T: Drop>(alloc: Global, key: &[u8], value: Option<T>) -> Result<T, Co
 }
 
 #[tactic(auto, unfolding(crate::specs::Settings::architecture))]
-fn architecture(conf: &Conf, alloc: Global) -> Result<Text, ConfError>
+fn architecture(alloc: Global, conf: &Conf) -> Result<Text, ConfError>
     ensures { Gives result (of.architecture conf.now) }
 {
     match get(conf, b"APT::Architecture") {
@@ -158,7 +158,7 @@ fn row_of(alloc: Global, text: &[u8]) -> Result<Row<Text>, NoMemory>
 }
 
 #[tactic(auto, unfolding(crate::specs::Settings::architectures))]
-fn architectures(conf: &Conf, alloc: Global, own: &Text) -> Result<Row<Text>, ConfError>
+fn architectures(alloc: Global, conf: &Conf, own: &Text) -> Result<Row<Text>, ConfError>
     ensures { Gives result (of.architectures own.now conf.now) }
 {
     match get(conf, b"APT::Architectures") {
@@ -171,7 +171,7 @@ fn architectures(conf: &Conf, alloc: Global, own: &Text) -> Result<Row<Text>, Co
 }
 
 #[tactic(auto, unfolding(crate::specs::Settings::languages))]
-fn languages(conf: &Conf, alloc: Global) -> Result<Row<Text>, ConfError>
+fn languages(alloc: Global, conf: &Conf) -> Result<Row<Text>, ConfError>
     ensures { Gives result (of.languages conf.now) }
 {
     match get(conf, b"Acquire::Languages") {
@@ -184,7 +184,7 @@ fn languages(conf: &Conf, alloc: Global) -> Result<Row<Text>, ConfError>
 }
 
 #[tactic(auto, unfolding(crate::specs::Settings::pick))]
-fn pick(conf: &Conf, alloc: Global) -> Result<Pick, ConfError>
+fn pick(alloc: Global, conf: &Conf) -> Result<Pick, ConfError>
     ensures { Gives result (of.pick conf.now) }
 {
     match get(conf, b"Acquire::Pick") {
@@ -205,17 +205,17 @@ fn pick(conf: &Conf, alloc: Global) -> Result<Pick, ConfError>
 }
 
 #[tactic(auto, unfolding(crate::specs::Settings::dates))]
-fn dates(conf: &Conf, alloc: Global) -> Result<Dates, ConfError>
+fn dates(alloc: Global, conf: &Conf) -> Result<Dates, ConfError>
     ensures { Gives result (of.dates conf.now) }
 {
-    let min = number(conf, alloc, b"Acquire::Min-ValidTime", 4294967295, 0)?;
-    let max = number(conf, alloc, b"Acquire::Max-ValidTime", 4294967295, 0)?;
-    let future = number(conf, alloc, b"Acquire::Max-FutureTime", 4294967295, 10)?;
+    let min = number(alloc, conf, b"Acquire::Min-ValidTime", 4294967295, 0)?;
+    let max = number(alloc, conf, b"Acquire::Max-ValidTime", 4294967295, 0)?;
+    let future = number(alloc, conf, b"Acquire::Max-FutureTime", 4294967295, 10)?;
     Ok(Dates { min, max, future })
 }
 
 #[tactic(auto, unfolding(crate::specs::Settings::number))]
-fn number(conf: &Conf, alloc: Global, key: &[u8], most: u64, default: u64) -> Result<u64, ConfError>
+fn number(alloc: Global, conf: &Conf, key: &[u8], most: u64, default: u64) -> Result<u64, ConfError>
     requires { default ≤ most }
     ensures read { Gives result (of.number most default conf.now key.now) }
     ensures bound { IfOk result (λ number. number ≤ most) }
@@ -227,8 +227,8 @@ fn number(conf: &Conf, alloc: Global, key: &[u8], most: u64, default: u64) -> Re
 }
 
 fn small_number(
-    conf: &Conf,
     alloc: Global,
+    conf: &Conf,
     key: &[u8],
     most: u32,
     default: u32,
@@ -236,12 +236,12 @@ fn small_number(
     requires { default ≤ most }
     ensures { Gives result (of.number most default conf.now key.now) }
 {
-    let number = number(conf, alloc, key, u64::from(most), u64::from(default))?;
+    let number = number(alloc, conf, key, u64::from(most), u64::from(default))?;
     Ok(number as u32)
 }
 
 #[tactic(auto, unfolding(crate::specs::Settings::by_hash))]
-fn by_hash(conf: &Conf, alloc: Global) -> Result<ByHash, ConfError>
+fn by_hash(alloc: Global, conf: &Conf) -> Result<ByHash, ConfError>
     ensures { Gives result (of.by_hash conf.now) }
 {
     match get(conf, b"Acquire::By-Hash") {
@@ -251,7 +251,7 @@ fn by_hash(conf: &Conf, alloc: Global) -> Result<ByHash, ConfError>
 }
 
 #[tactic(auto, unfolding(crate::specs::Settings::boolean))]
-fn boolean(conf: &Conf, alloc: Global, key: &[u8], default: bool) -> Result<bool, ConfError>
+fn boolean(alloc: Global, conf: &Conf, key: &[u8], default: bool) -> Result<bool, ConfError>
     ensures { Gives result (of.boolean default conf.now key.now) }
 {
     match get(conf, key) {

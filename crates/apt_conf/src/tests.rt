@@ -5,7 +5,7 @@ use std::test::Fail;
 
 fn configured(alloc: Global, text: &str) -> Result<Conf, ConfError> {
     let mut conf = new(alloc);
-    read_conf(&mut conf, alloc, text.as_bytes())?;
+    read_conf(alloc, &mut conf, text.as_bytes())?;
     Ok(conf)
 }
 
@@ -161,7 +161,7 @@ static REFUSED: [(&str, u64); 36] = [
 fn texts_that_are_refused(rt: HostRuntime) -> Result<(), Fail> {
     let mut conf = configured(rt.alloc(), "Kept 1;")?;
     for (text, line) in &REFUSED {
-        let outcome = read_conf(&mut conf, rt.alloc(), text.as_bytes());
+        let outcome = read_conf(rt.alloc(), &mut conf, text.as_bytes());
         assert!(rt;
             matches!(outcome, Err(ConfError::BadConf(found)) if found == *line),
             "{text}"
@@ -176,7 +176,7 @@ fn texts_that_are_refused(rt: HostRuntime) -> Result<(), Fail> {
 fn blocks_are_16_deep(rt: HostRuntime) -> Result<(), Fail> {
     let mut conf = new(rt.alloc());
     let deep = "A{B{C{D{E{F{G{H{I{J{K{L{M{N{O{P{x 1;}}}}}}}}}}}}}}}}";
-    read_conf(&mut conf, rt.alloc(), deep.as_bytes())?;
+    read_conf(rt.alloc(), &mut conf, deep.as_bytes())?;
     assert!(rt;
         is_value(
             get(&conf, b"A::B::C::D::E::F::G::H::I::J::K::L::M::N::O::P::x"),
@@ -184,7 +184,7 @@ fn blocks_are_16_deep(rt: HostRuntime) -> Result<(), Fail> {
         )
     );
     let deeper = "A{B{C{D{E{F{G{H{I{J{K{L{M{N{O{P{\nQ{x 1;}}}}}}}}}}}}}}}}}";
-    let outcome = read_conf(&mut conf, rt.alloc(), deeper.as_bytes());
+    let outcome = read_conf(rt.alloc(), &mut conf, deeper.as_bytes());
     assert!(rt; matches!(outcome, Err(ConfError::BadConf(2))));
     Ok(())
 }
@@ -193,10 +193,10 @@ fn blocks_are_16_deep(rt: HostRuntime) -> Result<(), Fail> {
 fn files_have_a_mebibyte(rt: HostRuntime) -> Result<(), Fail> {
     let mut conf = new(rt.alloc());
     let mut text = vec![in rt.alloc(); b'}'; 1_048_577]?;
-    let outcome = read_conf(&mut conf, rt.alloc(), text.as_slice());
+    let outcome = read_conf(rt.alloc(), &mut conf, text.as_slice());
     assert!(rt; matches!(outcome, Err(ConfError::LongFile)));
     text.pop();
-    let outcome = read_conf(&mut conf, rt.alloc(), text.as_slice());
+    let outcome = read_conf(rt.alloc(), &mut conf, text.as_slice());
     assert!(rt; matches!(outcome, Err(ConfError::BadConf(1))));
     Ok(())
 }
@@ -211,13 +211,13 @@ fn option_words(rt: HostRuntime) -> Result<(), Fail> {
         ("A=b=c", "A", "b=c"),
         ("A= \"x\"; ", "A", " \"x\"; "),
     ] {
-        set(&mut conf, alloc, word.as_bytes())?;
+        set(alloc, &mut conf, word.as_bytes())?;
         assert!(rt; is_value(get(&conf, key.as_bytes()), value), "{word}");
     }
-    set(&mut conf, alloc, b"C::=1")?;
+    set(alloc, &mut conf, b"C::=1")?;
     assert!(rt; get(&conf, b"C::").is_none());
     for word in ["x", "", "=1", "A B=1", "A\"=1"] {
-        let outcome = set(&mut conf, alloc, word.as_bytes());
+        let outcome = set(alloc, &mut conf, word.as_bytes());
         assert!(rt; matches!(outcome, Err(ConfError::BadConf(1))), "{word}");
     }
     Ok(())
@@ -227,7 +227,7 @@ fn option_words(rt: HostRuntime) -> Result<(), Fail> {
 fn defaults(rt: HostRuntime) -> Result<(), Fail> {
     let alloc = rt.alloc();
     let conf = configured(alloc, "Other::Key 1;")?;
-    let found = settings(&conf, alloc)?;
+    let found = settings(alloc, &conf)?;
     assert_eq!(rt; found.arch.as_bytes(), b"amd64".as_slice());
     assert!(rt; is_value(found.archs.as_slice().first(), "amd64"));
     assert!(rt; is_value(found.langs.as_slice().first(), "en"));
@@ -250,13 +250,13 @@ fn numbers(rt: HostRuntime) -> Result<(), Fail> {
         ("Acquire::Retries=010", 10),
         ("acquire::retries=0000000003", 3),
     ] {
-        set(&mut conf, alloc, word.as_bytes())?;
-        let found = settings(&conf, alloc)?;
+        set(alloc, &mut conf, word.as_bytes())?;
+        let found = settings(alloc, &conf)?;
         assert_eq!(rt; found.retries, retries, "{word}");
     }
-    set(&mut conf, alloc, b"Acquire::Max-ValidTime=4294967295")?;
-    set(&mut conf, alloc, b"Acquire::PDiffs::FileLimit=1000")?;
-    let found = settings(&conf, alloc)?;
+    set(alloc, &mut conf, b"Acquire::Max-ValidTime=4294967295")?;
+    set(alloc, &mut conf, b"Acquire::PDiffs::FileLimit=1000")?;
+    let found = settings(alloc, &conf)?;
     assert_eq!(rt; (found.dates.max, found.file_limit), (4294967295, 1000));
     Ok(())
 }
@@ -285,10 +285,10 @@ fn booleans(rt: HostRuntime) -> Result<(), Fail> {
     let alloc = rt.alloc();
     let mut conf = new(alloc);
     for (yes, no) in &BOOLEANS {
-        set(&mut conf, alloc, no.as_bytes())?;
-        assert!(rt; !settings(&conf, alloc)?.cleanup, "{no}");
-        set(&mut conf, alloc, yes.as_bytes())?;
-        assert!(rt; settings(&conf, alloc)?.cleanup, "{yes}");
+        set(alloc, &mut conf, no.as_bytes())?;
+        assert!(rt; !settings(alloc, &conf)?.cleanup, "{no}");
+        set(alloc, &mut conf, yes.as_bytes())?;
+        assert!(rt; settings(alloc, &conf)?.cleanup, "{yes}");
     }
     Ok(())
 }
@@ -309,7 +309,7 @@ fn lists(rt: HostRuntime) -> Result<(), Fail> {
     let alloc = rt.alloc();
     for (text, architectures, languages) in &LISTS {
         let conf = configured(alloc, text)?;
-        let found = settings(&conf, alloc)?;
+        let found = settings(alloc, &conf)?;
         assert_eq!(rt; found.archs.len(), *architectures, "{text}");
         assert_eq!(rt; found.langs.len(), *languages, "{text}");
     }
@@ -317,7 +317,7 @@ fn lists(rt: HostRuntime) -> Result<(), Fail> {
         alloc,
         "APT::Architecture i386; Acquire::Pick Sources; Acquire::By-Hash force;",
     )?;
-    let found = settings(&conf, alloc)?;
+    let found = settings(alloc, &conf)?;
     assert!(rt; is_value(found.archs.as_slice().first(), "i386"));
     assert!(rt; !found.pick.packages && found.pick.sources && !found.pick.translations);
     assert_eq!(rt; found.by_hash, ByHash::Force);
@@ -367,7 +367,7 @@ fn values_that_are_refused(rt: HostRuntime) -> Result<(), Fail> {
     let alloc = rt.alloc();
     for (text, key) in &BAD_VALUES {
         let conf = configured(alloc, text)?;
-        let outcome = settings(&conf, alloc);
+        let outcome = settings(alloc, &conf);
         assert!(rt;
             matches!(&outcome, Err(ConfError::BadValue(found)) if found.as_bytes() == key.as_bytes()),
             "{text}"
