@@ -1,5 +1,5 @@
 use crate::run::RunError;
-use crate::tests::cases::{Case, GOOD, MOMENT};
+use crate::tests::cases::{Case, DATE_BEFORE, GOOD, MOMENT};
 use crate::tests::objects::{mirror, only, words};
 use crate::tests::running::run;
 use crate::{Status, update_call};
@@ -25,6 +25,11 @@ fn ends_with_102_where_the_disk_fails(rt: HostRuntime) -> Result<(), Fail> {
         "the installed Release",
         failing_disk(1, (false, false)),
     )?;
+    let installed = Case {
+        installed: Some(DATE_BEFORE),
+        ..failing_disk(2, (false, false))
+    };
+    run(&rt, "reading the installed Release", installed)?;
     run(&rt, "making the list", failing_disk(2, (false, false)))?;
     run(&rt, "writing the list", failing_disk(3, (false, false)))?;
     run(&rt, "syncing the list", failing_disk(4, (false, true)))?;
