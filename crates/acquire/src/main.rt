@@ -1,6 +1,6 @@
 //! The program `acquire`: fetches package lists from a mirror and keeps each source's set of them consistent.
 //!
-//! It reads its words and three variables of the environment, makes the real objects, and leaves the rest to
+//! It reads its words and two variables of the environment, makes the real objects, and leaves the rest to
 //! `update_call`, whose status it ends with.
 #![tactic(auto)]
 

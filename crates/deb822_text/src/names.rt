@@ -23,6 +23,7 @@ impl<'a> Model for Name<'a> {
 }
 
 impl<'a> Name<'a> {
+    /// The name of these bytes, which it lends.
     pub fn new(bytes: &'a [u8]) -> Name<'a>
         ensures { result ≡ str_to_ascii_lowercase bytes.entry.now }
     {

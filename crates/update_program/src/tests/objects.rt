@@ -11,17 +11,20 @@ use std::alloc::Global;
 use std::process::Abort;
 use std::test::Fail;
 
+/// Two texts as one.
 pub fn text(alloc: Global, parts: (&str, &str)) -> Result<Text, NoMemory> {
     let mut text = Text::from_bytes(alloc, parts.0.as_bytes())?;
     text.append(parts.1.as_bytes())?;
     Ok(text)
 }
 
+/// The same as bytes.
 pub fn bytes(alloc: Global, parts: (&str, &str)) -> Result<Bytes, NoMemory> {
     let text = text(alloc, parts)?;
     Ok(Row::from(Vec::from_slice(alloc, text.as_bytes())?))
 }
 
+/// The mirror's answer where it has this.
 pub fn answer(alloc: Global, served: Served) -> Result<Answer, NoMemory>
     ensures { IfOk result IsSoundAnswer }
 {
@@ -32,6 +35,7 @@ pub fn answer(alloc: Global, served: Served) -> Result<Answer, NoMemory>
     }
 }
 
+/// A URI of the one host.
 pub fn uri(alloc: Global, path: &str) -> Result<Uri, NoMemory> {
     Ok(Uri {
         scheme: Scheme::Http,
@@ -41,6 +45,7 @@ pub fn uri(alloc: Global, path: &str) -> Result<Uri, NoMemory> {
     })
 }
 
+/// A mirror that has these under its two URIs.
 pub fn mirror(alloc: Global, release: Served, list: Served) -> Result<Mirror, NoMemory>
     ensures { IfOk result (λ mirror. HasSoundAnswers mirror.rows) }
 {
@@ -66,12 +71,14 @@ pub fn before(alloc: Global, installed: Option<&str>) -> Result<Row<(Text, Bytes
     Ok(files)
 }
 
+/// The row of this number alone.
 pub fn only(alloc: Global, number: u64) -> Result<Row<u64>, NoMemory> {
     let mut row = Row::new(alloc);
     row.push(number)?;
     Ok(row)
 }
 
+/// The words of a line, at its spaces.
 pub fn words(alloc: Global, line: &str) -> Result<Vec<String>, Fail> {
     let mut words = Vec::new(alloc);
     for word in line.split(' ') {
