@@ -1,6 +1,6 @@
 ghost use Rattle.std.specs.Prelude.{◌≡◌, ◌⊎◌, ◌++◌, ◌∷◌, [], Some, Err, OnOk, IfOk, IfErr};
 ghost use Rattle.deb822_text.specs.Control.{paragraphs_of, lines_of, or_else, Separator, Continuation, Named};
-ghost use Rattle.deb822_text.specs.Scan.{scan, start, state_of, GoesOn, Takes};
+ghost use Rattle.deb822_text.specs.Scan.{scan, start, state_of, Takes};
 ghost use Rattle.deb822_text.specs.Names.{repeated, Tells};
 ghost use Rattle.deb822_text.specs.Seen.{seen};
 ghost use Rattle.deb822_text.specs.Refused.{IsFirstFault, AreAllowed};
@@ -45,7 +45,7 @@ fn scanned(alloc: Global, bytes: &[u8], comments: bool) -> Result<Row<Paragraph>
     Ok(reading.paragraphs)
 }
 
-/// What is read so far: whole paragraphs, and the fields of the one that is open, whose names aren't compared yet.
+/// What is read so far: whole paragraphs, and the fields of the one that is open, whose names aren't all compared yet.
 #[derive(Drop)]
 struct Reading {
     paragraphs: Row<Paragraph>,
@@ -71,7 +71,7 @@ impl Reading {
             Kind::Separator => self.close(alloc),
             Kind::Comment => Ok(()),
             Kind::Continuation(at, text) => self.go_on(alloc, at, text),
-            Kind::Named(at, name, text) => Ok(self.begin(alloc, at, name, text)?),
+            Kind::Named(at, name, text) => self.begin(alloc, at, name, text),
             Kind::Unknown(at) => Err(self.refusal(alloc, TextError::BadField(at))),
         }
     }
@@ -92,11 +92,24 @@ impl Reading {
 
     /// A new field.
     #[tactic(auto, using(crate::proofs::Steps::steps))]
-    fn begin(&mut self, alloc: Global, at: u64, name: &[u8], text: &[u8]) -> Result<(), NoMemory>
-        ensures { OnOk result (GoesOn (state_of self.old) (Named at name.now text.now) (state_of self.new)) }
+    fn begin(&mut self, alloc: Global, at: u64, name: &[u8], text: &[u8]) -> Result<(), TextError>
+        ensures { Takes (state_of self.old) (Named at name.now text.now) result (state_of self.new) }
     {
+        self.check_growing(alloc)?;
         self.make_room(alloc)?;
-        self.put(new_field(alloc, at, name, text)?)
+        Ok(self.put(new_field(alloc, at, name, text)?)?)
+    }
+
+    /// Compares the names of a paragraph that grows: at 4, 32, 256 fields and so on. So a name that stands again and
+    /// again is refused early, for a seventh more than comparing them once.
+    fn check_growing(&self, alloc: Global) -> Result<(), TextError>
+        ensures { IfErr result (λ fault. (fault ≡ TextError.NoMemory) ⊎ (repeated self.now.fields.items ≡ Some fault)) }
+    {
+        let count = self.fields.len();
+        if count.is_power_of_two() && count.trailing_zeros() % 3 == 2 {
+            return check_names(alloc, self.fields.as_slice());
+        }
+        Ok(())
     }
 
     /// Room for just one field at first, since a text may be of many tiny paragraphs.

@@ -3,7 +3,7 @@ use acq_base::{NoMemory, Refusal, Row, Text};
 use std::test::*;
 
 /// The refusal that a text has with comments off and on, as its number and line, or the number of its paragraphs.
-const TEXTS: [(&[u8], (u32, u64), (u32, u64)); 34] = [
+const TEXTS: [(&[u8], (u32, u64), (u32, u64)); 35] = [
     (b"", (0, 0), (0, 0)),
     (b"\n", (0, 0), (0, 0)),
     (b" \n\t\n\n", (0, 0), (0, 0)),
@@ -38,6 +38,7 @@ const TEXTS: [(&[u8], (u32, u64), (u32, u64)); 34] = [
     (b"A: 1\nb\na: 2\n", (3, 2), (3, 2)),
     (b"A: 1\na: 2\nb\n", (4, 2), (4, 2)),
     (b"A: 1\r", (0, 1), (0, 1)),
+    (b"A:\nA:\nA:\nA:\nA:\nb\n", (4, 2), (4, 2)),
 ];
 
 fn answer(rt: &HostRuntime, text: &[u8], comments: bool) -> (u32, u64) {

@@ -1,13 +1,10 @@
-//! The program `rewrite`: reads the control text of each file that it is given, and writes it again.
+//! The program `rewrite`: reads a file's control text, and writes it again in the one written form.
 //!
-//! What is read is written in the form of Debian Policy, section 5.1, so a file that has this form already comes out
-//! byte for byte. Comments are left out.
+//! A file that has the written form already comes out byte for byte. Comments are left out. It ends with status 1 where
+//! the file can't be written again, and with 2 where its words are not one file's name.
 #![tactic(auto)]
 
-ghost use Rattle.std.specs.Prelude.{◌≡◌, List, Ok, true, IfOk};
-ghost use Rattle.deb822_text.specs.declared.paragraph.Paragraph.{Paragraph};
-ghost use Rattle.deb822_text.specs.Control.{paragraphs_of};
-ghost use Rattle.deb822_text.specs.Written.{text_of};
+ghost use Rattle.rewrite.specs.Again.{IsAnswer};
 
 use acq_base::Bytes;
 use deb822_text::{TextError, read, writable, write};
@@ -18,45 +15,49 @@ use std::{env, fmt, fs};
 
 /// Why a text isn't written again.
 #[derive(Clone, Copy, Debug, PartialEq, Eq)]
-enum Refused {
-    /// It is no control text.
+pub enum Refused {
+    /// It is no control text, or memory ran out.
     Text(TextError),
-    /// A line of it can be read and not written: it ends with a carriage return, since no line feed follows.
+    /// A line of it can be read and not written: it holds a carriage return, and not just before its line feed.
     Unwritable,
-    NoMemory,
 }
 
 impl fmt::Display for Refused {
     fn fmt<W: fmt::Write>(&self, f: &mut fmt::Formatter<W>) -> fmt::Result {
         match self {
             Refused::Text(error) => write!(f, "{error}"),
-            Refused::Unwritable => f.write_str("a line can't be written"),
-            Refused::NoMemory => f.write_str("out of memory"),
+            Refused::Unwritable => f.write_str("a line holds a carriage return"),
         }
     }
 }
 
 fn main(rt: HostRuntime) -> io::Result<ExitCode> {
-    for name in env::args(&rt)?.skip(1) {
-        let text = fs::read(&rt, name.as_str())?;
-        match rewritten(rt.alloc(), text.as_slice()) {
-            Ok(again) => rt.stdout().write_all(again.as_slice())?,
-            Err(refused) => {
-                eprintln!(rt; "{name}: {refused}")?;
-                return Ok(ExitCode::FAILURE);
-            }
+    let mut words = env::args(&rt)?.skip(1);
+    let (Some(name), None) = (words.next(), words.next()) else {
+        eprintln!(rt; "usage: rewrite FILE")?;
+        return Ok(ExitCode::from(2));
+    };
+    let text = fs::read(&rt, name.as_str())?;
+    match rewritten(rt.alloc(), text.as_slice()) {
+        Ok(again) => {
+            rt.stdout().write_all(again.as_slice())?;
+            Ok(ExitCode::SUCCESS)
+        }
+        Err(refused) => {
+            eprintln!(rt; "{name}: {refused}")?;
+            Ok(ExitCode::FAILURE)
         }
     }
-    Ok(ExitCode::SUCCESS)
 }
 
-/// The written form of the paragraphs that a text is read as.
+/// The written form of the paragraphs that a text is read as. Its time grows with the square of the number of fields of
+/// one paragraph, as that of `writable` does.
 fn rewritten(alloc: Global, text: &[u8]) -> Result<Bytes, Refused>
-    ensures { IfOk result (λ again. (paragraphs : List Paragraph) × (paragraphs_of text.now true ≡ Ok paragraphs) × (again ≡ text_of paragraphs)) }
+    ensures { IsAnswer text.now result }
 {
     let paragraphs = read(alloc, text, true).map_err(Refused::Text)?;
     if !writable(&paragraphs) {
         return Err(Refused::Unwritable);
     }
-    write(alloc, &paragraphs).map_err(|_| Refused::NoMemory)
+    write(alloc, &paragraphs).map_err(|_| Refused::Text(TextError::NoMemory))
 }
