@@ -1,3 +1,4 @@
+pub mod Folder
 pub mod RealClock
 pub mod RealDisk
 pub mod RealSink

@@ -1,5 +1,7 @@
 //! What a disk does with files below its folder, each with a few calls of the system.
-ghost use Rattle.std.specs.Prelude.{◌≤◌, length, IfOk};
+ghost use Rattle.std.specs.Prelude.{◌≡◌, ◌≤◌, ◌⊎◌, ◌↔◌, [], length, codes, Contains, string_bytes, IfOk, IfErr, IsTrue, IsUtf8};
+ghost use Rattle.std.specs.IoError.{error_kind};
+ghost use Rattle.acq_real.specs.Folder.{IsInside, IsSegment, IsPathInside};
 
 use acq_base::Text;
 use std::alloc::{AllocError, Global};
@@ -11,7 +13,7 @@ use std::rt::Files;
 use std::{fs, io};
 
 /// The folder of lists on their way, as it stands before their names.
-const PARTIAL: &str = "partial/";
+const PARTIAL: &[u8] = b"partial/";
 
 /// Makes a folder, and answers whether it was missing.
 fn make_folder(rt: &impl Files, path: &str) -> io::Result<bool> {
@@ -42,21 +44,46 @@ pub fn sync_names(rt: &impl Files<File = File>, alloc: Global, folder: &str) -> 
     sync_folder(rt, folder)
 }
 
-/// The path of a file of this name. A name that may lead out of the folder is refused.
-pub fn path_of(alloc: Global, folder: &str, name: &[u8]) -> io::Result<String> {
+/// The path of a file of this name. A name that may lead out of the folder is refused, and one that isn't UTF-8.
+pub fn path_of(alloc: Global, folder: &str, name: &[u8]) -> io::Result<String>
+    ensures inside { IfOk result (λ path. IsPathInside folder.now name.now (string_bytes path)) }
+    ensures refused { IfErr result (λ error. (error_kind error ≡ ErrorKind.OutOfMemory) ⊎ ((error_kind error ≡ ErrorKind.InvalidFilename) × ¬ (IsUtf8 name.now × IsInside name.now))) }
+{
     match str::from_utf8(name) {
-        Ok(name) if is_inside(name) => Ok(format!(in alloc; "{folder}/{name}")?),
+        Ok(text) if is_inside(name) => Ok(format!(in alloc; "{folder}/{text}")?),
         _ => Err(io::Error::from(ErrorKind::InvalidFilename)),
     }
 }
 
 /// Whether a name is one segment, or one behind `partial/`.
-fn is_inside(name: &str) -> bool {
-    name != "partial" && is_segment(name.strip_prefix(PARTIAL).unwrap_or(name))
+pub fn is_inside(name: &[u8]) -> bool
+    ensures { IsTrue result ↔ IsInside name.now }
+{
+    match name.strip_prefix(PARTIAL) {
+        Some(file) => is_segment(file),
+        None => name != "partial".as_bytes() && is_segment(name),
+    }
 }
 
-fn is_segment(name: &str) -> bool {
-    !name.is_empty() && name != "." && name != ".." && !name.contains('/') && !name.contains('\0')
+/// Whether a name leads neither up nor further down.
+fn is_segment(name: &[u8]) -> bool
+    ensures { IsTrue result ↔ IsSegment name.now }
+{
+    !is_same_or_up(name) && !has(name, b'/') && !has(name, b'\0')
+}
+
+/// Whether a name stands for the folder in which it is looked up, or for the one above.
+fn is_same_or_up(name: &[u8]) -> bool
+    ensures { IsTrue result ↔ (name.now ≡ []) ⊎ (name.now ≡ codes ".") ⊎ (name.now ≡ codes "..") }
+{
+    matches!(name, b"" | b"." | b"..")
+}
+
+#[tactic(auto, using(crate::proofs::Segments::has_decides))]
+fn has(name: &[u8], byte: u8) -> bool
+    ensures { IsTrue result ↔ Contains name.now byte }
+{
+    name.contains(&byte)
 }
 
 /// The length of a plain file, `None` where nothing has the path. Anything else there is an error.
@@ -150,7 +177,7 @@ pub fn names<R: Files<File = File> + AllocGlobal + Clone + Drop>(
     folder: &str,
 ) -> io::Result<BTreeSet<Text>> {
     let mut names = BTreeSet::new(alloc);
-    add_names(rt, alloc, folder, "", &mut names)?;
+    add_names(rt, alloc, folder, b"", &mut names)?;
     let partial = format!(in alloc; "{folder}/partial")?;
     add_names(rt, alloc, partial.as_str(), PARTIAL, &mut names)?;
     Ok(names)
@@ -161,7 +188,7 @@ fn add_names<R: Files<File = File> + AllocGlobal + Clone + Drop>(
     rt: &R,
     alloc: Global,
     path: &str,
-    before: &str,
+    before: &[u8],
     names: &mut BTreeSet<Text>,
 ) -> io::Result<()> {
     for entry in fs::read_dir(rt, path)? {
@@ -187,8 +214,13 @@ fn is_plain(found: io::Result<fs::Metadata>) -> io::Result<bool> {
     }
 }
 
-fn add_name(alloc: Global, before: &str, name: &str, names: &mut BTreeSet<Text>) -> io::Result<()> {
-    let mut text = Vec::from_slice(alloc, before.as_bytes())?;
+fn add_name(
+    alloc: Global,
+    before: &[u8],
+    name: &str,
+    names: &mut BTreeSet<Text>,
+) -> io::Result<()> {
+    let mut text = Vec::from_slice(alloc, before)?;
     text.extend_from_slice(name.as_bytes())?;
     names.insert(Text::from(text)).map_err(AllocError::from)?;
     Ok(())
