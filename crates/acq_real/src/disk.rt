@@ -1,7 +1,8 @@
-ghost use Rattle.std.specs.Prelude.{◌≡◌, ◌≤◌, ◌<◌, ◌^◌, length, All, None, false, IfOk, IsErr, OnErr, MatchResult};
+ghost use Rattle.std.specs.Prelude.{◌≡◌, ◌≤◌, ◌<◌, ◌^◌, length, All, None, false, string_bytes, IfOk, IsErr, OnOk, OnErr, MatchResult};
 ghost use Rattle.acq_outside.specs.Count.{Rose};
 ghost use Rattle.acq_outside.specs.Disk.{IsName};
-ghost use Rattle.acq_real.specs.RealDisk.{faults_of};
+ghost use Rattle.acq_real.specs.Folder.{IsInside, IsPathInside};
+ghost use Rattle.acq_real.specs.RealDisk.{IsSame, faults_of, folder_of};
 
 use crate::folder;
 use acq_base::{NoMemory, Row, Text, TryCopy};
@@ -30,7 +31,8 @@ impl<R: Files<File = File> + AllocGlobal + Clone + Drop> RealDisk<R> {
     /// The disk of the folder with this path. Its first call makes the folder where the parent is there, and `partial`
     /// in it.
     pub fn new(alloc: Global, rt: R, folder: &str) -> Result<RealDisk<R>, AllocError>
-        ensures { IfOk result (λ disk. faults_of disk ≡ 0) }
+        ensures faults { IfOk result (λ disk. faults_of disk ≡ 0) }
+        ensures folder { IfOk result (λ disk. folder_of disk ≡ folder.now) }
     {
         Ok(RealDisk {
             rt,
@@ -50,6 +52,7 @@ impl<R: Files<File = File> + AllocGlobal + Clone + Drop> RealDisk<R> {
     /// The answer of the system, an error of it as a fault that is counted.
     fn counted<T: Drop>(&mut self, done: io::Result<T>) -> Result<T, Fault>
         ensures count { self.old.faults ≤ self.new.faults }
+        ensures folder { folder_of self.new ≡ folder_of self.old }
         ensures fault { OnErr result (Rose self.old.faults self.new.faults) }
         ensures answer { MatchResult result (λ value. done ≡ Ok value) (λ _. IsErr done) }
     {
@@ -64,14 +67,15 @@ impl<R: Files<File = File> + AllocGlobal + Clone + Drop> RealDisk<R> {
 
     /// The path of a file, once the folders are made.
     fn path(&mut self, name: &[u8]) -> io::Result<String>
-        ensures { self.new.faults ≡ self.old.faults }
+        ensures same { IsSame self.old self.new }
+        ensures inside { IfOk result (λ path. IsPathInside (folder_of self.old) name.now (string_bytes path)) }
     {
         self.make()?;
         folder::path_of(self.rt.alloc(), self.folder.as_str(), name)
     }
 
     fn make(&mut self) -> io::Result<()>
-        ensures { self.new.faults ≡ self.old.faults }
+        ensures { IsSame self.old self.new }
     {
         if !self.is_made {
             folder::make_folders(&self.rt, self.rt.alloc(), self.folder.as_str())?;
@@ -81,21 +85,23 @@ impl<R: Files<File = File> + AllocGlobal + Clone + Drop> RealDisk<R> {
     }
 
     fn list(&mut self, alloc: Global) -> io::Result<BTreeSet<Text>>
-        ensures { self.new.faults ≡ self.old.faults }
+        ensures { IsSame self.old self.new }
     {
         self.make()?;
         folder::names(&self.rt, alloc, self.folder.as_str())
     }
 
     fn size_of(&mut self, name: &[u8]) -> io::Result<Option<u64>>
-        ensures { self.new.faults ≡ self.old.faults }
+        ensures same { IsSame self.old self.new }
+        ensures inside { OnOk result (IsInside name.now) }
     {
         let path = self.path(name)?;
         folder::length(&self.rt, path.as_str())
     }
 
     fn read(&mut self, name: &[u8], at: u64, out: &mut [u8]) -> io::Result<usize>
-        ensures same { self.new.faults ≡ self.old.faults }
+        ensures same { IsSame self.old self.new }
+        ensures inside { OnOk result (IsInside name.now) }
         ensures within { IfOk result (λ n. n ≤ length out.old) }
     {
         let path = self.path(name)?;
@@ -103,35 +109,39 @@ impl<R: Files<File = File> + AllocGlobal + Clone + Drop> RealDisk<R> {
     }
 
     fn write(&mut self, name: &[u8], at: u64, bytes: &[u8]) -> io::Result<()>
-        ensures { self.new.faults ≡ self.old.faults }
+        ensures same { IsSame self.old self.new }
+        ensures inside { OnOk result (IsInside name.now) }
     {
         let path = self.path(name)?;
         folder::write_at(&self.rt, path.as_str(), at, bytes)
     }
 
     fn shorten(&mut self, name: &[u8], len: u64) -> io::Result<()>
-        ensures { self.new.faults ≡ self.old.faults }
+        ensures same { IsSame self.old self.new }
+        ensures inside { OnOk result (IsInside name.now) }
     {
         let path = self.path(name)?;
         folder::cut(&self.rt, path.as_str(), len)
     }
 
     fn sync_one(&mut self, name: &[u8]) -> io::Result<()>
-        ensures { self.new.faults ≡ self.old.faults }
+        ensures same { IsSame self.old self.new }
+        ensures inside { OnOk result (IsInside name.now) }
     {
         let path = self.path(name)?;
         folder::sync(&self.rt, path.as_str())
     }
 
     fn sync_all(&mut self) -> io::Result<()>
-        ensures { self.new.faults ≡ self.old.faults }
+        ensures { IsSame self.old self.new }
     {
         self.make()?;
         folder::sync_names(&self.rt, self.rt.alloc(), self.folder.as_str())
     }
 
     fn move_one(&mut self, from: &[u8], to: &[u8]) -> io::Result<()>
-        ensures { self.new.faults ≡ self.old.faults }
+        ensures same { IsSame self.old self.new }
+        ensures inside { OnOk result (IsInside from.now × IsInside to.now) }
     {
         let from = self.path(from)?;
         let to = self.path(to)?;
@@ -139,7 +149,8 @@ impl<R: Files<File = File> + AllocGlobal + Clone + Drop> RealDisk<R> {
     }
 
     fn remove_one(&mut self, name: &[u8]) -> io::Result<()>
-        ensures { self.new.faults ≡ self.old.faults }
+        ensures same { IsSame self.old self.new }
+        ensures inside { OnOk result (IsInside name.now) }
     {
         let path = self.path(name)?;
         folder::remove(&self.rt, path.as_str())
