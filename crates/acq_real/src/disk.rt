@@ -1,4 +1,4 @@
-ghost use Rattle.std.specs.Prelude.{◌≡◌, ◌≤◌, ◌<◌, ◌^◌, length, All, None, false, string_bytes, IfOk, IsErr, OnOk, OnErr, MatchResult};
+ghost use Rattle.std.specs.Prelude.{◌≡◌, ◌≤◌, ◌<◌, ◌^◌, ◌↔◌, length, All, None, false, string_bytes, IsTrue, IfOk, IsErr, OnOk, OnErr, MatchResult};
 ghost use Rattle.acq_outside.specs.Count.{Rose};
 ghost use Rattle.acq_outside.specs.Disk.{IsName};
 ghost use Rattle.acq_real.specs.Folder.{IsInside, IsPathInside};
@@ -175,7 +175,15 @@ impl<R: Files<File = File> + AllocGlobal + Clone + Drop> Disk for RealDisk<R> {
         }
     }
 
-    fn size(&mut self, name: &[u8]) -> Result<Option<u64>, Fault> {
+    fn size(&mut self, name: &[u8]) -> Result<Option<u64>, Fault>
+        requires { IsName name.now }
+        ensures count { self.old.faults ≤ self.new.faults }
+        ensures fault { OnErr result (Rose self.old.faults self.new.faults) }
+
+        // A name that may lead out of the folder is a fault.
+        ensures inside { OnOk result (IsInside name.now) }
+        ensures folder { folder_of self.new ≡ folder_of self.old }
+    {
         let size = self.size_of(name);
         self.counted(size)
     }
@@ -216,14 +224,15 @@ impl<R: Files<File = File> + AllocGlobal + Clone + Drop> Disk for RealDisk<R> {
     }
 }
 
-/// The names that a disk may have, as a row, and `NoMemory` where there are too many.
+/// The names that the other calls take, as a row, and `NoMemory` where there are too many.
 fn row_of(alloc: Global, names: &BTreeSet<Text>) -> Result<Row<Text>, NoMemory>
     ensures few { IfOk result (λ row. length row < 2 ^ 31) }
     ensures named { IfOk result (λ row. All IsName row) }
+    ensures inside { IfOk result (λ row. All IsInside row) }
 {
     let mut row = Row::new(alloc);
     for name in names {
-        if is_name(name.as_bytes()) {
+        if is_taken(name.as_bytes()) {
             row.push(name.copy(alloc)?)?;
         }
     }
@@ -231,4 +240,11 @@ fn row_of(alloc: Global, names: &BTreeSet<Text>) -> Result<Row<Text>, NoMemory>
         return Err(NoMemory);
     }
     Ok(row)
+}
+
+/// Whether the calls of a real disk take a name.
+fn is_taken(name: &[u8]) -> bool
+    ensures { IsTrue result ↔ (IsName name.now × IsInside name.now) }
+{
+    is_name(name) && folder::is_inside(name)
 }
