@@ -1,5 +1,5 @@
 -- What the tests of names say of them.
-use Rattle.std.proofs.Common.{rules, ◌≡◌, ◌∙◌, sym, subst, ap, refl, ◌≢◌, ◌⊎◌, inl, inr, ℕ, Bool, true, List, ◌∷◌, ◌++◌, drop, eqb, Contains, codes, Option, Some}
+use Rattle.std.proofs.Common.{rules, ◌≡◌, ◌∙◌, sym, subst, ap, refl, inl, inr, ℕ, Bool, List, ◌++◌, drop, eqb, Contains, codes}
 use Rattle.std.specs.Bool.{Decides}
 use Rattle.std.specs.List.{IsAnyAnswer}
 use Rattle.std.proofs.lemmas.Bool.Decides.{Decides-eqb}

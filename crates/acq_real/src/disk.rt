@@ -1,4 +1,4 @@
-ghost use Rattle.std.specs.Prelude.{◌≡◌, ◌≤◌, ◌<◌, ◌^◌, ◌↔◌, length, All, None, false, string_bytes, IsTrue, IfOk, IsErr, OnOk, OnErr, MatchResult};
+ghost use Rattle.std.specs.Prelude.{◌≡◌, ◌≤◌, ◌<◌, ◌^◌, ◌↔◌, length, All, None, false, string_bytes, IsTrue, IfOk, IsErr, OnOk, OnErr, IsErrOf, MatchResult};
 ghost use Rattle.acq_outside.specs.Count.{Rose};
 ghost use Rattle.acq_outside.specs.Disk.{IsName};
 ghost use Rattle.acq_real.specs.Folder.{IsInside, IsPathInside};
@@ -164,7 +164,17 @@ impl<R: Files<File = File> + AllocGlobal + Clone + Drop> Disk for RealDisk<R> {
 
     ghost files = { λ _ _. None };
 
-    fn names(&mut self, alloc: Global) -> Result<Row<Text>, OutError> {
+    // Beside what the trait says: a name that may lead out of the folder is a fault, no such name is listed, and the
+    // folder stays.
+
+    fn names(&mut self, alloc: Global) -> Result<Row<Text>, OutError>
+        ensures count { self.old.faults ≤ self.new.faults }
+        ensures fault { IsErrOf result OutError.Fault → Rose self.old.faults self.new.faults }
+        ensures few { IfOk result (λ names. length names < 2 ^ 31) }
+        ensures named { IfOk result (λ names. All IsName names) }
+        ensures inside { IfOk result (λ names. All IsInside names) }
+        ensures folder { folder_of self.new ≡ folder_of self.old }
+    {
         match self.list(alloc) {
             Ok(names) => Ok(row_of(alloc, &names)?),
             Err(error) if error.kind() == ErrorKind::OutOfMemory => Err(OutError::NoMemory),
@@ -176,11 +186,8 @@ impl<R: Files<File = File> + AllocGlobal + Clone + Drop> Disk for RealDisk<R> {
     }
 
     fn size(&mut self, name: &[u8]) -> Result<Option<u64>, Fault>
-        requires { IsName name.now }
         ensures count { self.old.faults ≤ self.new.faults }
         ensures fault { OnErr result (Rose self.old.faults self.new.faults) }
-
-        // A name that may lead out of the folder is a fault.
         ensures inside { OnOk result (IsInside name.now) }
         ensures folder { folder_of self.new ≡ folder_of self.old }
     {
@@ -188,37 +195,72 @@ impl<R: Files<File = File> + AllocGlobal + Clone + Drop> Disk for RealDisk<R> {
         self.counted(size)
     }
 
-    fn read_at(&mut self, name: &[u8], at: u64, out: &mut [u8]) -> Result<usize, Fault> {
+    fn read_at(&mut self, name: &[u8], at: u64, out: &mut [u8]) -> Result<usize, Fault>
+        ensures count { self.old.faults ≤ self.new.faults }
+        ensures fault { OnErr result (Rose self.old.faults self.new.faults) }
+        ensures within { IfOk result (λ n. n ≤ length out.old) }
+        ensures inside { OnOk result (IsInside name.now) }
+        ensures folder { folder_of self.new ≡ folder_of self.old }
+    {
         let read = self.read(name, at, out);
         self.counted(read)
     }
 
-    fn write_at(&mut self, name: &[u8], at: u64, bytes: &[u8]) -> Result<(), Fault> {
+    fn write_at(&mut self, name: &[u8], at: u64, bytes: &[u8]) -> Result<(), Fault>
+        ensures count { self.old.faults ≤ self.new.faults }
+        ensures fault { OnErr result (Rose self.old.faults self.new.faults) }
+        ensures inside { OnOk result (IsInside name.now) }
+        ensures folder { folder_of self.new ≡ folder_of self.old }
+    {
         let written = self.write(name, at, bytes);
         self.counted(written)
     }
 
-    fn cut(&mut self, name: &[u8], len: u64) -> Result<(), Fault> {
+    fn cut(&mut self, name: &[u8], len: u64) -> Result<(), Fault>
+        ensures count { self.old.faults ≤ self.new.faults }
+        ensures fault { OnErr result (Rose self.old.faults self.new.faults) }
+        ensures inside { OnOk result (IsInside name.now) }
+        ensures folder { folder_of self.new ≡ folder_of self.old }
+    {
         let cut = self.shorten(name, len);
         self.counted(cut)
     }
 
-    fn sync(&mut self, name: &[u8]) -> Result<(), Fault> {
+    fn sync(&mut self, name: &[u8]) -> Result<(), Fault>
+        ensures count { self.old.faults ≤ self.new.faults }
+        ensures fault { OnErr result (Rose self.old.faults self.new.faults) }
+        ensures inside { OnOk result (IsInside name.now) }
+        ensures folder { folder_of self.new ≡ folder_of self.old }
+    {
         let synced = self.sync_one(name);
         self.counted(synced)
     }
 
-    fn rename(&mut self, from: &[u8], to: &[u8]) -> Result<(), Fault> {
+    fn rename(&mut self, from: &[u8], to: &[u8]) -> Result<(), Fault>
+        ensures count { self.old.faults ≤ self.new.faults }
+        ensures fault { OnErr result (Rose self.old.faults self.new.faults) }
+        ensures inside { OnOk result (IsInside from.now × IsInside to.now) }
+        ensures folder { folder_of self.new ≡ folder_of self.old }
+    {
         let moved = self.move_one(from, to);
         self.counted(moved)
     }
 
-    fn remove(&mut self, name: &[u8]) -> Result<(), Fault> {
+    fn remove(&mut self, name: &[u8]) -> Result<(), Fault>
+        ensures count { self.old.faults ≤ self.new.faults }
+        ensures fault { OnErr result (Rose self.old.faults self.new.faults) }
+        ensures inside { OnOk result (IsInside name.now) }
+        ensures folder { folder_of self.new ≡ folder_of self.old }
+    {
         let removed = self.remove_one(name);
         self.counted(removed)
     }
 
-    fn sync_names(&mut self) -> Result<(), Fault> {
+    fn sync_names(&mut self) -> Result<(), Fault>
+        ensures count { self.old.faults ≤ self.new.faults }
+        ensures fault { OnErr result (Rose self.old.faults self.new.faults) }
+        ensures folder { folder_of self.new ≡ folder_of self.old }
+    {
         let synced = self.sync_all();
         self.counted(synced)
     }

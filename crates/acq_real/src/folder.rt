@@ -79,6 +79,7 @@ fn is_same_or_up(name: &[u8]) -> bool
     matches!(name, b"" | b"." | b"..")
 }
 
+/// Whether a byte stands in a name.
 #[tactic(auto, using(crate::proofs::Segments::has_decides))]
 fn has(name: &[u8], byte: u8) -> bool
     ensures { IsTrue result ↔ Contains name.now byte }

@@ -1,7 +1,7 @@
 //! The outside as the operating system has it: a folder of lists, a clock and an output.
 //!
 //! These adapters are the trusted edge. They tell no content; what is proved of them is that a fault comes only where
-//! their count of faults rose.
+//! their count of faults rose, and that the disk takes no name that may lead out of its folder.
 #![tactic(auto)]
 
 pub use clock::RealClock;
