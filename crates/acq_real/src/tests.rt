@@ -12,6 +12,22 @@ const FOLDER: &[u8] = b"sub";
 
 const ABOVE: &[u8] = b"../a_list";
 
+/// Names that lead out of the folder, to no file in it, or nowhere.
+const OUTSIDE: [&[u8]; 12] = [
+    b"",
+    b".",
+    b"..",
+    b"/a_list",
+    b"sub/a_list",
+    b"a_list/",
+    b"a\0list",
+    b"partial",
+    b"partial/",
+    b"partial/..",
+    b"partial/../a_list",
+    b"partial/sub/a_list",
+];
+
 /// A path of this test's own, at which there is nothing.
 fn own_path(rt: &HostRuntime, name: &str) -> Result<String, Fail> {
     let alloc = rt.alloc();
@@ -58,6 +74,10 @@ fn a_folder_in_place_of_a_file_and_a_name_outside_are_faults(rt: HostRuntime) ->
     assert_eq!(rt; disk.faults(), 1);
     assert_eq!(rt; write_whole(&mut disk, ABOVE, b"x"), Err(Fault));
     assert_eq!(rt; disk.faults(), 2);
+    for name in OUTSIDE {
+        assert_eq!(rt; disk.size(name), Err(Fault));
+    }
+    assert_eq!(rt; disk.faults(), 14);
     assert_eq!(rt; disk.names(alloc)?.len(), 0);
     fs::remove_dir_all(&rt, folder.as_str())?;
     Ok(())
