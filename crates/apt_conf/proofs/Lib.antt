@@ -8,3 +8,4 @@ pub mod LookupLemmas
 pub mod SettingLemmas
 pub mod GrammarLemmas
 pub mod TreeLemmas
+pub mod PieceLemmas
