@@ -1,16 +1,15 @@
 -- A text that is written piece by piece is cut into the tokens of its pieces.
-use Rattle.std.proofs.Common.{◌≡◌, ◌≢◌, ◌⊎◌, inl, inr, ℕ, zero, suc, ◌+◌, ◌-◌, ◌<◌, ◌≤◌, Bool, true, false, not, ◌&&◌, ◌||◌, List, [], ◌∷◌, ◌++◌, length, take, drop, All, refl, sym, ap, ◌∙◌, subst, append_assoc, length-append, arith}
+use Rattle.std.proofs.Common.{◌≡◌, ◌≢◌, ◌⊎◌, inl, inr, ℕ, zero, suc, ◌+◌, ◌-◌, Bool, true, false, not, ◌&&◌, ◌||◌, List, [], ◌∷◌, ◌++◌, length, take, drop, All, refl, ap, ◌∙◌, append_assoc, length-append, arith}
 use Rattle.std.specs.Prelude.{if◌then◌else◌, ◌==◌, nat_le, slice_index}
-use Rattle.std.proofs.lemmas.Bool.{cases_Bool}
 use Rattle.std.proofs.lemmas.Bool.Decides.{nat_tests}
-use Rattle.std.proofs.lemmas.List.{append-nil, take_at, drop_at}
+use Rattle.std.proofs.lemmas.List.{take_at, drop_at}
 use Rattle.apt_conf.specs.declared.token.Token.{Token}
 use Rattle.apt_conf.specs.declared.token.Token.TheVariants.{Word, Quoted, Semicolon, Open, Close, Torn}
 use Rattle.apt_conf.specs.declared.lexeme.Lexeme.{Lexeme}
 use Rattle.apt_conf.specs.declared.lexeme.Lexeme.TheVariants as lexemes
 use Rattle.apt_conf.specs.Lexemes.{length_until, is_space, is_line_end, is_feed, is_delimiter, opens_comment, closes_comment, closes_quote, ends_word, is_boundary, is_command, line_comment, block_comment, comment_at, quoted_at, word_at, token_at, lexeme_at, extent}
-use Rattle.apt_conf.specs.Tokens.{Placed, next_line, last_line, line_behind, token_of, tokens_from, tokens_of}
-use Rattle.apt_conf.specs.Pieces.{Piece, space, line_end, hash_comment, slash_comment, closed_comment, token, EachPair, IsWordByte, NothingBegins, IsWord, IsQuotable, EndsLine, IsToken, IsPiece, ArePieces, token_text, piece_text, text_of, token_in, tokens_in}
+use Rattle.apt_conf.specs.Tokens.{Placed, next_line, last_line, line_behind, placed, token_of, tokens_from, tokens_of}
+use Rattle.apt_conf.specs.Pieces.{Piece, space, line_end, hash_comment, slash_comment, closed_comment, token, EachPair, IsWordByte, NothingBegins, IsWord, IsQuotable, EndsLine, IsToken, IsPiece, ArePieces, token_text, piece_text, text_of, is_word_piece, token_in, tokens_in, IsWritten}
 
 -- ---- passing over bytes
 
@@ -221,26 +220,71 @@ cut_quoted last line text t h =
     ∙ ap (λ (l : Lexeme). token_of last line l (34 ∷ (text ++ 34 ∷ []) ++ t) ++ behind) e
     ∙ ap (λ (l : List ℕ). record { line = line; token = Quoted l } ∷ behind) kept
 
--- a word, and with it the `#` comment that ends it
-cut_word : (last line c : ℕ) (w t : List ℕ) → IsWord (c ∷ w) t → ends_word t ≡ true → ((l : ℕ) → tokens_from last l (hash_length t) t ≡ tokens_from last l 0 t)
-    → tokens_from last line 0 (c ∷ w ++ t) ≡ record { line = line; token = Word (c ∷ w) } ∷ tokens_from last (line_behind line (c ∷ w)) 0 t
-cut_word last line c w t h e passes =
+-- a word; the `#` comment that ends it, if one does, is passed over with it
+cut_word : (last line c : ℕ) (w t : List ℕ) → IsWord (c ∷ w) t → ends_word t ≡ true
+    → tokens_from last line 0 (c ∷ w ++ t) ≡ record { line = line; token = Word (c ∷ w) } ∷ tokens_from last (line_behind line (c ∷ w)) (hash_length t) t
+cut_word last line c w t h e =
     let l : lexeme_at (c ∷ w ++ t) ≡ lexemes.Word (length w + 1) (hash_length t) = at_word c w t h e in
     let count : extent (lexeme_at (c ∷ w ++ t)) ≡ length w + hash_length t + 1 = ap extent l ∙ omega arith in
     let kept : take (length w + 1) (c ∷ w ++ t) ≡ c ∷ w = take_at (c ∷ w) t (length w + 1) (omega arith) in
+    let behind = tokens_from last (line_behind line (c ∷ w)) (hash_length t) t in
     cut_front last line (hash_length t) c w t count
-    ∙ ap (λ (ts : List Placed). token_of last line (lexeme_at (c ∷ w ++ t)) (c ∷ w ++ t) ++ ts) (passes (line_behind line (c ∷ w)))
-    ∙ ap (λ (x : Lexeme). token_of last line x (c ∷ w ++ t) ++ tokens_from last (line_behind line (c ∷ w)) 0 t) l
-    ∙ ap (λ (l : List ℕ). record { line = line; token = Word l } ∷ tokens_from last (line_behind line (c ∷ w)) 0 t) kept
+    ∙ ap (λ (x : Lexeme). token_of last line x (c ∷ w ++ t) ++ behind) l
+    ∙ ap (λ (l : List ℕ). record { line = line; token = Word l } ∷ behind) kept
+
+-- a mark
+cut_mark : (last line c : ℕ) (t : List ℕ) (found : Token) (l : Lexeme) → lexeme_at (c ∷ t) ≡ l → extent l ≡ 1 → token_of last line l (c ∷ t) ≡ record { line = line; token = found } ∷ []
+    → tokens_from last line 0 (c ∷ t) ≡ record { line = line; token = found } ∷ tokens_from last (line_behind line (c ∷ [])) 0 t
+cut_mark last line c t found l e one gives =
+    cut_front last line 0 c [] t (ap extent e ∙ one)
+    ∙ ap (λ (x : Lexeme). token_of last line x (c ∷ t) ++ tokens_from last (line_behind line (c ∷ [])) 0 t) e
+    ∙ ap (λ (ts : List Placed). ts ++ tokens_from last (line_behind line (c ∷ [])) 0 t) gives
 
 -- ---- pieces one behind the other
+
+-- how much of a text is passed over already: behind a word the `#` comment that ends it
+abbrev passed : Bool → List ℕ → ℕ
+passed behind_word t = if behind_word then hash_length t else 0
+
+abbrev Cut : ℕ → ℕ → ℕ → Piece → List ℕ → Type 0
+Cut last line n piece t =
+    tokens_from last line n (piece_text piece ++ t) ≡ placed line (token_in piece) ++ tokens_from last (line_behind line (piece_text piece)) (passed (is_word_piece piece) t) t
+
+piece_cut : (last line : ℕ) (piece : Piece) (t : List ℕ) → IsPiece false piece t → (is_word_piece piece ≡ true → ends_word t ≡ true) → Cut last line 0 piece t
+unfolding piece_text token_text IsPiece IsToken lexeme_at token_at
+piece_cut last line (space c) t h e = cut_gap last line c [] t (at_space c t h)
+piece_cut last line line_end t h e = cut_gap last line 13 (10 ∷ []) t refl
+piece_cut last line (hash_comment text) t h e = cut_hash last line text t h.0 h.1 (h.2 refl)
+piece_cut last line (slash_comment text) t h e = cut_slashes last line text t h.0 h.1
+piece_cut last line (closed_comment text) t h e = cut_closed last line text t h
+piece_cut last line (token (Word [])) t h e = absurd (h.1.0 refl)
+piece_cut last line (token (Word (c ∷ w))) t h e = cut_word last line c w t h.1 (e refl)
+piece_cut last line (token (Quoted text)) t h e = cut_quoted last line text t h
+piece_cut last line (token Semicolon) t h e = cut_mark last line 59 t Semicolon lexemes.Semicolon refl refl refl
+piece_cut last line (token Open) t h e = cut_mark last line 123 t Open lexemes.Open refl refl refl
+piece_cut last line (token Close) t h e = cut_mark last line 125 t Close lexemes.Close refl refl refl
+piece_cut last line (token Torn) t h e = absurd h
 
 hash_end : (text t : List ℕ) → All (λ c. c ≢ 10) text → EndsLine t → length_until is_feed (35 ∷ text ++ t) ≡ length (35 ∷ text) + 0
 unfolding length_until
 hash_end text t h e = omega (arith, line_end_at text t h e)
 
-abbrev NoWord : List Piece → Type 0
-NoWord behind = (word : List ℕ) (more : List Piece) → behind ≢ token (Word word) ∷ more
+-- directly behind a word
+piece_cut_behind : (last line : ℕ) (piece : Piece) (t : List ℕ) → IsPiece true piece t → Cut last line (hash_length (piece_text piece ++ t)) piece t
+unfolding piece_text token_text IsPiece IsToken
+piece_cut_behind last line (space c) t (inl e) = rw e (piece_cut last line (space 32) t (inl refl) (λ f. absurd cc))
+piece_cut_behind last line (space c) t (inr (inl e)) = rw e (piece_cut last line (space 9) t (inr (inl refl)) (λ f. absurd cc))
+piece_cut_behind last line (space c) t (inr (inr e)) = rw e (piece_cut last line (space 10) t (inr (inr refl)) (λ f. absurd cc))
+piece_cut_behind last line line_end t h = piece_cut last line line_end t tt (λ f. absurd cc)
+piece_cut_behind last line (hash_comment text) t h = pass last line 0 (length_until is_feed (35 ∷ text ++ t)) (35 ∷ text) t (hash_end text t h.0 h.1)
+piece_cut_behind last line (slash_comment text) t h = piece_cut last line (slash_comment text) t h (λ f. absurd cc)
+piece_cut_behind last line (closed_comment text) t h = piece_cut last line (closed_comment text) t h (λ f. absurd cc)
+piece_cut_behind last line (token (Word w)) t h = absurd cc
+piece_cut_behind last line (token (Quoted text)) t h = piece_cut last line (token (Quoted text)) t h (λ f. absurd cc)
+piece_cut_behind last line (token Semicolon) t h = piece_cut last line (token Semicolon) t tt (λ f. absurd cc)
+piece_cut_behind last line (token Open) t h = piece_cut last line (token Open) t tt (λ f. absurd cc)
+piece_cut_behind last line (token Close) t h = piece_cut last line (token Close) t tt (λ f. absurd cc)
+piece_cut_behind last line (token Torn) t h = absurd h
 
 ends_at : (c : ℕ) (t : List ℕ) → ((is_space (c ∷ t) || is_line_end (c ∷ t) || is_delimiter (c ∷ t)) || opens_comment (c ∷ t)) ≡ true → ends_word (c ∷ t) ≡ true
 unfolding ends_word is_boundary
@@ -248,71 +292,44 @@ ends_at c t h =
     let some : (length (c ∷ t) == 0) ≡ false = grind (arith, nat_tests) in
     rw some h
 
-end_ends : ends_word [] ≡ true
-unfolding ends_word is_boundary
-end_ends = refl
+ends_before_piece : (piece : Piece) (t : List ℕ) → IsPiece true piece t → ends_word (piece_text piece ++ t) ≡ true
+unfolding piece_text token_text IsPiece IsToken
+ends_before_piece (space c) t (inl e) = ends_at c t (rw e refl)
+ends_before_piece (space c) t (inr (inl e)) = ends_at c t (rw e refl)
+ends_before_piece (space c) t (inr (inr e)) = ends_at c t (rw e refl)
+ends_before_piece line_end t h = ends_at 13 (10 ∷ t) refl
+ends_before_piece (hash_comment text) t h = ends_at 35 (text ++ t) refl
+ends_before_piece (slash_comment text) t h = ends_at 47 (47 ∷ text ++ t) refl
+ends_before_piece (closed_comment text) t h = ends_at 47 (42 ∷ (text ++ 42 ∷ 47 ∷ []) ++ t) refl
+ends_before_piece (token (Word text)) t h = absurd cc
+ends_before_piece (token (Quoted text)) t h = ends_at 34 ((text ++ 34 ∷ []) ++ t) refl
+ends_before_piece (token Semicolon) t h = ends_at 59 t refl
+ends_before_piece (token Open) t h = ends_at 123 t refl
+ends_before_piece (token Close) t h = ends_at 125 t refl
+ends_before_piece (token Torn) t h = absurd h
 
--- a word ends before what is no word
-ends_before : (behind : List Piece) → ArePieces behind → NoWord behind → ends_word (text_of behind) ≡ true
-unfolding text_of piece_text token_text ArePieces IsPiece IsToken
-ends_before [] h other = end_ends
-ends_before (space c ∷ more) (inl e, h) other = ends_at c (text_of more) (rw e refl)
-ends_before (space c ∷ more) (inr (inl e), h) other = ends_at c (text_of more) (rw e refl)
-ends_before (space c ∷ more) (inr (inr e), h) other = ends_at c (text_of more) (rw e refl)
-ends_before (line_end ∷ more) h other = ends_at 13 (10 ∷ text_of more) refl
-ends_before (hash_comment text ∷ more) h other = ends_at 35 (text ++ text_of more) refl
-ends_before (slash_comment text ∷ more) h other = ends_at 47 (47 ∷ text ++ text_of more) refl
-ends_before (closed_comment text ∷ more) h other = ends_at 47 (42 ∷ (text ++ 42 ∷ 47 ∷ []) ++ text_of more) refl
-ends_before (token (Word text) ∷ more) h other = absurd (other text more refl)
-ends_before (token (Quoted text) ∷ more) h other = ends_at 34 ((text ++ 34 ∷ []) ++ text_of more) refl
-ends_before (token Semicolon ∷ more) h other = ends_at 59 (text_of more) refl
-ends_before (token Open ∷ more) h other = ends_at 123 (text_of more) refl
-ends_before (token Close ∷ more) h other = ends_at 125 (text_of more) refl
-ends_before (token Torn ∷ more) h other = absurd h.0
+-- a word ends before what may stand behind it
+ends_before : (pieces : List Piece) → ArePieces true pieces → ends_word (text_of pieces) ≡ true
+unfolding text_of ArePieces ends_word is_boundary
+ends_before [] h = refl
+ends_before (piece ∷ behind) h = ends_before_piece piece (text_of behind) h.0
 
--- of the comment that a word takes with it come no tokens
-passes_hash : (last line : ℕ) (behind : List Piece) → ArePieces behind → NoWord behind → tokens_from last line (hash_length (text_of behind)) (text_of behind) ≡ tokens_from last line 0 (text_of behind)
-unfolding text_of piece_text token_text ArePieces IsPiece IsToken
-passes_hash last line [] h other = refl
-passes_hash last line (space c ∷ more) (inl e, h) other = rw e refl
-passes_hash last line (space c ∷ more) (inr (inl e), h) other = rw e refl
-passes_hash last line (space c ∷ more) (inr (inr e), h) other = rw e refl
-passes_hash last line (line_end ∷ more) h other = refl
-passes_hash last line (hash_comment text ∷ more) h other =
-    pass last line 0 (length_until is_feed (35 ∷ text ++ text_of more)) (35 ∷ text) (text_of more) (hash_end text (text_of more) h.0.0 h.0.1)
-    ∙ sym (cut_hash last line text (text_of more) h.0.0 h.0.1 h.0.2)
-passes_hash last line (slash_comment text ∷ more) h other = refl
-passes_hash last line (closed_comment text ∷ more) h other = refl
-passes_hash last line (token (Word text) ∷ more) h other = absurd (other text more refl)
-passes_hash last line (token (Quoted text) ∷ more) h other = refl
-passes_hash last line (token Semicolon ∷ more) h other = refl
-passes_hash last line (token Open ∷ more) h other = refl
-passes_hash last line (token Close ∷ more) h other = refl
-passes_hash last line (token Torn ∷ more) h other = absurd h.0
+ends_behind : (word : Bool) (pieces : List Piece) → ArePieces word pieces → word ≡ true → ends_word (text_of pieces) ≡ true
+ends_behind true pieces h e = ends_before pieces h
+ends_behind false pieces h e = absurd cc
 
-cut : (last line : ℕ) (pieces : List Piece) → ArePieces pieces → tokens_from last line 0 (text_of pieces) ≡ tokens_in line pieces
-unfolding tokens_from lexeme_at token_at text_of piece_text token_text ArePieces IsPiece IsToken tokens_in
-cut last line [] h = refl
-cut last line (space c ∷ behind) h = cut_gap last line c [] (text_of behind) (at_space c (text_of behind) h.0) ∙ cut last (line_behind line (c ∷ [])) behind h.1
-cut last line (line_end ∷ behind) h = cut_gap last line 13 (10 ∷ []) (text_of behind) refl ∙ cut last (line_behind line (13 ∷ 10 ∷ [])) behind h.1
-cut last line (hash_comment text ∷ behind) h = cut_hash last line text (text_of behind) h.0.0 h.0.1 h.0.2 ∙ cut last (line_behind line (35 ∷ text)) behind h.1
-cut last line (slash_comment text ∷ behind) h = cut_slashes last line text (text_of behind) h.0.0 h.0.1 ∙ cut last (line_behind line (47 ∷ 47 ∷ text)) behind h.1
-cut last line (closed_comment text ∷ behind) h = cut_closed last line text (text_of behind) h.0 ∙ cut last (line_behind line (47 ∷ 42 ∷ text ++ 42 ∷ 47 ∷ [])) behind h.1
-cut last line (token (Word []) ∷ behind) h = absurd (h.0.0.0 refl)
-cut last line (token (Word (c ∷ w)) ∷ behind) h =
-    cut_word last line c w (text_of behind) h.0.0 (ends_before behind h.1 h.0.1) (λ l. passes_hash last l behind h.1 h.0.1)
-    ∙ ap (λ (ts : List Placed). record { line = line; token = Word (c ∷ w) } ∷ ts) (cut last (line_behind line (c ∷ w)) behind h.1)
-cut last line (token (Quoted text) ∷ behind) h =
-    cut_quoted last line text (text_of behind) h.0
-    ∙ ap (λ (ts : List Placed). record { line = line; token = Quoted text } ∷ ts) (cut last (line_behind line (34 ∷ text ++ 34 ∷ [])) behind h.1)
-cut last line (token Semicolon ∷ behind) h =
-    cut_front last line 0 59 [] (text_of behind) refl ∙ ap (λ (ts : List Placed). record { line = line; token = Semicolon } ∷ ts) (cut last (line_behind line (59 ∷ [])) behind h.1)
-cut last line (token Open ∷ behind) h =
-    cut_front last line 0 123 [] (text_of behind) refl ∙ ap (λ (ts : List Placed). record { line = line; token = Open } ∷ ts) (cut last (line_behind line (123 ∷ [])) behind h.1)
-cut last line (token Close ∷ behind) h =
-    cut_front last line 0 125 [] (text_of behind) refl ∙ ap (λ (ts : List Placed). record { line = line; token = Close } ∷ ts) (cut last (line_behind line (125 ∷ [])) behind h.1)
-cut last line (token Torn ∷ behind) h = absurd h.0
+front_cut : (last line : ℕ) (word : Bool) (piece : Piece) (t : List ℕ) → IsPiece word piece t → (is_word_piece piece ≡ true → ends_word t ≡ true) → Cut last line (passed word (piece_text piece ++ t)) piece t
+front_cut last line true piece t h e = piece_cut_behind last line piece t h
+front_cut last line false piece t h e = piece_cut last line piece t h e
+
+cut : (last line : ℕ) (word : Bool) (pieces : List Piece) → ArePieces word pieces → tokens_from last line (passed word (text_of pieces)) (text_of pieces) ≡ tokens_in line pieces
+unfolding tokens_from text_of ArePieces tokens_in
+cut last line true [] h = refl
+cut last line false [] h = refl
+cut last line word (piece ∷ behind) h =
+    front_cut last line word piece (text_of behind) h.0 (ends_behind (is_word_piece piece) behind h.1)
+    ∙ ap (λ (ts : List Placed). placed line (token_in piece) ++ ts) (cut last (line_behind line (piece_text piece)) (is_word_piece piece) behind h.1)
 
 -- a text that is written piece by piece has the tokens of its pieces
-pub pieces_cut : (text : List ℕ) (pieces : List Piece) → ArePieces pieces → text ≡ text_of pieces → tokens_of text ≡ tokens_in 1 pieces
-pieces_cut text pieces h e = ap (λ (t : List ℕ). tokens_of t) e ∙ cut (last_line (text_of pieces)) 1 pieces h
+pub written_tokens : (text : List ℕ) (pieces : List Piece) → IsWritten text pieces → tokens_of text ≡ tokens_in 1 pieces
+written_tokens text pieces h = ap (λ (t : List ℕ). tokens_of t) h.0 ∙ cut (last_line (text_of pieces)) 1 false pieces h.1

@@ -1,5 +1,5 @@
 -- Texts of apt.conf(5) that are written piece by piece: white space, comments and tokens, one behind the other.
-use Rattle.std.specs.Prelude.{◌≡◌, ◌≢◌, ◌⊎◌, ℕ, false, List, [], ◌∷◌, ◌++◌, take, slice_index, Option, Some, None, All}
+use Rattle.std.specs.Prelude.{◌≡◌, ◌≢◌, ◌⊎◌, ℕ, Bool, true, false, List, [], ◌∷◌, ◌++◌, take, slice_index, Option, Some, None, All}
 use Rattle.apt_conf.specs.declared.token.Token.{Token}
 use Rattle.apt_conf.specs.declared.token.Token.TheVariants.{Word, Quoted, Semicolon, Open, Close, Torn}
 use Rattle.apt_conf.specs.Lexemes.{is_command}
@@ -65,27 +65,45 @@ IsQuotable text = All (λ c. c ≢ 10) text × EachPair (λ c d. d ≡ 34 → c 
 abbrev pub EndsLine : List ℕ → Type 0
 EndsLine behind = (behind ≡ []) ⊎ (slice_index behind 0 ≡ 10)
 
-unfoldable pub IsToken : Token → List Piece → Type 0
-IsToken (Word text) behind = IsWord text (text_of behind) × ((word : List ℕ) (more : List Piece) → behind ≢ token (Word word) ∷ more)
-IsToken (Quoted text) behind = IsQuotable text
-IsToken Semicolon behind = Unit {0}
-IsToken Open behind = Unit {0}
-IsToken Close behind = Unit {0}
-IsToken Torn behind = ⊥
+-- a token that may stand here, directly behind a word or not: no word stands directly behind a word
+unfoldable pub IsToken : Bool → Token → List ℕ → Type 0
+IsToken behind_word (Word text) behind = (behind_word ≡ false) × IsWord text behind
+IsToken behind_word (Quoted text) behind = IsQuotable text
+IsToken behind_word Semicolon behind = Unit {0}
+IsToken behind_word Open behind = Unit {0}
+IsToken behind_word Close behind = Unit {0}
+IsToken behind_word Torn behind = ⊥
 
--- a piece that is one before those behind it: a comment to the line's end holds no line feed and stands before one or at
--- the end, no `#` begins a command, a comment between `/*` and `*/` holds no `*/`, and no word stands behind a word
-unfoldable pub IsPiece : Piece → List Piece → Type 0
-IsPiece (space c) behind = (c ≡ 32) ⊎ ((c ≡ 9) ⊎ (c ≡ 10))
-IsPiece line_end behind = Unit {0}
-IsPiece (hash_comment text) behind = All (λ c. c ≢ 10) text × EndsLine (text_of behind) × (is_command (35 ∷ text ++ text_of behind) ≡ false)
-IsPiece (slash_comment text) behind = All (λ c. c ≢ 10) text × EndsLine (text_of behind)
-IsPiece (closed_comment text) behind = EachPair (λ c d. c ≡ 42 → d ≢ 47) text
-IsPiece (token t) behind = IsToken t behind
+-- a piece that may stand here, before this text: a comment to the line's end has no line feed in it and one or the text's
+-- end behind it, a `#` begins no command but directly behind a word, and no `*/` stands in a comment between `/*` and `*/`
+unfoldable pub IsPiece : Bool → Piece → List ℕ → Type 0
+IsPiece behind_word (space c) behind = (c ≡ 32) ⊎ ((c ≡ 9) ⊎ (c ≡ 10))
+IsPiece behind_word line_end behind = Unit {0}
+IsPiece behind_word (hash_comment text) behind =
+    All (λ c. c ≢ 10) text × EndsLine behind × (behind_word ≡ false → is_command (35 ∷ text ++ behind) ≡ false)
+IsPiece behind_word (slash_comment text) behind = All (λ c. c ≢ 10) text × EndsLine behind
+IsPiece behind_word (closed_comment text) behind = EachPair (λ c d. c ≡ 42 → d ≢ 47) text
+IsPiece behind_word (token t) behind = IsToken behind_word t behind
 
-unfoldable pub ArePieces : List Piece → Type 0
-ArePieces [] = Unit {0}
-ArePieces (piece ∷ behind) = IsPiece piece behind × ArePieces behind
+abbrev pub is_word_token : Token → Bool
+is_word_token (Word text) = true
+is_word_token (Quoted text) = false
+is_word_token Semicolon = false
+is_word_token Open = false
+is_word_token Close = false
+is_word_token Torn = false
+
+abbrev pub is_word_piece : Piece → Bool
+is_word_piece (space c) = false
+is_word_piece line_end = false
+is_word_piece (hash_comment text) = false
+is_word_piece (slash_comment text) = false
+is_word_piece (closed_comment text) = false
+is_word_piece (token t) = is_word_token t
+
+unfoldable pub ArePieces : Bool → List Piece → Type 0
+ArePieces behind_word [] = Unit {0}
+ArePieces behind_word (piece ∷ behind) = IsPiece behind_word piece (text_of behind) × ArePieces (is_word_piece piece) behind
 
 -- ---- their tokens, each on the line on which it begins
 
@@ -100,3 +118,7 @@ token_in (token t) = Some t
 unfoldable pub tokens_in : ℕ → List Piece → List Placed
 tokens_in line [] = []
 tokens_in line (piece ∷ behind) = placed line (token_in piece) ++ tokens_in (line_behind line (piece_text piece)) behind
+
+-- a text that is written in these pieces, from its beginning to its end
+abbrev pub IsWritten : List ℕ → List Piece → Type 0
+IsWritten text pieces = (text ≡ text_of pieces) × ArePieces false pieces
