@@ -9,3 +9,5 @@ pub mod SettingLemmas
 pub mod GrammarLemmas
 pub mod TreeLemmas
 pub mod PieceLemmas
+pub mod FindLemmas
+pub mod WrittenLemmas

@@ -132,7 +132,7 @@ index_behind [] t n e = rw e refl
 index_behind (c ∷ text) t zero e = absurd (omega arith)
 index_behind (c ∷ text) t (suc n) e = index_behind text t n (omega arith)
 
-begins_quoted : (r : List ℕ) → lexeme_at (34 ∷ r) ≡ quoted_at (34 ∷ r)
+pub begins_quoted : (r : List ℕ) → lexeme_at (34 ∷ r) ≡ quoted_at (34 ∷ r)
 unfolding lexeme_at token_at
 begins_quoted r = refl
 
@@ -140,7 +140,7 @@ quoted_if : (text : List ℕ) (n : ℕ) → length_until closes_quote text ≡ n
 unfolding quoted_at
 quoted_if text n e q = rw (e, q) refl
 
-same_head : (a b : ℕ) (l m : List ℕ) → a ∷ l ≡ b ∷ m → a ≡ b
+pub same_head : (a b : ℕ) (l m : List ℕ) → a ∷ l ≡ b ∷ m → a ≡ b
 same_head a b l m e = cc
 
 no_end_behind : (text : List ℕ) → ((front : List ℕ) → text ≢ front ++ 92 ∷ []) → (front : List ℕ) → 34 ∷ text ≢ front ++ 92 ∷ []
@@ -166,7 +166,7 @@ begins_word c r h b =
     rw (blank, ending, comment, quote, semicolon, left, right) refl
 
 -- the `#` comment that ends a word
-abbrev hash_length : List ℕ → ℕ
+abbrev pub hash_length : List ℕ → ℕ
 hash_length t = if slice_index t 0 == 35 then length_until is_feed t else 0
 
 word_if : (r : List ℕ) (c n m : ℕ) (t : List ℕ) → length_until ends_word r ≡ n → slice_index (c ∷ r) (n + 1) ≡ slice_index t 0 → drop (n + 1) (c ∷ r) ≡ t → word_at (c ∷ r) ≡ lexemes.Word (n + 1) (hash_length t)
@@ -243,10 +243,10 @@ cut_mark last line c t found l e one gives =
 -- ---- pieces one behind the other
 
 -- how much of a text is passed over already: behind a word the `#` comment that ends it
-abbrev passed : Bool → List ℕ → ℕ
+abbrev pub passed : Bool → List ℕ → ℕ
 passed behind_word t = if behind_word then hash_length t else 0
 
-abbrev Cut : ℕ → ℕ → ℕ → Piece → List ℕ → Type 0
+abbrev pub Cut : ℕ → ℕ → ℕ → Piece → List ℕ → Type 0
 Cut last line n piece t =
     tokens_from last line n (piece_text piece ++ t) ≡ placed line (token_in piece) ++ tokens_from last (line_behind line (piece_text piece)) (passed (is_word_piece piece) t) t
 
@@ -318,7 +318,7 @@ ends_behind : (word : Bool) (pieces : List Piece) → ArePieces word pieces → 
 ends_behind true pieces h e = ends_before pieces h
 ends_behind false pieces h e = absurd cc
 
-front_cut : (last line : ℕ) (word : Bool) (piece : Piece) (t : List ℕ) → IsPiece word piece t → (is_word_piece piece ≡ true → ends_word t ≡ true) → Cut last line (passed word (piece_text piece ++ t)) piece t
+pub front_cut : (last line : ℕ) (word : Bool) (piece : Piece) (t : List ℕ) → IsPiece word piece t → (is_word_piece piece ≡ true → ends_word t ≡ true) → Cut last line (passed word (piece_text piece ++ t)) piece t
 front_cut last line true piece t h e = piece_cut_behind last line piece t h
 front_cut last line false piece t h e = piece_cut last line piece t h e
 

@@ -122,3 +122,7 @@ tokens_in line (piece ∷ behind) = placed line (token_in piece) ++ tokens_in (l
 -- a text that is written in these pieces, from its beginning to its end
 abbrev pub IsWritten : List ℕ → List Piece → Type 0
 IsWritten text pieces = (text ≡ text_of pieces) × ArePieces false pieces
+
+-- a text that is written in some pieces
+abbrev pub IsInPieces : List ℕ → Type 0
+IsInPieces text = (pieces : List Piece) × IsWritten text pieces
