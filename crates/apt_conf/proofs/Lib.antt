@@ -8,3 +8,6 @@ pub mod LookupLemmas
 pub mod SettingLemmas
 pub mod GrammarLemmas
 pub mod TreeLemmas
+pub mod PieceLemmas
+pub mod FindLemmas
+pub mod WrittenLemmas

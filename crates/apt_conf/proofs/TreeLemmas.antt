@@ -347,7 +347,7 @@ spelled_from text pairs h =
       gives = p.gives ∙ ap (λ (l : List Pair). given_by [] p.items ++ l) all.1 ∙ append-nil (given_by [] p.items);
     }
 
-tokens_read : (text : List ℕ) (pairs : List Pair) → pairs_of text ≡ Ok pairs → pairs_from (last_line text) start (tokens_of text) ≡ Ok pairs
+pub tokens_read : (text : List ℕ) (pairs : List Pair) → pairs_of text ≡ Ok pairs → pairs_from (last_line text) start (tokens_of text) ≡ Ok pairs
 unfolding pairs_of
 tokens_read text pairs h =
     elim (cases_Bool (nat_lt 1048576 (length text))) [

@@ -10,3 +10,4 @@ pub mod Settings
 pub mod Answers
 pub mod Progress
 pub mod Grammar
+pub mod Pieces

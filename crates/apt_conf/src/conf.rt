@@ -1,5 +1,7 @@
 ghost use Rattle.apt_conf.specs.Grammar.{Items, Adds, AreItems, Spells, given_by};
-ghost use Rattle.std.specs.Prelude.{◌≡◌, ◌≤◌, length, ◌⊎◌, ◌++◌, [], Ok, Err, OnOk, OnErr, IfOk, IsErrOf};
+ghost use Rattle.apt_conf.specs.Pieces.{Piece, IsInPieces, IsWritten, tokens_in};
+ghost use Rattle.apt_conf.specs.Tokens.{tokens_of};
+ghost use Rattle.std.specs.Prelude.{◌≡◌, ◌≤◌, List, length, ◌⊎◌, ◌++◌, [], Ok, Err, OnOk, OnErr, IfOk, IsErrOf};
 ghost use Rattle.std.specs.Option.{option_copied};
 ghost use Rattle.apt_conf.specs.Keys.{value_of};
 ghost use Rattle.apt_conf.specs.Reading.{pairs_of, pair_of, answer};
@@ -47,6 +49,10 @@ pub fn read_conf(alloc: Global, conf: &mut Conf, bytes: &[u8]) -> Result<(), Con
     ensures answer { (result ≡ Err ConfError.NoMemory) ⊎ (result ≡ answer (pairs_of bytes.now)) }
     ensures ok { OnOk result (IfOk (pairs_of bytes.now) (λ pairs. conf.new ≡ conf.old ++ pairs)) }
     ensures err { OnErr result (conf.new ≡ conf.old) }
+    // The tokens: a text that is written piece by piece, in white space, comments and tokens, has the tokens of its pieces.
+    ensures written { (pieces : List Piece) → IsWritten bytes.now pieces → tokens_of bytes.now ≡ tokens_in 1 pieces }
+    // And back: a text that is read is written in pieces.
+    ensures pieces { OnOk result (IsInPieces bytes.now) }
     // The grammar: a text that spells nested statements gives the pairs of the tree.
     ensures grammar { (items : Items) → length bytes.now ≤ 1048576 → AreItems 16 items → Spells bytes.now items
         → pairs_of bytes.now ≡ Ok (given_by [] items) }

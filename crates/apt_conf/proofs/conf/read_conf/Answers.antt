@@ -4,8 +4,16 @@ use Rattle.apt_conf.specs.Keys.{Pair}
 use Rattle.apt_conf.specs.Entries.{pairs_in}
 use Rattle.apt_conf.specs.Grammar.{Adds}
 use Rattle.apt_conf.proofs.GrammarLemmas.{spelled_read}
+use Rattle.apt_conf.proofs.PieceLemmas.{written_tokens}
+use Rattle.apt_conf.proofs.WrittenLemmas.{reads_pieces}
 use Rattle.apt_conf.proofs.TreeLemmas.{reads_adds}
 use Rattle.apt_conf.proofs.conf.read_conf.Goals as goal
+
+pub returns-clause-written : goal.returns-clause-written
+returns-clause-written c = λ pieces h. written_tokens c.args.bytes.now pieces h
+
+pub returns-clause-pieces : goal.returns-clause-pieces
+returns-clause-pieces c = reads_pieces c.conf.inside.entries.items c.read_file.new.entries.items c.read_file.result c.args.bytes.now c.read_file.ensures.reads
 
 pub returns-clause-grammar : goal.returns-clause-grammar
 returns-clause-grammar c = λ items short h s. spelled_read c.args.bytes.now items short h s
