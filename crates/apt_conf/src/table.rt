@@ -97,9 +97,9 @@ pub struct Fetching {
     pub by_hash: ByHash,
     /// Whether lists are brought up to date by patches.
     pub pdiffs: bool,
-    /// How many patches are taken at most.
+    /// How many patches are taken at most; 0 for no limit.
     pub file_limit: u32,
-    /// How long patches are together at most, in percent of the list.
+    /// How long patches are together at most, in percent of the list; 0 for no limit.
     pub size_limit: u32,
 }
 
