@@ -101,7 +101,7 @@ impl Reading {
     }
 
     /// Compares the names of a paragraph that grows: at 4, 32, 256 fields and so on. So a name that stands again and
-    /// again is refused early, for a seventh more than comparing them once.
+    /// again is refused early. All of these together compare at most 8/7 as many names as the paragraph has.
     fn check_growing(&self, alloc: Global) -> Result<(), TextError>
         ensures { IfErr result (λ fault. (fault ≡ TextError.NoMemory) ⊎ (repeated self.now.fields.items ≡ Some fault)) }
     {

@@ -129,7 +129,7 @@ fn lines_of_a_field(rt: HostRuntime) -> Result<(), Fail> {
     Ok(())
 }
 
-/// Texts in the written form: small ones, and pieces of a Packages list and of dpkg's status.
+/// Texts in the written form: small ones, and texts like a Packages list's and like those of dpkg's status.
 const WRITTEN: [&[u8]; 5] = [
     b"",
     b"A: 1\n b\n\nC: 2\n",
