@@ -72,4 +72,4 @@ ended lines = flat_map (λ line. line ++ 10 ∷ []) lines
 
 -- no line feed, and no carriage return at the end
 abbrev pub is_line : List ℕ → Bool
-is_line line = list_all (λ c. not (c == 10)) line && bytes_eq (strip_carriage_return line) line
+is_line line = not (list_any (λ c. c == 10) line) && bytes_eq (strip_carriage_return line) line

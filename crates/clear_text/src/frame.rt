@@ -29,6 +29,7 @@ const END: &[u8] = b"-----END PGP SIGNATURE-----";
 /// of blanks may follow. A line of the text that begins with `-` must begin with `- `, which is taken off. The answer is
 /// the text's lines, each ended by a line feed. `BadFrame` names the first line that isn't so, and 0 where the bytes end
 /// too early.
+#[tactic(auto, using(crate::proofs::Laws::laws))]
 pub fn unframe(alloc: Global, bytes: &[u8]) -> Result<Option<Bytes>, FrameError>
     ensures value { (result ≡ Err FrameError.NoMemory) ⊎ (result ≡ unframed bytes.now) }
     // None is answered of lines that begin no frame, and a text of a frame around its lines.
@@ -43,6 +44,7 @@ pub fn unframe(alloc: Global, bytes: &[u8]) -> Result<Option<Bytes>, FrameError>
 }
 
 /// Framing a text and taking the frame off gives the lines of the text, each ended by a line feed.
+#[tactic(auto, using(crate::proofs::Laws::again))]
 pub fn frames_come_off()
     ensures { (lines text : List (List ℕ)) → list_all is_line lines ≡ true → IsFrame lines text
         → unframed (ended lines) ≡ Ok (Some (ended text)) }
