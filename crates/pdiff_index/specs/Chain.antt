@@ -1,19 +1,15 @@
 -- The links from an installed file to the wanted one: which patches of an Index are asked for (apt.conf(5),
 -- "Acquire::PDiffs").
-use Rattle.std.specs.Prelude.{ℕ, ◌*◌, ◌==◌, ◌&&◌, ◌||◌, not, nat_lt, nat_eq, Bool, if◌then◌else◌, List, [], ◌∷◌, length, Option, Some, None, option_map, Result, Ok, Err}
+use Rattle.std.specs.Prelude.{ℕ, ◌*◌, ◌==◌, ◌&&◌, ◌||◌, not, nat_lt, Bool, if◌then◌else◌, List, [], ◌∷◌, length, bytes_eq, Option, Some, None, Result, Ok, Err}
 use Rattle.std.specs.List.{sum_by}
-use Rattle.std.specs.Cmp.Lexicographic.{pointwise}
 use Rattle.acq_base.specs.declared.sum.Sum.{Sum}
 use Rattle.pdiff_index.specs.declared.index.Index.{Index}
 use Rattle.pdiff_index.specs.declared.index.Step.{Step}
 use Rattle.pdiff_index.specs.declared.error.NoChain.{NoChain}
 use Rattle.pdiff_index.specs.declared.error.NoChain.TheVariants.{WrongCurrent, NoEntry, NoPatch, Limit}
 
-abbrev pub same_text : List ℕ → List ℕ → Bool
-same_text a b = pointwise nat_eq a b
-
 abbrev pub same_sum : Sum → Sum → Bool
-same_sum a b = (a.size == b.size) && same_text a.sha.0 b.sha.0
+same_sum a b = (a.size == b.size) && bytes_eq a.sha.0 b.sha.0
 
 -- ---- the entry
 
@@ -33,7 +29,7 @@ entry_on (line ∷ lines) have =
 -- the first of the patches that has this name
 abbrev pub patch_named : List Step → List ℕ → Option Step
 patch_named [] name = None
-patch_named (patch ∷ patches) name = if same_text patch.name name then Some patch else patch_named patches name
+patch_named (patch ∷ patches) name = if bytes_eq patch.name name then Some patch else patch_named patches name
 
 abbrev pub put_first : Option Step → List ℕ → Result (List Step) NoChain → Result (List Step) NoChain
 put_first None name rest = Err (NoPatch name)

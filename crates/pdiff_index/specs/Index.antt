@@ -1,6 +1,6 @@
 -- Patch Indexes (`PATH.diff/Index` of a Debian repository): what the bytes of one say, or the line at which they are
 -- refused.
-use Rattle.std.specs.Prelude.{ℕ, ◌+◌, ◌-◌, ◌^◌, ◌==◌, ◌&&◌, ◌||◌, nat_le, nat_eq, min, not, Bool, true, false, if◌then◌else◌, List, [], ◌∷◌, ◌++◌, length, codes, Option, Some, None, option_to_list, is_some, Result, Ok, Err}
+use Rattle.std.specs.Prelude.{ℕ, ◌+◌, ◌-◌, ◌^◌, ◌==◌, ◌&&◌, ◌||◌, nat_le, nat_eq, min, not, Bool, true, false, if◌then◌else◌, List, [], ◌∷◌, ◌++◌, length, codes, bytes_eq, Option, Some, None, option_to_list, is_some, Result, Ok, Err}
 use Rattle.std.specs.List.{list_all, list_any}
 use Rattle.std.specs.Result.{result_ok}
 use Rattle.acq_base.specs.Sum.{sum_of_texts}
@@ -11,7 +11,7 @@ use Rattle.deb822_text.specs.Control.{paragraphs_of, field_named}
 use Rattle.deb822_text.specs.declared.error.TextError.{TextError}
 use Rattle.deb822_text.specs.declared.paragraph.Field.{Field}
 use Rattle.deb822_text.specs.declared.paragraph.Paragraph.{Paragraph}
-use Rattle.pdiff_index.specs.Chain.{same_text, patch_named}
+use Rattle.pdiff_index.specs.Chain.{patch_named}
 use Rattle.pdiff_index.specs.Refused.{refusal_of_text}
 use Rattle.pdiff_index.specs.declared.error.IndexError.{IndexError}
 use Rattle.pdiff_index.specs.declared.error.IndexError.TheVariants.{BadIndex}
@@ -28,7 +28,7 @@ is_name_character c = is_alphanumeric c || list_any (λ d. c == d) (codes "._-+"
 abbrev pub is_name : List ℕ → Bool
 is_name name =
     nat_le 1 (length name) && nat_le (length name) 240 && list_all is_name_character name
-    && not (same_text name (codes ".")) && not (same_text name (codes ".."))
+    && not (bytes_eq name (codes ".")) && not (bytes_eq name (codes ".."))
 
 abbrev pub step_as : List ℕ → Option Sum → Option Step
 step_as name None = None
@@ -93,7 +93,7 @@ steps_part once None = None
 steps_part once (Some field) = Some (steps_of once field.lines field.at)
 
 abbrev pub are_merged : List (List ℕ) → Bool
-are_merged (line ∷ []) = same_text line (codes "merged")
+are_merged (line ∷ []) = bytes_eq line (codes "merged")
 are_merged _ = false
 
 -- X-Patch-Precedence is there and says `merged`
