@@ -1,0 +1,9 @@
+//! The patch Index of a list (`PATH.diff/Index` of a Debian repository): read, and the patches that lead from an
+//! installed list to the wanted one.
+#![tactic(auto)]
+
+pub use error::{IndexError, NoChain};
+pub use index::{Index, Step};
+
+mod error;
+mod index;
