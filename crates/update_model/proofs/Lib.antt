@@ -1,0 +1,5 @@
+pub mod Routes
+pub mod Mirrors
+pub mod Counts
+pub mod Fronts
+pub mod Nexts
