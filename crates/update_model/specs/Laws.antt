@@ -11,7 +11,7 @@ use Rattle.acq_base.specs.declared.settings.Settings.{Settings}
 use Rattle.acq_base.specs.declared.sum.Sum.{Sum}
 use Rattle.release_file.specs.Release.{release_of}
 use Rattle.release_file.specs.declared.release.Release.{Release}
-use Rattle.update_model.specs.declared.stand.Change.{Change}
+use Rattle.release_file.specs.declared.changing.Change.{Change}
 use Rattle.update_model.specs.Files.{served, fitting, sum_of_body}
 use Rattle.update_model.specs.Mirrored.{over, trails_over}
 use Rattle.update_model.specs.Next.{IsNext, Alike, Keeps, Holds, holds, is_settled_well}

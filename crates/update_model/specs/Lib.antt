@@ -15,4 +15,3 @@ pub mod Points
 -- what the laws of this crate say:
 pub mod Laws
 pub mod Stand
-pub mod Changes

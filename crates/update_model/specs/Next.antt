@@ -9,7 +9,7 @@ use Rattle.acq_base.specs.declared.plan.Source.{Source}
 use Rattle.acq_base.specs.declared.settings.Settings.{Settings}
 use Rattle.acq_base.specs.declared.sum.Sum.{Sum}
 use Rattle.release_file.specs.Release.{listed_sum, same_sum}
-use Rattle.update_model.specs.declared.stand.Change.{Change}
+use Rattle.release_file.specs.declared.changing.Change.{Change}
 use Rattle.update_model.specs.Outcomes.{Admitted, Outcome, Directory, Parts, Older, Kept, new_set}
 
 -- ---- the directory

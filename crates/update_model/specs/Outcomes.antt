@@ -4,16 +4,16 @@ use Rattle.acq_base.specs.Mirror.{World}
 use Rattle.acq_base.specs.declared.plan.Source.{Source}
 use Rattle.acq_base.specs.declared.settings.Settings.{Settings}
 use Rattle.release_file.specs.Dates.{judged}
-use Rattle.release_file.specs.Refused.{refusal_number, refusal_line}
+use Rattle.release_file.specs.Refusals.{refusal_number, refusal_line}
 use Rattle.release_file.specs.Release.{release_of}
 use Rattle.release_file.specs.declared.error.ReleaseError.{ReleaseError}
 use Rattle.release_file.specs.declared.judging.DateError.{DateError}
 use Rattle.release_file.specs.declared.judging.DateError.TheVariants as dates
 use Rattle.release_file.specs.declared.release.Head.{Head}
 use Rattle.release_file.specs.declared.release.Release.{Release}
-use Rattle.update_model.specs.Changes.{first_refused}
-use Rattle.update_model.specs.declared.stand.Change.{Change}
-use Rattle.update_model.specs.declared.stand.HeadField.{HeadField}
+use Rattle.release_file.specs.Changes.{first_refused}
+use Rattle.release_file.specs.declared.changing.Change.{Change}
+use Rattle.release_file.specs.declared.changing.HeadField.{HeadField}
 use Rattle.update_model.specs.Obtained.{obtain}
 use Rattle.update_model.specs.Releases.{installed_release, obtain_release}
 use Rattle.update_model.specs.Wanted.{wanted_of}

@@ -9,8 +9,8 @@ use Rattle.by_hash.specs.Beside.{beside}
 use Rattle.release_file.specs.Dates.{IsAdmissible as HasGoodDates}
 use Rattle.release_file.specs.Release.{release_of}
 use Rattle.release_file.specs.declared.release.Release.{Release}
-use Rattle.update_model.specs.Changes.{IsAllowed}
-use Rattle.update_model.specs.declared.stand.Change.{Change}
+use Rattle.release_file.specs.Changes.{IsAllowed}
+use Rattle.release_file.specs.declared.changing.Change.{Change}
 use Rattle.update_model.specs.Reach.{reach}
 use Rattle.update_model.specs.declared.ask.Ending.{Ending}
 use Rattle.update_model.specs.declared.ask.Ending.TheVariants as endings

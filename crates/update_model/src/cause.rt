@@ -1,7 +1,6 @@
 use acq_base::{Sum, Text};
 use hash_gate::Verdict;
-use crate::HeadField;
-use release_file::Head;
+use release_file::{Head, HeadField};
 
 /// Why a source keeps its former set of lists. A path is the list's below the Release's folder, or `Release`.
 #[derive(Debug, PartialEq, Drop)]

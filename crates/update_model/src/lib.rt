@@ -9,12 +9,10 @@ pub use ask::{Ask, Body, Closed, Ending};
 pub use cause::Cause;
 pub use end::End;
 pub use log::{Asked, Heard};
-pub use stand::{Change, HeadField};
 pub use wanted::Wanted;
 
 mod ask;
 mod cause;
 mod end;
 mod log;
-mod stand;
 mod wanted;

@@ -1,9 +1,9 @@
 -- What a Release says of itself, beside the installed one (apt-secure(8), "Information changes").
 use Rattle.std.specs.Prelude.{◌≡◌, ◌≢◌, ℕ, ◌<◌, ◌||◌, bytes_eq, not, find, Bool, true, false, List, [], ◌∷◌, Option, Some, None}
 use Rattle.std.specs.List.{list_all}
-use Rattle.update_model.specs.declared.stand.Change.{Change}
-use Rattle.update_model.specs.declared.stand.HeadField.{HeadField}
-use Rattle.update_model.specs.declared.stand.HeadField.TheVariants.{Origin, Label, Suite, Codename}
+use Rattle.release_file.specs.declared.changing.Change.{Change}
+use Rattle.release_file.specs.declared.changing.HeadField.{HeadField}
+use Rattle.release_file.specs.declared.changing.HeadField.TheVariants.{Origin, Label, Suite, Codename}
 use Rattle.release_file.specs.declared.release.Head.{Head}
 
 -- the text of a field, if it is there
