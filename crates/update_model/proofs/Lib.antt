@@ -3,3 +3,8 @@ pub mod Mirrors
 pub mod Counts
 pub mod Fronts
 pub mod Nexts
+pub mod Sums
+pub mod Heads
+pub mod Sets
+pub mod Obtained
+pub mod Sources

@@ -4,7 +4,7 @@ use Rattle.acq_base.specs.Mirror.{World}
 use Rattle.acq_base.specs.declared.plan.Source.{Source}
 use Rattle.acq_base.specs.declared.settings.Settings.{Settings}
 use Rattle.release_file.specs.Dates.{judged}
-use Rattle.release_file.specs.Refusals.{refusal_number, refusal_line}
+use Rattle.release_file.specs.Refused.{refusal_number, refusal_line}
 use Rattle.release_file.specs.Release.{release_of}
 use Rattle.release_file.specs.declared.error.ReleaseError.{ReleaseError}
 use Rattle.release_file.specs.declared.judging.DateError.{DateError}
