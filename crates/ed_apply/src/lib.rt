@@ -2,7 +2,13 @@
 #![tactic(auto)]
 
 pub use error::{ApplyError, ScriptError};
+pub use laws::applied_is_edited;
+pub use reading::read_script;
 pub use script::{Hunk, Script};
 
+mod command;
 mod error;
+mod laws;
+mod lines;
+mod reading;
 mod script;

@@ -26,20 +26,20 @@ entry_on (line ∷ lines) have =
 
 -- ---- the patches
 
--- the first of the patches that has this name
-abbrev pub patch_named : List Step → List ℕ → Option Step
-patch_named [] name = None
-patch_named (patch ∷ patches) name = if bytes_eq patch.name name then Some patch else patch_named patches name
+-- the sum of the first of the patches that has this name
+abbrev pub sum_named : List Step → List ℕ → Option Sum
+sum_named [] name = None
+sum_named (patch ∷ patches) name = if bytes_eq patch.name name then Some patch.sum else sum_named patches name
 
-abbrev pub put_first : Option Step → List ℕ → Result (List Step) NoChain → Result (List Step) NoChain
+abbrev pub put_first : Option Sum → List ℕ → Result (List Step) NoChain → Result (List Step) NoChain
 put_first None name rest = Err (NoPatch name)
-put_first (Some patch) name (Ok rest) = Ok (patch ∷ rest)
-put_first (Some patch) name (Err cause) = Err cause
+put_first (Some sum) name (Ok rest) = Ok (record { sum = sum; name = name } ∷ rest)
+put_first (Some sum) name (Err cause) = Err cause
 
 -- the patches of these lines, in order, or the first that isn't listed
 abbrev pub patches_of : List Step → List Step → Result (List Step) NoChain
 patches_of patches [] = Ok []
-patches_of patches (line ∷ lines) = put_first (patch_named patches line.name) line.name (patches_of patches lines)
+patches_of patches (line ∷ lines) = put_first (sum_named patches line.name) line.name (patches_of patches lines)
 
 -- where the patches are merged, the entry's alone leads to the current file
 abbrev pub lines_used : Bool → List Step → List Step

@@ -11,7 +11,7 @@ use Rattle.deb822_text.specs.Control.{paragraphs_of, field_named}
 use Rattle.deb822_text.specs.declared.error.TextError.{TextError}
 use Rattle.deb822_text.specs.declared.paragraph.Field.{Field}
 use Rattle.deb822_text.specs.declared.paragraph.Paragraph.{Paragraph}
-use Rattle.pdiff_index.specs.Chain.{patch_named}
+use Rattle.pdiff_index.specs.Chain.{sum_named}
 use Rattle.pdiff_index.specs.Refused.{refusal_of_text}
 use Rattle.pdiff_index.specs.declared.error.IndexError.{IndexError}
 use Rattle.pdiff_index.specs.declared.error.IndexError.TheVariants.{BadIndex}
@@ -24,11 +24,13 @@ use Rattle.pdiff_index.specs.declared.index.Step.{Step}
 abbrev pub is_name_character : ℕ → Bool
 is_name_character c = is_alphanumeric c || list_any (λ d. c == d) (codes "._-+")
 
+abbrev pub are_dots : List ℕ → Bool
+are_dots name = bytes_eq name (codes ".") || bytes_eq name (codes "..")
+
 -- a patch's name: 1 to 240 such characters, neither `.` nor `..`
 abbrev pub is_name : List ℕ → Bool
 is_name name =
-    nat_le 1 (length name) && nat_le (length name) 240 && list_all is_name_character name
-    && not (bytes_eq name (codes ".")) && not (bytes_eq name (codes ".."))
+    nat_le 1 (length name) && nat_le (length name) 240 && list_all is_name_character name && not (are_dots name)
 
 abbrev pub step_as : List ℕ → Option Sum → Option Step
 step_as name None = None
@@ -69,7 +71,7 @@ current_of (line ∷ more) at = current_from (sum_of_line line) more at
 -- a line that reads so may stand below these steps: it is one, and its name is new where no name may stand twice
 abbrev pub may_stand : Bool → List Step → Option Step → Bool
 may_stand once above None = false
-may_stand once above (Some step) = not (once && is_some (patch_named above step.name))
+may_stand once above (Some step) = not (once && is_some (sum_named above step.name))
 
 -- these steps with those of the lines below them, or the first line that may not stand there
 abbrev pub steps_below : Bool → List Step → ℕ → List (List ℕ) → Result (List Step) ℕ

@@ -4,6 +4,12 @@
 
 pub use error::{IndexError, NoChain};
 pub use index::{Index, Step};
+pub use links::chain;
+pub use reading::read_index;
 
 mod error;
 mod index;
+mod links;
+mod reading;
+mod steps;
+mod sums;
