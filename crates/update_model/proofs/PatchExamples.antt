@@ -15,7 +15,7 @@ use Rattle.pdiff_index.specs.declared.index.Index.{Index}
 use Rattle.pdiff_index.specs.declared.index.Step.{Step}
 use Rattle.release_file.specs.Release.{listed_sum, same_sum}
 use Rattle.update_model.specs.Obtained.{obtain}
-use Rattle.update_model.specs.Stand.{script_of}
+use Rattle.ed_apply.specs.Grammar.{script_of}
 use Rattle.update_model.specs.Walks.{target_walk}
 use Rattle.update_model.specs.Wanted.{want, index_path}
 use Rattle.update_model.specs.declared.wanted.Wanted.{Wanted}

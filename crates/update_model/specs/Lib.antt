@@ -14,4 +14,3 @@ pub mod Mirrored
 pub mod Points
 -- what the laws of this crate say:
 pub mod Laws
-pub mod Stand

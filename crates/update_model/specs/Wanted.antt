@@ -14,7 +14,7 @@ use Rattle.pdiff_index.specs.Index.{index_of}
 use Rattle.pdiff_index.specs.declared.index.Step.{Step}
 use Rattle.release_file.specs.Release.{listed_sum}
 use Rattle.release_file.specs.declared.release.Release.{Release}
-use Rattle.update_model.specs.Stand.{script_of}
+use Rattle.ed_apply.specs.Grammar.{script_of}
 use Rattle.update_model.specs.declared.wanted.Wanted.{Wanted}
 
 -- the path of a list's patch Index
