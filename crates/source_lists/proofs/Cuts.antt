@@ -7,17 +7,24 @@ use Rattle.std.proofs.lemmas.List.Splits.{slice_split_first}
 
 -- an element passes exactly where the first that does stands within the list
 pub list_any-within : {X : Type 0} (p : X → Bool) (xs : List X) → list_any p xs ≡ true → position_or_len p xs < length xs
-list_any-within p [] is = cc
+list_any-within p [] is = absurd (cc)
 list_any-within p (x ∷ xs) is = elim (p x) as (λ b. (b || list_any p xs) ≡ true → cond (not b) (1 + position_or_len p xs) 0 < suc (length xs)) [
   | true ↦ λ _. omega arith
   | false ↦ λ more. let i = list_any-within p xs more in omega (arith, i)
 ] is
 
+pub place-nowhere : {X : Type 0} (p : X → Bool) (xs : List X) → list_any p xs ≡ false → position_or_len p xs ≡ length xs
+place-nowhere p [] none = refl
+place-nowhere p (x ∷ xs) none = elim (p x) as (λ b. (b || list_any p xs) ≡ false → cond (not b) (1 + position_or_len p xs) 0 ≡ suc (length xs)) [
+  | true ↦ λ no. absurd (cc)
+  | false ↦ λ no. let i = place-nowhere p xs no in omega (arith, i)
+] none
+
 -- a list without such an element is its only part
-split_whole : {X : Type 0} (p : X → Bool) (xs : List X) → list_any p xs ≡ false → slice_split p xs ≡ xs ∷ []
+pub split_whole : {X : Type 0} (p : X → Bool) (xs : List X) → list_any p xs ≡ false → slice_split p xs ≡ xs ∷ []
 split_whole p [] none = refl
 split_whole p (x ∷ xs) none = elim (p x) as (λ b. (b || list_any p xs) ≡ false → cond b ([] ∷ slice_split p xs) (onto_first x (slice_split p xs)) ≡ (x ∷ xs) ∷ []) [
-  | true ↦ λ no. cc
+  | true ↦ λ no. absurd (cc)
   | false ↦ λ no. ap (onto_first x) (split_whole p xs no)
 ] none
 

@@ -1,1 +1,4 @@
 pub mod Cuts
+pub mod Loops
+pub mod Laws
+pub mod NextWords

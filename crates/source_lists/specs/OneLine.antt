@@ -1,6 +1,6 @@
 -- The one-line form of sources.list(5), "THE DEB AND DEB-SRC TYPES: GENERAL FORMAT": what a line gives.
-use Rattle.std.specs.Prelude.{ℕ, ◌+◌, ◌==◌, ◌&&◌, ◌||◌, not, Bool, true, false, if◌then◌else◌, List, [], ◌∷◌, ◌++◌, codes, bytes_eq, drop, Option, Some, None, option_map, option_to_list, ok_or, Result, Ok, Err}
-use Rattle.std.specs.List.{list_any, list_all, slice_split, starts_with, before_first, after_first}
+use Rattle.std.specs.Prelude.{ℕ, ◌+◌, ◌==◌, ◌&&◌, ◌||◌, not, Bool, true, false, if◌then◌else◌, List, [], ◌∷◌, ◌++◌, codes, bytes_eq, take, drop, Option, Some, None, option_map, option_to_list, ok_or, Result, Ok, Err}
+use Rattle.std.specs.List.{list_any, list_all, slice_split, before_first, after_first}
 use Rattle.acq_base.specs.Words.{is_blank, trimmed_start, words}
 use Rattle.acq_base.specs.declared.plan.ByHash.{ByHash}
 use Rattle.source_lists.specs.declared.entry.Entry.{Entry}
@@ -35,7 +35,7 @@ is_close c = c == 93
 
 -- `[` begins the second word
 abbrev pub has_options : List ℕ → Bool
-has_options behind = starts_with (λ a b. a == b) behind (codes "[")
+has_options behind = bytes_eq (take 1 behind) (codes "[")
 
 -- the options stand between that `[` and the next `]`, or the end where there is none
 unfoldable pub options_text : List ℕ → List ℕ

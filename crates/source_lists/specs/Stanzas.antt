@@ -34,61 +34,57 @@ if_there read (Some field) = do
   value ← read field
   Ok (Some value)
 
--- a field that must be there
-abbrev pub must_be : ℕ → Option Field → Result Field ListError
-must_be first None = Err (BadLine first)
-must_be first (Some field) = Ok field
+-- the line of a field, or that of the stanza's first field where it isn't there
+abbrev pub line_of : ℕ → Option Field → ℕ
+line_of first None = first
+line_of first (Some field) = field.at
+
+abbrev pub words_in : Option Field → List (List ℕ)
+words_in None = []
+words_in (Some field) = field_words field
 
 abbrev pub filled : ℕ → List (List ℕ) → Result (List (List ℕ)) ListError
 filled at [] = Err (BadLine at)
 filled at (word ∷ others) = Ok (word ∷ others)
 
--- the words of a field that needs at least one
-unfoldable pub some_words : Field → Result (List (List ℕ)) ListError
-some_words field = filled field.at (field_words field)
+-- the words of a field that must be there, with at least one
+unfoldable pub some_words : ℕ → Option Field → Result (List (List ℕ)) ListError
+some_words first field = filled (line_of first field) (words_in field)
 
-abbrev pub alone : ℕ → List (List ℕ) → Result (List ℕ) ListError
-alone at (word ∷ []) = Ok word
-alone at _ = Err (BadLine at)
-
--- the word of a field that needs exactly one
-unfoldable pub only_word : Field → Result (List ℕ) ListError
-only_word field = alone field.at (field_words field)
+-- what exactly one word reads as
+abbrev pub only : {A : Type 0} → (List ℕ → Option A) → List (List ℕ) → Option A
+only read (word ∷ []) = read word
+only read _ = None
 
 -- ---- their values
 
-unfoldable pub types_of : Field → Result Types ListError
-types_of field = do
-  found ← some_words field
-  types_at field.at found
+unfoldable pub types_of : ℕ → Option Field → Result Types ListError
+types_of first field = do
+  found ← some_words first field
+  types_at (line_of first field) found
 
-unfoldable pub uris_of : Field → Result (List Uri) ListError
-uris_of field = do
-  found ← some_words field
-  each (base_at field.at) found
+unfoldable pub uris_of : ℕ → Option Field → Result (List Uri) ListError
+uris_of first field = do
+  found ← some_words first field
+  each (base_at (line_of first field)) found
 
-unfoldable pub suites_of : List ℕ → Field → Result (List (List ℕ)) ListError
-suites_of arch field = do
-  found ← some_words field
-  each (suite_at arch field.at) found
+unfoldable pub suites_of : List ℕ → ℕ → Option Field → Result (List (List ℕ)) ListError
+suites_of arch first field = do
+  found ← some_words first field
+  each (suite_at arch (line_of first field)) found
 
 -- without the field there are no components
 unfoldable pub components_of : ℕ → List (List ℕ) → Option Field → Result (List (List ℕ)) ListError
-components_of first suites None = components_at first suites []
-components_of first suites (Some field) = components_at field.at suites (field_words field)
+components_of first suites field = components_at (line_of first field) suites (words_in field)
 
 unfoldable pub architectures_of : Field → Result (List (List ℕ)) ListError
 architectures_of field = ok_or (architectures (field_words field)) (BadLine field.at)
 
 unfoldable pub hashes_of : Field → Result ByHash ListError
-hashes_of field = do
-  word ← only_word field
-  ok_or (by_hash_of word) (BadLine field.at)
+hashes_of field = ok_or (only by_hash_of (field_words field)) (BadLine field.at)
 
 unfoldable pub truth_of : Field → Result Bool ListError
-truth_of field = do
-  word ← only_word field
-  ok_or (boolean_of word) (BadLine field.at)
+truth_of field = ok_or (only boolean_of (field_words field)) (BadLine field.at)
 
 -- a stanza counts unless it says that it doesn't
 unfoldable pub enabled_of : Option Field → Result Bool ListError
@@ -107,12 +103,9 @@ options_of fields = do
 -- what an enabled stanza says, its fields judged in this order
 unfoldable pub stanza_of : List ℕ → List Field → Result Stanza ListError
 stanza_of arch fields = do
-  kinds ← must_be (first_at fields) (field_named fields (codes "Types"))
-  types ← types_of kinds
-  places ← must_be (first_at fields) (field_named fields (codes "URIs"))
-  uris ← uris_of places
-  names ← must_be (first_at fields) (field_named fields (codes "Suites"))
-  suites ← suites_of arch names
+  types ← types_of (first_at fields) (field_named fields (codes "Types"))
+  uris ← uris_of (first_at fields) (field_named fields (codes "URIs"))
+  suites ← suites_of arch (first_at fields) (field_named fields (codes "Suites"))
   components ← components_of (first_at fields) suites (field_named fields (codes "Components"))
   options ← options_of fields
   Ok (record { types = types; uris = uris; suites = suites; components = components; options = options })
@@ -150,11 +143,6 @@ stanza_entries file arch paragraph = do
   if enabled then enabled_entries file arch paragraph.fields else Ok []
 
 -- ---- the program
-
--- the field that is lent is the one that must be there
-abbrev pub IsField : Result (Bor Field) ListError → Result Field ListError → Type 0
-IsField (Ok field) must = must ≡ Ok field.now
-IsField (Err refusal) must = must ≡ Err refusal
 
 -- entries get those that are read behind them, or their refusal is given, unless memory ran out
 abbrev pub Adds : Result (Unit {0}) ListError → List Entry → List Entry → Result (List Entry) ListError → Type 0

@@ -1,6 +1,6 @@
 -- What a whole text of sources.list(5) gives, in terms of its lines or stanzas, each by itself.
-use Rattle.std.specs.Prelude.{◌≡◌, ℕ, ◌+◌, ◌<◌, ◌≤◌, ◌⊎◌, nat_lt, true, if◌then◌else◌, List, [], ◌∷◌, ◌++◌, length, AllByRecursion, IsOk, Result, Ok, Err}
-use Rattle.std.specs.List.{flat_map}
+use Rattle.std.specs.Prelude.{◌≡◌, ℕ, ◌+◌, ◌<◌, ◌≤◌, ◌⊎◌, nat_lt, true, if◌then◌else◌, List, [], ◌∷◌, ◌++◌, length, IsOk, Result, Ok, Err}
+use Rattle.std.specs.List.{flat_map, AllByRecursion}
 use Rattle.std.specs.Str.Lines.{lines as text_lines}
 use Rattle.deb822_text.specs.Control.{paragraphs_of}
 use Rattle.deb822_text.specs.declared.error.TextError.{TextError}
@@ -53,8 +53,8 @@ given (Err refusal) = []
 
 -- each item by itself is read, and the entries are theirs in order
 pub record AreRead {X : Type 0} (read : X → Result (List Entry) ListError) (items : List X) (entries : List Entry) : Type 0 where
-  pub each : AllByRecursion (λ item. IsOk (read item)) items
-  pub entries : entries ≡ flat_map (λ item. given (read item)) items
+  pub all : AllByRecursion (λ item. IsOk (read item)) items
+  pub same : entries ≡ flat_map (λ item. given (read item)) items
 
 -- the refusal is that of an item by itself, and each item before it is read
 pub record IsFirstRefused {X : Type 0} (read : X → Result (List Entry) ListError) (items : List X) (refusal : ListError) : Type 0 where

@@ -1,5 +1,5 @@
 -- The words of sources.list(5) by themselves: types, suites, components, architectures, and what options say.
-use Rattle.std.specs.Prelude.{ℕ, zero, suc, ◌==◌, ◌&&◌, ◌||◌, not, Bool, true, false, if◌then◌else◌, List, [], ◌∷◌, ◌++◌, length, codes, bytes_eq, Option, Some, None, Result, Ok, Err}
+use Rattle.std.specs.Prelude.{ℕ, zero, suc, ◌==◌, ◌&&◌, ◌||◌, not, Bool, true, false, if◌then◌else◌, List, [], ◌∷◌, ◌++◌, length, take, codes, bytes_eq, Option, Some, None, Result, Ok, Err}
 use Rattle.std.specs.List.{list_any, list_all, slice_split, starts_with, ends_with}
 use Rattle.std.specs.Char.{is_ascii_alphanumeric}
 use Rattle.std.specs.Str.{str_eq_ignore_ascii_case}
@@ -31,9 +31,9 @@ is_empty xs = length xs == 0
 abbrev pub is_dot_dot : List ℕ → Bool
 is_dot_dot segment = bytes_eq segment (codes "..")
 
--- no segment between slashes leads up
-unfoldable pub stays_below : List ℕ → Bool
-stays_below path = not (list_any is_dot_dot (slice_split is_slash path))
+-- a segment between slashes is `..`
+unfoldable pub leads_up : List ℕ → Bool
+leads_up path = list_any is_dot_dot (slice_split is_slash path)
 
 abbrev pub begins_with_slash : List ℕ → Bool
 begins_with_slash text = starts_with (λ a b. a == b) text (codes "/")
@@ -43,7 +43,7 @@ ends_with_slash text = ends_with (λ a b. a == b) text (codes "/")
 
 -- what becomes part of a path below a base: letters, digits and `._-+~:/`, at least one, and no segment `..`
 unfoldable pub is_path : List ℕ → Bool
-is_path text = not (is_empty text) && list_all is_path_character text && stays_below text
+is_path text = not (is_empty text) && list_all is_path_character text && not (leads_up text)
 
 -- ---- types
 
@@ -53,10 +53,13 @@ is_binary word = bytes_eq word (codes "deb")
 abbrev pub is_source : List ℕ → Bool
 is_source word = bytes_eq word (codes "deb-src")
 
+abbrev pub is_type : List ℕ → Bool
+is_type word = is_binary word || is_source word
+
 -- the types are `deb` and `deb-src`: an archive of binary packages, and one of source packages
 unfoldable pub types_at : ℕ → List (List ℕ) → Result Types ListError
 types_at at words =
-    if list_all (λ word. is_binary word || is_source word) words
+    if list_all is_type words
     then Ok (record { binary = list_any is_binary words; source = list_any is_source words })
     else Err (BadLine at)
 
@@ -79,7 +82,7 @@ base_at at word = placed at (read_base_of word)
 
 -- `$(ARCH)`, which stands for the architecture of the machine
 abbrev pub begins_with_name : List ℕ → Bool
-begins_with_name text = starts_with (λ a b. a == b) text (codes "$(ARCH)")
+begins_with_name text = bytes_eq (take 7 text) (codes "$(ARCH)")
 
 -- the text with the architecture in place of each `$(ARCH)`, whose first bytes may be passed already
 unfoldable pub replaced_behind : List ℕ → ℕ → List ℕ → List ℕ

@@ -1,3 +1,5 @@
+//! An entry of a sources list.
+
 use acq_base::{ByHash, NoMemory, Row, Text, TryCopy, Uri};
 use std::alloc::Global;
 

@@ -1,3 +1,5 @@
+//! Why a sources list is refused.
+
 use acq_base::{NoMemory as OutOfMemory, Refusal};
 use deb822_text::TextError;
 use std::alloc::{AllocError, AllocFailed};

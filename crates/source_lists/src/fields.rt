@@ -1,7 +1,9 @@
-ghost use Rattle.std.specs.Prelude.{◌≡◌, ◌⊎◌, ◌++◌, Err, IfOk, OnOk, option_copied, List};
-ghost use Rattle.std.specs.List.{flat_map};
-ghost use Rattle.acq_base.specs.Words.{is_blank, words as words_of};
+//! The fields of a stanza.
+
+ghost use Rattle.std.specs.Prelude.{◌≡◌, ◌⊎◌, Err, IfOk, option_copied};
 ghost use Rattle.source_lists.specs.Stanzas as spec;
+ghost use Rattle.source_lists.specs.Steps.{each};
+ghost use Rattle.source_lists.specs.Values.{base_at as base_of, suite_at as suite_of, by_hash_of as by_hash_in, boolean_of as boolean_in};
 
 use crate::options::Options;
 use crate::suites::suite_at;
@@ -24,64 +26,93 @@ fn field_words(alloc: Global, field: &Field) -> Result<Row<Text>, NoMemory>
     Ok(Row::from(found))
 }
 
-/// The words of a field that needs at least one.
-#[tactic(auto, unfolding(crate::specs::Stanzas::some_words))]
-fn some_words(alloc: Global, field: &Field) -> Result<Row<Text>, ListError>
-    ensures { (result ≡ Err ListError.NoMemory) ⊎ (result ≡ spec.some_words field.now) }
+/// The line of a field, or that of the stanza's first field where it isn't there.
+fn line_of(first: u64, field: Option<&Field>) -> u64
+    ensures { result ≡ spec.line_of first (option_copied field.entry) }
 {
-    let found = field_words(alloc, field)?;
+    match field {
+        Some(field) => field.at,
+        None => first,
+    }
+}
+
+/// The words of a field, none where it isn't there.
+fn words_in(alloc: Global, field: Option<&Field>) -> Result<Row<Text>, NoMemory>
+    ensures { IfOk result (λ found. found ≡ spec.words_in (option_copied field.entry)) }
+{
+    match field {
+        Some(field) => field_words(alloc, field),
+        None => Ok(Row::new(alloc)),
+    }
+}
+
+/// The words of a field that must be there, with at least one.
+#[tactic(auto, unfolding(crate::specs::Stanzas::some_words))]
+fn some_words(alloc: Global, first: u64, field: Option<&Field>) -> Result<Row<Text>, ListError>
+    ensures { (result ≡ Err ListError.NoMemory) ⊎ (result ≡ spec.some_words first (option_copied field.entry)) }
+{
+    let found = words_in(alloc, field)?;
     if found.is_empty() {
-        return Err(ListError::BadLine(field.at));
+        return Err(ListError::BadLine(line_of(first, field)));
     }
     Ok(found)
 }
 
-/// A field that must be there. The stanza's first field stands at the line `first`.
-pub fn must_be<'a>(first: u64, field: Option<&'a Field>) -> Result<&'a Field, ListError>
-    ensures { spec.IsField result (spec.must_be first (option_copied field.entry)) }
-{
-    match field {
-        Some(field) => Ok(field),
-        None => Err(ListError::BadLine(first)),
-    }
-}
-
 /// The types that a field names.
 #[tactic(auto, unfolding(crate::specs::Stanzas::types_of))]
-pub fn types_of(alloc: Global, field: &Field) -> Result<Types, ListError>
-    ensures { (result ≡ Err ListError.NoMemory) ⊎ (result ≡ spec.types_of field.now) }
+pub fn types_of(alloc: Global, first: u64, field: Option<&Field>) -> Result<Types, ListError>
+    ensures { (result ≡ Err ListError.NoMemory) ⊎ (result ≡ spec.types_of first (option_copied field.entry)) }
 {
-    let found = some_words(alloc, field)?;
-    types_at(field.at, found.as_slice())
+    let found = some_words(alloc, first, field)?;
+    types_at(line_of(first, field), found.as_slice())
 }
 
 /// The base URIs that a field names.
 #[tactic(auto, unfolding(crate::specs::Stanzas::uris_of))]
-pub fn uris_of(alloc: Global, field: &Field) -> Result<Row<Uri>, ListError>
-    ensures { (result ≡ Err ListError.NoMemory) ⊎ (result ≡ spec.uris_of field.now) }
+pub fn uris_of(alloc: Global, first: u64, field: Option<&Field>) -> Result<Row<Uri>, ListError>
+    ensures { (result ≡ Err ListError.NoMemory) ⊎ (result ≡ spec.uris_of first (option_copied field.entry)) }
 {
-    let found = some_words(alloc, field)?;
-    let mut uris = Row::new(alloc);
-    for word in found.as_slice() {
-        uris.push(base_at(alloc, field.at, word.as_bytes())?)?;
+    let found = some_words(alloc, first, field)?;
+    bases_at(alloc, line_of(first, field), found.as_slice())
+}
+
+/// The base URIs that words of this line are.
+fn bases_at(alloc: Global, at: u64, words: &[Text]) -> Result<Row<Uri>, ListError>
+    ensures { (result ≡ Err ListError.NoMemory) ⊎ (result ≡ each (base_of at) words.now) }
+{
+    let mut bases = Row::new(alloc);
+    for word in words {
+        bases.push(base_at(alloc, at, word.as_bytes())?)?;
     }
-    Ok(uris)
+    Ok(bases)
 }
 
 /// The suites that a field names, on a machine of this architecture.
 #[tactic(auto, unfolding(crate::specs::Stanzas::suites_of))]
-pub fn suites_of(alloc: Global, arch: &Text, field: &Field) -> Result<Row<Text>, ListError>
-    ensures { (result ≡ Err ListError.NoMemory) ⊎ (result ≡ spec.suites_of arch.now field.now) }
+pub fn suites_of(
+    alloc: Global,
+    arch: &Text,
+    first: u64,
+    field: Option<&Field>,
+) -> Result<Row<Text>, ListError>
+    ensures { (result ≡ Err ListError.NoMemory) ⊎ (result ≡ spec.suites_of arch.now first (option_copied field.entry)) }
 {
-    let found = some_words(alloc, field)?;
+    let found = some_words(alloc, first, field)?;
+    suites_at(alloc, arch, line_of(first, field), found.as_slice())
+}
+
+/// The suites that words of this line are.
+fn suites_at(alloc: Global, arch: &Text, at: u64, words: &[Text]) -> Result<Row<Text>, ListError>
+    ensures { (result ≡ Err ListError.NoMemory) ⊎ (result ≡ each (suite_of arch.now at) words.now) }
+{
     let mut suites = Row::new(alloc);
-    for word in found.as_slice() {
-        suites.push(suite_at(alloc, arch.as_bytes(), field.at, word.as_bytes())?)?;
+    for word in words {
+        suites.push(suite_at(alloc, arch.as_bytes(), at, word.as_bytes())?)?;
     }
     Ok(suites)
 }
 
-/// The components that a field names for these suites, and none where the field isn't there.
+/// The components that a field names for these suites, none where it isn't there.
 #[tactic(auto, unfolding(crate::specs::Stanzas::components_of))]
 pub fn components_of(
     alloc: Global,
@@ -91,10 +122,7 @@ pub fn components_of(
 ) -> Result<Row<Text>, ListError>
     ensures { (result ≡ Err ListError.NoMemory) ⊎ (result ≡ spec.components_of first suites.now (option_copied field.entry)) }
 {
-    match field {
-        Some(field) => components_at(field.at, suites, field_words(alloc, field)?),
-        None => components_at(first, suites, Row::new(alloc)),
-    }
+    components_at(line_of(first, field), suites, words_in(alloc, field)?)
 }
 
 /// The architectures that a field names.
@@ -114,11 +142,16 @@ fn hashes_of(alloc: Global, field: &Field) -> Result<ByHash, ListError>
     ensures { (result ≡ Err ListError.NoMemory) ⊎ (result ≡ spec.hashes_of field.now) }
 {
     let found = field_words(alloc, field)?;
-    let value = match found.as_slice() {
+    only_hash(found.as_slice()).ok_or(ListError::BadLine(field.at))
+}
+
+fn only_hash(words: &[Text]) -> Option<ByHash>
+    ensures { result ≡ spec.only by_hash_in words.now }
+{
+    match words {
         [word] => by_hash_of(word.as_bytes()),
         _ => None,
-    };
-    value.ok_or(ListError::BadLine(field.at))
+    }
 }
 
 /// What a field of one boolean says.
@@ -127,11 +160,16 @@ fn truth_of(alloc: Global, field: &Field) -> Result<bool, ListError>
     ensures { (result ≡ Err ListError.NoMemory) ⊎ (result ≡ spec.truth_of field.now) }
 {
     let found = field_words(alloc, field)?;
-    let value = match found.as_slice() {
+    only_boolean(found.as_slice()).ok_or(ListError::BadLine(field.at))
+}
+
+fn only_boolean(words: &[Text]) -> Option<bool>
+    ensures { result ≡ spec.only boolean_in words.now }
+{
+    match words {
         [word] => boolean_of(word.as_bytes()),
         _ => None,
-    };
-    value.ok_or(ListError::BadLine(field.at))
+    }
 }
 
 /// Whether a stanza counts.

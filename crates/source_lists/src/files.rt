@@ -1,3 +1,5 @@
+//! Which files of sources.list.d count.
+
 ghost use Rattle.std.specs.Prelude.{◌≡◌};
 ghost use Rattle.std.specs.List.{list_all};
 ghost use Rattle.source_lists.specs.Files as files;

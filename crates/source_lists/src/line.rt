@@ -1,3 +1,5 @@
+//! Lines of a text, and where a text is cut.
+
 ghost use Rattle.std.specs.Prelude.{◌≡◌, ◌==◌, ◌<◌, ◌≤◌, ◌∷◌, true, false, length, IfSome, IfNone};
 ghost use Rattle.std.specs.List.{position_or_len, list_any, before_first, after_first};
 ghost use Rattle.std.specs.Str.Lines.{lines as text_lines, strip_carriage_return};

@@ -1,3 +1,5 @@
+//! The one-line form.
+
 ghost use Rattle.std.specs.Prelude.{◌≡◌, ◌⊎◌, ◌≤◌, length, Err, IfOk, IfErr};
 ghost use Rattle.std.specs.List.{position_or_len};
 ghost use Rattle.acq_base.specs.Words.{is_blank as blank, words as words_of};

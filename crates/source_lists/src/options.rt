@@ -1,3 +1,5 @@
+//! The options of a line.
+
 ghost use Rattle.std.specs.Prelude.{◌≡◌, ◌⊎◌, Err, IfOk};
 ghost use Rattle.std.specs.List.{slice_split, list_any, before_first, after_first};
 ghost use Rattle.acq_base.specs.Words.{is_blank, words as words_of};
@@ -6,7 +8,7 @@ ghost use Rattle.source_lists.specs.Values.{architectures as architectures_in};
 
 use crate::ListError;
 use crate::line::cut_at;
-use crate::values::{architectures, boolean_of, by_hash_of};
+use crate::values::{architectures, boolean_of, by_hash_of, is_spelled};
 use acq_base::{ByHash, NoMemory, Row, Text, words};
 use std::alloc::Global;
 
@@ -42,7 +44,8 @@ pub fn read_options(alloc: Global, at: u64, text: &[u8]) -> Result<Options, List
         by_hash: None,
         pdiffs: None,
     };
-    for word in words(alloc, text)?.as_slice() {
+    let found = words(alloc, text)?;
+    for word in found.as_slice() {
         let choice = read_choice(alloc, at, word.as_bytes())?;
         options = with_choice(options, choice);
     }
@@ -119,11 +122,14 @@ fn has_operator(word: &[u8]) -> bool
 fn choice_of(alloc: Global, name: &[u8], value: &[u8]) -> Result<Option<Choice>, NoMemory>
     ensures { IfOk result (λ choice. choice ≡ one_line.choice_of name.now value.now) }
 {
-    match name {
-        b"arch" => Ok(listed_architectures(alloc, value)?.map(|archs| Choice::Archs(archs))),
-        b"by-hash" => Ok(by_hash_of(value).map(|by_hash| Choice::Hashes(by_hash))),
-        b"pdiffs" => Ok(boolean_of(value).map(|pdiffs| Choice::Patches(pdiffs))),
-        _ => Ok(Some(Choice::Nothing)),
+    if is_spelled(name, b"arch") {
+        Ok(listed_architectures(alloc, value)?.map(|archs| Choice::Archs(archs)))
+    } else if is_spelled(name, b"by-hash") {
+        Ok(by_hash_of(value).map(|by_hash| Choice::Hashes(by_hash)))
+    } else if is_spelled(name, b"pdiffs") {
+        Ok(boolean_of(value).map(|pdiffs| Choice::Patches(pdiffs)))
+    } else {
+        Ok(Some(Choice::Nothing))
     }
 }
 

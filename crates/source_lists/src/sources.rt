@@ -1,3 +1,5 @@
+//! The deb822 form.
+
 ghost use Rattle.std.specs.Prelude.{◌≡◌, ◌⊎◌, Err, IfOk, IfErr};
 ghost use Rattle.source_lists.specs.Texts as texts;
 ghost use Rattle.source_lists.specs.Texts.{all_entries, AreSources, IsSourcesRefusal};

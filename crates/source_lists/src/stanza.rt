@@ -1,7 +1,9 @@
-ghost use Rattle.std.specs.Prelude.{◌≡◌, ◌⊎◌, ◌++◌, Err, OnOk};
+//! One stanza of the deb822 form.
+
+ghost use Rattle.std.specs.Prelude.{◌≡◌, ◌⊎◌, ◌++◌, Err, IfOk, OnOk};
 ghost use Rattle.source_lists.specs.Stanzas as spec;
 
-use crate::fields::{components_of, enabled_of, must_be, options_of, suites_of, types_of, uris_of};
+use crate::fields::{components_of, enabled_of, options_of, suites_of, types_of, uris_of};
 use crate::options::Options;
 use crate::values::Types;
 use crate::{Entry, ListError};
@@ -44,9 +46,9 @@ fn read_stanza(alloc: Global, arch: &Text, paragraph: &Paragraph) -> Result<Stan
     ensures { (result ≡ Err ListError.NoMemory) ⊎ (result ≡ spec.stanza_of arch.now paragraph.now.fields) }
 {
     let first = first_at(paragraph.fields.as_slice());
-    let types = types_of(alloc, must_be(first, find(paragraph, b"Types"))?)?;
-    let uris = uris_of(alloc, must_be(first, find(paragraph, b"URIs"))?)?;
-    let suites = suites_of(alloc, arch, must_be(first, find(paragraph, b"Suites"))?)?;
+    let types = types_of(alloc, first, find(paragraph, b"Types"))?;
+    let uris = uris_of(alloc, first, find(paragraph, b"URIs"))?;
+    let suites = suites_of(alloc, arch, first, find(paragraph, b"Suites"))?;
     let components = components_of(alloc, first, suites.as_slice(), find(paragraph, b"Components"))?;
     let options = options_of(alloc, paragraph)?;
     Ok(Stanza {

@@ -1,3 +1,5 @@
+//! Suites, which may name the machine's architecture.
+
 ghost use Rattle.std.specs.Prelude.{◌≡◌, ◌⊎◌, Err, IfOk};
 ghost use Rattle.source_lists.specs.Values as values;
 
@@ -5,9 +7,6 @@ use crate::ListError;
 use crate::values::is_path;
 use acq_base::{NoMemory, Text};
 use std::alloc::Global;
-
-/// What stands for the architecture of the machine.
-const ARCH: &[u8] = b"$(ARCH)";
 
 /// The suite that a word of this line is, on a machine of this architecture: `$(ARCH)` is replaced, and slashes at the front
 /// are dropped. `BadLine` where that isn't letters, digits and `._-+~:/`, or has a segment `..`.
@@ -30,12 +29,15 @@ fn replaced(alloc: Global, arch: &[u8], text: &[u8]) -> Result<Text, NoMemory>
     let mut whole = Text::new(alloc);
     let mut rest = text;
     while let [first, after @ ..] = rest {
-        if rest.starts_with(ARCH) {
-            whole.append(arch)?;
-            rest = &rest[ARCH.len()..];
-        } else {
-            whole.push(*first)?;
-            rest = after;
+        match rest.strip_prefix(b"$(ARCH)") {
+            Some(behind) => {
+                whole.append(arch)?;
+                rest = behind;
+            }
+            None => {
+                whole.push(*first)?;
+                rest = after;
+            }
         }
     }
     Ok(whole)

@@ -1,9 +1,11 @@
-ghost use Rattle.std.specs.Prelude.{◌≡◌, ◌⊎◌, ◌∷◌, [], Err, IfOk};
+//! The words of a sources list by themselves, each with the line on which it is refused.
+
+ghost use Rattle.std.specs.Prelude.{◌≡◌, ◌⊎◌, ◌∷◌, [], Err, bytes_eq};
 ghost use Rattle.std.specs.List.{list_any, list_all};
 ghost use Rattle.source_lists.specs.Values as values;
 
 use crate::ListError;
-use acq_base::{ByHash, NoMemory, Row, Text, Uri};
+use acq_base::{ByHash, Row, Text, Uri};
 use std::alloc::Global;
 use uri_names::{UriError, read_base};
 
@@ -42,19 +44,25 @@ fn has_path_characters(text: &[u8]) -> bool
     text.iter().all(|byte| is_path_character(*byte))
 }
 
+/// Whether a text is exactly this word.
+pub fn is_spelled(text: &[u8], word: &[u8]) -> bool
+    ensures { result ≡ bytes_eq text.now word.now }
+{
+    text == word
+}
+
 fn is_dot_dot(segment: &[u8]) -> bool
     ensures { result ≡ values.is_dot_dot segment.now }
 {
-    matches!(segment, b"..")
+    is_spelled(segment, b"..")
 }
 
-/// Whether no segment of a path is `..`.
-#[tactic(auto, unfolding(crate::specs::Values::stays_below))]
-fn stays_below(path: &[u8]) -> bool
-    ensures { result ≡ values.stays_below path.now }
+/// Whether a segment of a path is `..`.
+#[tactic(auto, unfolding(crate::specs::Values::leads_up))]
+fn leads_up(path: &[u8]) -> bool
+    ensures { result ≡ values.leads_up path.now }
 {
-    !path
-        .split(|byte| *byte == b'/')
+    path.split(|byte| *byte == b'/')
         .any(|segment| is_dot_dot(segment))
 }
 
@@ -64,7 +72,7 @@ fn stays_below(path: &[u8]) -> bool
 pub fn is_path(text: &[u8]) -> bool
     ensures { result ≡ values.is_path text.now }
 {
-    !text.is_empty() && has_path_characters(text) && stays_below(text)
+    !text.is_empty() && has_path_characters(text) && !leads_up(text)
 }
 
 /// Whether a suite is the exact path of a folder, which ends in `/`.
@@ -95,13 +103,37 @@ fn is_architecture(word: &[u8]) -> bool
 fn is_binary(word: &[u8]) -> bool
     ensures { result ≡ values.is_binary word.now }
 {
-    matches!(word, b"deb")
+    is_spelled(word, b"deb")
 }
 
 fn is_source(word: &[u8]) -> bool
     ensures { result ≡ values.is_source word.now }
 {
-    matches!(word, b"deb-src")
+    is_spelled(word, b"deb-src")
+}
+
+fn is_type(word: &[u8]) -> bool
+    ensures { result ≡ values.is_type word.now }
+{
+    is_binary(word) || is_source(word)
+}
+
+fn are_types(words: &[Text]) -> bool
+    ensures { result ≡ list_all values.is_type words.now }
+{
+    words.iter().all(|word| is_type(word.as_bytes()))
+}
+
+fn has_binary(words: &[Text]) -> bool
+    ensures { result ≡ list_any values.is_binary words.now }
+{
+    words.iter().any(|word| is_binary(word.as_bytes()))
+}
+
+fn has_source(words: &[Text]) -> bool
+    ensures { result ≡ list_any values.is_source words.now }
+{
+    words.iter().any(|word| is_source(word.as_bytes()))
 }
 
 /// The types that words of this line name, or `BadLine` where one is neither `deb` nor `deb-src`.
@@ -109,15 +141,12 @@ fn is_source(word: &[u8]) -> bool
 pub fn types_at(at: u64, words: &[Text]) -> Result<Types, ListError>
     ensures { result ≡ values.types_at at words.now }
 {
-    if !words
-        .iter()
-        .all(|word| is_binary(word.as_bytes()) || is_source(word.as_bytes()))
-    {
+    if !are_types(words) {
         return Err(ListError::BadLine(at));
     }
     Ok(Types {
-        binary: words.iter().any(|word| is_binary(word.as_bytes())),
-        source: words.iter().any(|word| is_source(word.as_bytes())),
+        binary: has_binary(words),
+        source: has_source(words),
     })
 }
 
@@ -214,11 +243,14 @@ fn are_architectures(words: &[Text]) -> bool
 pub fn by_hash_of(word: &[u8]) -> Option<ByHash>
     ensures { result ≡ values.by_hash_of word.now }
 {
-    match word {
-        b"yes" => Some(ByHash::Yes),
-        b"no" => Some(ByHash::No),
-        b"force" => Some(ByHash::Force),
-        _ => None,
+    if is_spelled(word, b"yes") {
+        Some(ByHash::Yes)
+    } else if is_spelled(word, b"no") {
+        Some(ByHash::No)
+    } else if is_spelled(word, b"force") {
+        Some(ByHash::Force)
+    } else {
+        None
     }
 }
 
