@@ -13,6 +13,20 @@ list_any-within p (x ∷ xs) is = elim (p x) as (λ b. (b || list_any p xs) ≡ 
   | false ↦ λ more. let i = list_any-within p xs more in omega (arith, i)
 ] is
 
+pub list_any-there : {X : Type 0} (p : X → Bool) (xs : List X) → position_or_len p xs < length xs → list_any p xs ≡ true
+list_any-there p [] within = absurd (omega arith)
+list_any-there p (x ∷ xs) within = elim (p x) as (λ b. cond (not b) (1 + position_or_len p xs) 0 < suc (length xs) → (b || list_any p xs) ≡ true) [
+  | true ↦ λ _. refl
+  | false ↦ λ less. list_any-there p xs (omega (arith, less))
+] within
+
+pub list_any-nowhere : {X : Type 0} (p : X → Bool) (xs : List X) → length xs ≤ position_or_len p xs → list_any p xs ≡ false
+list_any-nowhere p [] none = refl
+list_any-nowhere p (x ∷ xs) none = elim (p x) as (λ b. suc (length xs) ≤ cond (not b) (1 + position_or_len p xs) 0 → (b || list_any p xs) ≡ false) [
+  | true ↦ λ short. absurd (omega (arith, short))
+  | false ↦ λ long. list_any-nowhere p xs (omega (arith, long))
+] none
+
 pub place-nowhere : {X : Type 0} (p : X → Bool) (xs : List X) → list_any p xs ≡ false → position_or_len p xs ≡ length xs
 place-nowhere p [] none = refl
 place-nowhere p (x ∷ xs) none = elim (p x) as (λ b. (b || list_any p xs) ≡ false → cond (not b) (1 + position_or_len p xs) 0 ≡ suc (length xs)) [

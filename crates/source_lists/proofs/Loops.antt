@@ -1,15 +1,33 @@
 -- Items read one after another, with what was found so far in front.
-use Rattle.std.proofs.Common.{◌≡◌, ◌∙◌, ℕ, suc, ◌+◌, ◌<◌, ◌≤◌, List, [], ◌∷◌, ◌++◌, length, drop, get_or, drop-cons, append_assoc, Result, Ok, Err, refl, sym, ap, arith}
+use Rattle.std.proofs.Common.{◌≡◌, ◌∙◌, ℕ, suc, ◌+◌, ◌<◌, ◌≤◌, List, [], ◌∷◌, ◌++◌, length, drop, get_or, drop-cons, append_assoc, ◌⊎◌, inl, inr, Result, Ok, Err, refl, sym, ap, arith}
 use Rattle.std.specs.List.{flat_map}
 use Rattle.std.proofs.lemmas.List.{drop_all, append-nil}
 use Rattle.source_lists.specs.declared.entry.Entry.{Entry}
 use Rattle.source_lists.specs.declared.error.ListError.{ListError}
+use Rattle.source_lists.specs.declared.error.ListError.TheVariants.{NoMemory}
 use Rattle.source_lists.specs.Steps.{◌>>=◌, each}
 use Rattle.source_lists.specs.Texts.{joined, all_entries}
 
 -- the item at a place, and those behind it
 pub item_at : {X : Type 0} (items : List X) (i : ℕ) (x : X) → i < length items → x ≡ get_or items i x → drop i items ≡ x ∷ drop (i + 1) items
-item_at items i x within is = drop-cons items i x within ∙ ap (λ y. y ∷ drop (suc i) items) (sym is)
+item_at items i x within is =
+    let next : suc i ≡ i + 1 = omega arith in
+    drop-cons items i x within ∙ ap (λ y. y ∷ drop (suc i) items) (sym is) ∙ ap (λ n. x ∷ drop n items) next
+
+-- ---- what a call answers
+
+abbrev pub Gives : {A : Type 0} → Result A ListError → Result A ListError → Type 0
+Gives result read = (result ≡ Err NoMemory) ⊎ (result ≡ read)
+
+-- what a call that went well gave
+pub worked : {A : Type 0} (x : A) (read : Result A ListError) → Gives (Ok x) read → read ≡ Ok x
+worked x read (inl memory) = absurd (cc)
+worked x read (inr same) = sym same
+
+-- and one that failed, which ends the whole
+pub failed : {A B : Type 0} (refusal : ListError) (read : Result A ListError) (whole : Result B ListError) → Gives (Err refusal) read → (read ≡ Err refusal → whole ≡ Err refusal) → Gives (Err refusal) whole
+failed refusal read whole (inl memory) next = let same : refusal ≡ NoMemory = cc in inl (ap Err same)
+failed refusal read whole (inr same) next = inr (sym (next (sym same)))
 
 -- ---- values
 

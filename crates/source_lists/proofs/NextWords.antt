@@ -48,3 +48,5 @@ words-none (c ∷ rest) none =
       | inl blank ↦ rw blank (words-none rest (rw blank at none))
       | inr plain ↦ absurd (let h : length (before_first is_blank (c ∷ rest)) ≡ 0 = rw plain at none in let k : suc (length (take (position_or_len is_blank rest) rest)) ≡ 0 = rw plain at h in omega (arith, k))
     ]
+
+pub ruleset next_words = (words-next, words-none)

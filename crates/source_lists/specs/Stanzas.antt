@@ -20,7 +20,7 @@ use Rattle.source_lists.specs.Values.{types_at, base_at, suite_at, components_at
 
 -- the words of a field, on all its lines
 unfoldable pub field_words : Field → List (List ℕ)
-field_words field = flat_map (λ line. words is_blank line) field.lines
+field_words field = flat_map (words is_blank) field.lines
 
 -- a stanza is named by the line of its first field
 abbrev pub first_at : List Field → ℕ

@@ -1,6 +1,8 @@
 //! The fields of a stanza.
 
 ghost use Rattle.std.specs.Prelude.{◌≡◌, ◌⊎◌, Err, IfOk, option_copied};
+ghost use Rattle.std.specs.List.{flat_map};
+ghost use Rattle.acq_base.specs.Words.{is_blank, words as words_of};
 ghost use Rattle.source_lists.specs.Stanzas as spec;
 ghost use Rattle.source_lists.specs.Steps.{each};
 ghost use Rattle.source_lists.specs.Values.{base_at as base_of, suite_at as suite_of, by_hash_of as by_hash_in, boolean_of as boolean_in};
@@ -18,8 +20,15 @@ use std::alloc::Global;
 fn field_words(alloc: Global, field: &Field) -> Result<Row<Text>, NoMemory>
     ensures { IfOk result (λ found. found ≡ spec.field_words field.now) }
 {
+    line_words(alloc, field.lines.as_slice())
+}
+
+/// The words of all these lines.
+fn line_words(alloc: Global, lines: &[Text]) -> Result<Row<Text>, NoMemory>
+    ensures { IfOk result (λ found. found ≡ flat_map (words_of is_blank) lines.now) }
+{
     let mut found = Vec::new(alloc);
-    for line in field.lines.as_slice() {
+    for line in lines {
         let mut more = words(alloc, line.as_bytes())?.into_vec();
         found.append(&mut more)?;
     }
@@ -98,16 +107,16 @@ pub fn suites_of(
     ensures { (result ≡ Err ListError.NoMemory) ⊎ (result ≡ spec.suites_of arch.now first (option_copied field.entry)) }
 {
     let found = some_words(alloc, first, field)?;
-    suites_at(alloc, arch, line_of(first, field), found.as_slice())
+    suites_at(alloc, arch.as_bytes(), line_of(first, field), found.as_slice())
 }
 
 /// The suites that words of this line are.
-fn suites_at(alloc: Global, arch: &Text, at: u64, words: &[Text]) -> Result<Row<Text>, ListError>
+fn suites_at(alloc: Global, arch: &[u8], at: u64, words: &[Text]) -> Result<Row<Text>, ListError>
     ensures { (result ≡ Err ListError.NoMemory) ⊎ (result ≡ each (suite_of arch.now at) words.now) }
 {
     let mut suites = Row::new(alloc);
     for word in words {
-        suites.push(suite_at(alloc, arch.as_bytes(), at, word.as_bytes())?)?;
+        suites.push(suite_at(alloc, arch, at, word.as_bytes())?)?;
     }
     Ok(suites)
 }

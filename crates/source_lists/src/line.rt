@@ -35,10 +35,11 @@ pub fn cut_at(byte: u8, text: &[u8]) -> Option<(&[u8], &[u8])>
     ensures none { IfNone result (list_any (λ c. c == byte) text.now ≡ false) }
 {
     let (front, rest) = text.split_at(place_of(byte, text));
-    match rest {
-        [_, behind @ ..] => Some((front, behind)),
-        [] => None,
+    if rest.is_empty() {
+        return None;
     }
+    let (_, behind) = rest.split_at(1);
+    Some((front, behind))
 }
 
 /// Where the byte first stands in a text, or the text's length.

@@ -1,7 +1,7 @@
 //! The one-line form.
 
-ghost use Rattle.std.specs.Prelude.{◌≡◌, ◌⊎◌, ◌≤◌, length, Err, IfOk, IfErr};
-ghost use Rattle.std.specs.List.{position_or_len};
+ghost use Rattle.std.specs.Prelude.{◌≡◌, ◌⊎◌, ◌≤◌, ◌∷◌, [], length, Err, IfOk, IfErr, IfSome, IfNone};
+ghost use Rattle.std.specs.List.{position_or_len, list_all};
 ghost use Rattle.acq_base.specs.Words.{is_blank as blank, words as words_of};
 ghost use Rattle.source_lists.specs.OneLine as spec;
 ghost use Rattle.source_lists.specs.Texts as texts;
@@ -81,6 +81,7 @@ fn read_lines(
 }
 
 /// The entry of a line, unless it is blank but for a comment.
+#[tactic(auto, unfolding(crate::specs::OneLine::line_entry))]
 fn read_line(
     alloc: Global,
     file: &Text,
@@ -91,10 +92,17 @@ fn read_line(
     ensures { (result ≡ Err ListError.NoMemory) ⊎ (result ≡ spec.line_entry file.now arch.now (at, line.now)) }
 {
     let text = uncommented(line);
-    if text.iter().all(|byte| is_blank(*byte)) {
+    if is_all_blank(text) {
         return Ok(None);
     }
     Ok(Some(read_entry(alloc, file, arch, at, text)?))
+}
+
+/// Whether a text has nothing but blanks.
+fn is_all_blank(text: &[u8]) -> bool
+    ensures { result ≡ list_all blank text.now }
+{
+    text.iter().all(|byte| is_blank(*byte))
 }
 
 /// A line without its comment.
@@ -206,6 +214,20 @@ fn first_word(text: &[u8]) -> (&[u8], &[u8])
     (word, trim_blanks_start(behind))
 }
 
+/// The first word of a text and what stands behind it. None where there is no word.
+#[tactic(auto, using(crate::proofs::NextWords::next_words))]
+fn next_word(text: &[u8]) -> Option<(&[u8], &[u8])>
+    ensures some { IfSome result (λ found. words_of blank text.now ≡ found.0.now ∷ words_of blank found.1.now) }
+    ensures none { IfNone result (words_of blank text.now ≡ []) }
+{
+    let (word, behind) = first_word(text);
+    if word.is_empty() {
+        None
+    } else {
+        Some((word, behind))
+    }
+}
+
 /// How many bytes stand before the first blank, or all of them.
 fn word_length(text: &[u8]) -> usize
     ensures place { result ≡ position_or_len blank text.now }
@@ -231,15 +253,13 @@ pub struct Place {
 fn read_place(alloc: Global, arch: &Text, at: u64, text: &[u8]) -> Result<Place, ListError>
     ensures { (result ≡ Err ListError.NoMemory) ⊎ (result ≡ spec.place_at arch.now at (words_of blank text.now)) }
 {
-    let (word, behind) = first_word(text);
-    if word.is_empty() {
+    let Some((word, behind)) = next_word(text) else {
         return Err(ListError::BadLine(at));
-    }
+    };
     let uri = base_at(alloc, at, word)?;
-    let (word, behind) = first_word(behind);
-    if word.is_empty() {
+    let Some((word, behind)) = next_word(behind) else {
         return Err(ListError::BadLine(at));
-    }
+    };
     let suite = suite_at(alloc, arch.as_bytes(), at, word)?;
     let components = components_at(at, slice::from_ref(&suite), words(alloc, behind)?)?;
     Ok(Place {

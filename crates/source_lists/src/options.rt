@@ -39,13 +39,20 @@ pub struct Options {
 pub fn read_options(alloc: Global, at: u64, text: &[u8]) -> Result<Options, ListError>
     ensures { (result ≡ Err ListError.NoMemory) ⊎ (result ≡ one_line.options_at at (words_of is_blank text.now)) }
 {
+    let found = words(alloc, text)?;
+    said_by(alloc, at, found.as_slice())
+}
+
+/// What these words of the options say together.
+fn said_by(alloc: Global, at: u64, words: &[Text]) -> Result<Options, ListError>
+    ensures { (result ≡ Err ListError.NoMemory) ⊎ (result ≡ one_line.options_at at words.now) }
+{
     let mut options = Options {
         archs: None,
         by_hash: None,
         pdiffs: None,
     };
-    let found = words(alloc, text)?;
-    for word in found.as_slice() {
+    for word in words {
         let choice = read_choice(alloc, at, word.as_bytes())?;
         options = with_choice(options, choice);
     }
@@ -103,7 +110,7 @@ fn read_choice(alloc: Global, at: u64, word: &[u8]) -> Result<Choice, ListError>
 }
 
 /// Whether `+=` or `-=` stands in a word.
-#[tactic(auto, unfolding(crate::specs::OneLine::has_operator))]
+#[tactic(auto, unfolding(crate::specs::OneLine::has_operator), using(crate::proofs::Choices::no_operator))]
 fn has_operator(word: &[u8]) -> bool
     ensures { result ≡ one_line.has_operator word.now }
 {

@@ -22,7 +22,7 @@ pub struct Stanza {
 }
 
 /// Adds the entries of a stanza: none where it is disabled, and else one for each URI and, within it, each suite.
-#[tactic(auto, unfolding(crate::specs::Stanzas::stanza_entries))]
+#[tactic(auto, unfolding(crate::specs::Stanzas::stanza_entries, crate::specs::Stanzas::enabled_entries))]
 pub fn add_stanza(
     alloc: Global,
     file: &Text,
