@@ -1,6 +1,5 @@
 -- Items read one after another, with what was found so far in front.
 use Rattle.std.proofs.Common.{◌≡◌, ◌∙◌, ℕ, suc, ◌+◌, ◌<◌, ◌≤◌, List, [], ◌∷◌, ◌++◌, length, drop, get_or, drop-cons, append_assoc, ◌⊎◌, inl, inr, Result, Ok, Err, refl, sym, ap, arith}
-use Rattle.std.specs.List.{flat_map}
 use Rattle.std.proofs.lemmas.List.{drop_all, append-nil}
 use Rattle.source_lists.specs.declared.entry.Entry.{Entry}
 use Rattle.source_lists.specs.declared.error.ListError.{ListError}
@@ -82,3 +81,20 @@ entries-stop read front x rest refusal here = ap (λ r. with_entries front (r >>
 pub entries-end : {X : Type 0} (read : X → Result (List Entry) ListError) (front : List Entry) → with_entries front (each read []) ≡ Ok front
 unfolding each
 entries-end read front = ap Ok (append-nil front)
+
+-- a call that adds the entries of the next item
+pub added : {X : Type 0} (read : X → Result (List Entry) ListError) (whole : Result (List Entry) ListError) (front new : List Entry) (items : List X) (i : ℕ) (x : X) → whole ≡ with_entries front (each read (drop i items)) → i < length items → x ≡ get_or items i x
+    → (found : List Entry) × (read x ≡ Ok found) × (new ≡ front ++ found) → whole ≡ with_entries new (each read (drop (i + 1) items))
+added read whole front new items i x so_far within is adds =
+    let rest = drop (i + 1) items in
+    so_far ∙ ap (λ t. with_entries front (each read t)) (item_at items i x within is) ∙ entries-step read front adds.0 x rest adds.1 ∙ ap (λ t. with_entries t (each read rest)) (sym adds.2)
+
+pub adds_none : {X : Type 0} (read : X → Result (List Entry) ListError) (whole : Result (List Entry) ListError) (front : List Entry) (items : List X) (i : ℕ) (x : X) (refusal : ListError) → whole ≡ with_entries front (each read (drop i items)) → i < length items → x ≡ get_or items i x
+    → (refusal ≡ NoMemory) ⊎ (read x ≡ Err refusal) → Gives (Err refusal) whole
+adds_none read whole front items i x refusal so_far within is (inl memory) = inl (ap Err memory)
+adds_none read whole front items i x refusal so_far within is (inr here) =
+    let rest = drop (i + 1) items in
+    inr (sym (so_far ∙ ap (λ t. with_entries front (each read t)) (item_at items i x within is) ∙ entries-stop read front x rest refusal here))
+
+pub all_added : {X : Type 0} (read : X → Result (List Entry) ListError) (whole : Result (List Entry) ListError) (front : List Entry) (items : List X) (i : ℕ) → whole ≡ with_entries front (each read (drop i items)) → length items ≤ i → whole ≡ Ok front
+all_added read whole front items i so_far past = so_far ∙ ap (λ t. with_entries front (each read t)) (drop_all i items past) ∙ entries-end read front

@@ -1,11 +1,11 @@
 -- The words of a text, one after another from the left.
-use Rattle.std.proofs.Common.{◌≡◌, ◌∙◌, ℕ, suc, ◌+◌, ◌<◌, ◌≤◌, Bool, true, false, cond, not, List, [], ◌∷◌, ◌++◌, length, take, drop, refl, sym, ap, inl, inr, arith}
+use Rattle.std.proofs.Common.{◌≡◌, ◌∙◌, ℕ, suc, ◌+◌, ◌<◌, true, cond, List, [], ◌∷◌, length, take, drop, refl, sym, ap, inl, inr, arith}
 use Rattle.std.specs.Prelude.{filter}
-use Rattle.std.specs.List.{slice_split, position_or_len, list_any, before_first, after_first, onto_first}
+use Rattle.std.specs.List.{position_or_len, list_any, before_first, after_first}
 use Rattle.std.proofs.lemmas.Bool.{cases_Bool}
 use Rattle.std.proofs.lemmas.Bool.Decides.{nat_tests}
 use Rattle.std.proofs.lemmas.List.{take_all, drop_all}
-use Rattle.std.proofs.lemmas.List.Splits.{slice_split_first, slice_split-cons_yes}
+use Rattle.std.proofs.lemmas.List.Splits.{slice_split_first}
 use Rattle.acq_base.specs.Words.{is_blank, is_word, trimmed_start, words}
 use Rattle.source_lists.proofs.Cuts.{list_any-within, place-nowhere, split_whole}
 use Rattle.source_lists.specs.OneLine.{first_word, behind_first}
@@ -18,6 +18,19 @@ words-trimmed (c ∷ rest) =
     elim (cases_Bool (is_blank c)) [
       | inl blank ↦ rw blank (words-trimmed rest)
       | inr plain ↦ rw plain (rw plain refl)
+    ]
+
+-- the blank behind a word counts as little as those behind it
+pub blank-passed : (text : List ℕ) → trimmed_start (drop (position_or_len is_blank text) text) ≡ trimmed_start (after_first is_blank text)
+blank-passed [] = refl
+blank-passed (c ∷ rest) =
+    elim (cases_Bool (is_blank c)) [
+      | inl blank ↦ rw blank (rw blank refl)
+      | inr plain ↦
+          let n = position_or_len is_blank rest in
+          let one : 1 + n ≡ suc n = omega arith in
+          let two : 1 + n + 1 ≡ suc (n + 1) = omega arith in
+          rw plain (ap (λ k. trimmed_start (drop k (c ∷ rest))) one ∙ blank-passed rest ∙ ap (λ k. trimmed_start (drop k (c ∷ rest))) (sym two))
     ]
 
 -- a word that isn't empty is the first
@@ -39,6 +52,12 @@ pub words-next : (text : List ℕ) → 0 < length (first_word text) → words is
 words-next text long =
     sym (words-trimmed text) ∙ first-word (trimmed_start text) long ∙ ap (λ (t : List (List ℕ)). first_word text ∷ t) (sym (words-trimmed (after_first is_blank (trimmed_start text))))
 
+one_byte : (n c : ℕ) (rest : List ℕ) → length (take (1 + n) (c ∷ rest)) ≡ 0 → ⊥
+one_byte n c rest none =
+    let next : 1 + n ≡ suc n = omega arith in
+    let short : length (take (suc n) (c ∷ rest)) ≡ 0 = rw next at none in
+    omega (arith, short)
+
 -- where it is empty, there is none
 pub words-none : (text : List ℕ) → length (first_word text) ≡ 0 → words is_blank text ≡ []
 unfolding words
@@ -46,7 +65,7 @@ words-none [] none = refl
 words-none (c ∷ rest) none =
     elim (cases_Bool (is_blank c)) [
       | inl blank ↦ rw blank (words-none rest (rw blank at none))
-      | inr plain ↦ absurd (let h : length (before_first is_blank (c ∷ rest)) ≡ 0 = rw plain at none in let k : suc (length (take (position_or_len is_blank rest) rest)) ≡ 0 = rw plain at h in omega (arith, k))
+      | inr plain ↦ absurd (let h : length (before_first is_blank (c ∷ rest)) ≡ 0 = rw plain at none in one_byte (position_or_len is_blank rest) c rest (rw plain at h))
     ]
 
 pub ruleset next_words = (words-next, words-none)

@@ -1,6 +1,5 @@
 -- `$(ARCH)` is replaced from the left.
 use Rattle.std.proofs.Common.{◌≡◌, ◌∙◌, ℕ, zero, suc, ◌-◌, ◌<◌, ◌≤◌, true, false, List, [], ◌∷◌, ◌++◌, length, take, drop, get_or, append_assoc, refl, sym, ap, arith}
-use Rattle.std.specs.Prelude.{codes, bytes_eq}
 use Rattle.std.proofs.lemmas.List.{take_all, append-nil}
 use Rattle.source_lists.specs.Values.{begins_with_name, replaced, replaced_behind}
 

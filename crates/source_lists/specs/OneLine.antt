@@ -1,5 +1,5 @@
 -- The one-line form of sources.list(5), "THE DEB AND DEB-SRC TYPES: GENERAL FORMAT": what a line gives.
-use Rattle.std.specs.Prelude.{ℕ, ◌+◌, ◌==◌, ◌&&◌, ◌||◌, not, Bool, true, false, if◌then◌else◌, List, [], ◌∷◌, ◌++◌, codes, bytes_eq, take, drop, Option, Some, None, option_map, option_to_list, ok_or, Result, Ok, Err}
+use Rattle.std.specs.Prelude.{ℕ, ◌==◌, ◌&&◌, ◌||◌, not, Bool, true, false, if◌then◌else◌, List, [], ◌∷◌, codes, bytes_eq, take, drop, Option, Some, None, option_map, option_to_list, ok_or, Result, Ok, Err}
 use Rattle.std.specs.List.{list_any, list_all, slice_split, before_first, after_first}
 use Rattle.acq_base.specs.Words.{is_blank, trimmed_start, words}
 use Rattle.acq_base.specs.declared.plan.ByHash.{ByHash}
@@ -12,7 +12,7 @@ use Rattle.source_lists.specs.declared.options.Options.{Options}
 use Rattle.source_lists.specs.declared.one_line.Place.{Place}
 use Rattle.source_lists.specs.declared.values.Types.{Types}
 use Rattle.source_lists.specs.Steps.{◌>>=◌, each}
-use Rattle.source_lists.specs.Values.{is_empty, types_at, base_at, suite_at, components_at, architectures, by_hash_of, boolean_of}
+use Rattle.source_lists.specs.Values.{types_at, base_at, suite_at, components_at, architectures, by_hash_of, boolean_of}
 
 -- ---- the parts of a line
 

@@ -1,5 +1,5 @@
 -- The deb822 form of sources.list(5), "DEB822-STYLE FORMAT": what a stanza gives.
-use Rattle.std.specs.Prelude.{◌≡◌, ◌⊎◌, ◌++◌, ℕ, Bool, true, false, if◌then◌else◌, List, [], ◌∷◌, map, codes, Option, Some, None, ok_or, Result, Ok, Err}
+use Rattle.std.specs.Prelude.{◌≡◌, ◌⊎◌, ◌++◌, ℕ, Bool, true, if◌then◌else◌, List, [], ◌∷◌, map, codes, Option, Some, None, ok_or, Result, Ok, Err}
 use Rattle.std.specs.List.{flat_map}
 use Rattle.acq_base.specs.Words.{is_blank, words}
 use Rattle.acq_base.specs.declared.plan.ByHash.{ByHash}

@@ -45,7 +45,10 @@ impl fmt::Display for ListError {
             ListError::BadLine(line) => write!(f, "line {line} is no source"),
             ListError::NoComponent(line) => write!(f, "line {line} names no component"),
             ListError::LooseComponent(line) => write!(f, "line {line} names a component of a path"),
-            ListError::Operator(line) => write!(f, "line {line} adds to an option or takes from it"),
+            ListError::Operator(line) => write!(
+                f,
+                "line {line} adds to an option or takes from it"
+            ),
             ListError::BadUri(line) => write!(f, "line {line} has a URI that can't be fetched"),
             ListError::Scheme(line) => {
                 write!(f, "line {line} has a URI of neither http nor file")

@@ -7,10 +7,12 @@ ghost use Rattle.source_lists.specs.Stanzas as spec;
 ghost use Rattle.source_lists.specs.Steps.{each};
 ghost use Rattle.source_lists.specs.Values.{base_at as base_of, suite_at as suite_of, by_hash_of as by_hash_in, boolean_of as boolean_in};
 
+use crate::ListError;
 use crate::options::Options;
 use crate::suites::suite_at;
-use crate::values::{Types, architectures, base_at, boolean_of, by_hash_of, components_at, types_at};
-use crate::ListError;
+use crate::values::{
+    Types, architectures, base_at, boolean_of, by_hash_of, components_at, types_at,
+};
 use acq_base::{ByHash, NoMemory, Row, Text, Uri, words};
 use deb822_text::{Field, Paragraph, find};
 use std::alloc::Global;
@@ -107,7 +109,12 @@ pub fn suites_of(
     ensures { (result ≡ Err ListError.NoMemory) ⊎ (result ≡ spec.suites_of arch.now first (option_copied field.entry)) }
 {
     let found = some_words(alloc, first, field)?;
-    suites_at(alloc, arch.as_bytes(), line_of(first, field), found.as_slice())
+    suites_at(
+        alloc,
+        arch.as_bytes(),
+        line_of(first, field),
+        found.as_slice(),
+    )
 }
 
 /// The suites that words of this line are.

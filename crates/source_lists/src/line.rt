@@ -1,6 +1,6 @@
 //! Lines of a text, and where a text is cut.
 
-ghost use Rattle.std.specs.Prelude.{◌≡◌, ◌==◌, ◌<◌, ◌≤◌, ◌∷◌, true, false, length, IfSome, IfNone};
+ghost use Rattle.std.specs.Prelude.{◌≡◌, ◌==◌, ◌<◌, ◌≤◌, ◌∷◌, [], true, false, length, IfSome, IfNone};
 ghost use Rattle.std.specs.List.{position_or_len, list_any, before_first, after_first};
 ghost use Rattle.std.specs.Str.Lines.{lines as text_lines, strip_carriage_return};
 
@@ -13,7 +13,7 @@ pub fn first_line(text: &[u8]) -> (&[u8], &[u8])
 {
     match cut_at(b'\n', text) {
         Some((line, behind)) => (without_return(line), behind),
-        None => text.split_at(text.len()),
+        None => (text, b"".as_slice()),
     }
 }
 
@@ -33,6 +33,8 @@ pub fn cut_at(byte: u8, text: &[u8]) -> Option<(&[u8], &[u8])>
     ensures before { IfSome result (λ parts. parts.0.now ≡ before_first (λ c. c == byte) text.now) }
     ensures behind { IfSome result (λ parts. parts.1.now ≡ after_first (λ c. c == byte) text.now) }
     ensures none { IfNone result (list_any (λ c. c == byte) text.now ≡ false) }
+    ensures whole { IfNone result (before_first (λ c. c == byte) text.now ≡ text.now) }
+    ensures nothing { IfNone result (after_first (λ c. c == byte) text.now ≡ []) }
 {
     let (front, rest) = text.split_at(place_of(byte, text));
     if rest.is_empty() {

@@ -72,7 +72,8 @@ fn read_lines(
     while !rest.is_empty() {
         let (line, behind) = first_line(rest);
         at += 1;
-        if let Some(entry) = read_line(alloc, file, arch, at, line)? {
+        let found = read_line(alloc, file, arch, at, line)?;
+        if let Some(entry) = found {
             entries.push(entry)?;
         }
         rest = behind;

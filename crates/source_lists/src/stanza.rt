@@ -36,7 +36,13 @@ pub fn add_stanza(
         return Ok(());
     }
     let stanza = read_stanza(alloc, arch, paragraph)?;
-    add_entries(alloc, file, first_at(paragraph.fields.as_slice()), &stanza, entries)?;
+    add_entries(
+        alloc,
+        file,
+        first_at(paragraph.fields.as_slice()),
+        &stanza,
+        entries,
+    )?;
     Ok(())
 }
 
@@ -49,7 +55,12 @@ fn read_stanza(alloc: Global, arch: &Text, paragraph: &Paragraph) -> Result<Stan
     let types = types_of(alloc, first, find(paragraph, b"Types"))?;
     let uris = uris_of(alloc, first, find(paragraph, b"URIs"))?;
     let suites = suites_of(alloc, arch, first, find(paragraph, b"Suites"))?;
-    let components = components_of(alloc, first, suites.as_slice(), find(paragraph, b"Components"))?;
+    let components = components_of(
+        alloc,
+        first,
+        suites.as_slice(),
+        find(paragraph, b"Components"),
+    )?;
     let options = options_of(alloc, paragraph)?;
     Ok(Stanza {
         types,

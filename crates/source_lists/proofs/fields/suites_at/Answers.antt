@@ -14,7 +14,7 @@ returns-in_err-suite_at c =
     let whole = each read c.args.words.now in
     let p = err_from_is_err_and c.from_residual.result c.from_residual.ensures.1 in
     rw (p.1, p.2) (failed c.in_err-suite_at.field-0.0 (read c.as_bytes.result.now) whole c.in_err-suite_at.ensures (λ here.
-      stops read whole c.loop-word.suites c.args.words.now c.loop-word.word-index c.word-item.result c.in_err-suite_at.field-0.0 c.loop-word.invariant c.loop-word-test.true c.word-item.is (ap read (sym c.as_bytes.ensures) ∙ here)))
+    stops read whole c.loop-word.suites c.args.words.now c.loop-word.word-index c.word-item.result c.in_err-suite_at.field-0.0 c.loop-word.invariant c.loop-word-test.true c.word-item.is (ap read (sym c.as_bytes.ensures) ∙ here)))
 
 pub loop-word-preserved : goal.loop-word-preserved
 loop-word-preserved c =

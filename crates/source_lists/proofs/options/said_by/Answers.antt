@@ -13,7 +13,7 @@ returns-in_err-choice c =
     let p = err_from_is_err_and c.from_residual.result c.from_residual.ensures.1 in
     let read = choice_at c.args.at c.as_bytes.result.now in
     rw (p.1, p.2) (failed c.in_err-choice.field-0.0 read (options_at c.args.at c.args.words.now) c.in_err-choice.ensures (λ here.
-      choices.refused c.args.at (options_at c.args.at c.args.words.now) c.loop-word.options c.args.words.now c.loop-word.word-index c.word-item.result c.in_err-choice.field-0.0 c.loop-word.invariant c.loop-word-test.true c.word-item.is (ap (choice_at c.args.at) (sym c.as_bytes.ensures) ∙ here)))
+    choices.refused c.args.at (options_at c.args.at c.args.words.now) c.loop-word.options c.args.words.now c.loop-word.word-index c.word-item.result c.in_err-choice.field-0.0 c.loop-word.invariant c.loop-word-test.true c.word-item.is (ap (choice_at c.args.at) (sym c.as_bytes.ensures) ∙ here)))
 
 pub loop-word-preserved : goal.loop-word-preserved
 loop-word-preserved c =
