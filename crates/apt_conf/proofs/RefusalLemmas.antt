@@ -1,6 +1,6 @@
 -- A refusal is that of the first token that no statements allow.
-use Rattle.std.proofs.Common.{◌≡◌, ◌⊎◌, ◌<◌, ◌-◌, inl, inr, ℕ, zero, suc, Bool, true, false, cond, List, [], ◌∷◌, ◌++◌, length, map, take, Option, Some, None, Result, Ok, Err, IfErr, refl, sym, ap, subst, ◌∙◌, length-append, arith}
-use Rattle.std.specs.Prelude.{if◌then◌else◌, nat_lt, nat_eq}
+use Rattle.std.proofs.Common.{◌≡◌, ◌⊎◌, ◌-◌, inl, inr, ℕ, zero, suc, Bool, true, false, cond, List, [], ◌∷◌, ◌++◌, length, take, Option, Some, None, Result, Ok, Err, IfErr, refl, sym, ap, subst, ◌∙◌, arith}
+use Rattle.std.specs.Prelude.{nat_lt, nat_eq}
 use Rattle.std.proofs.lemmas.Bool.{ltb-true}
 use Rattle.std.proofs.lemmas.Bool.Decides.{nat_tests}
 use Rattle.std.proofs.lemmas.List.{append-nil, append_assoc, length-take, map_push}
@@ -18,8 +18,8 @@ use Rattle.apt_conf.specs.Tokens.{Placed, last_line, tokens_of}
 use Rattle.apt_conf.specs.Statements.{◌>>=◌, Place, Moved, start, moved, on_line, is_closed, given, prefix_of, step_at_start, step_when_listed, step_when_named, step_when_valued, pairs_from}
 use Rattle.apt_conf.specs.Progress.{Reads}
 use Rattle.apt_conf.specs.Reading.{pairs_of}
-use Rattle.apt_conf.specs.Grammar.{Items, spelled, given_by, AreItems}
-use Rattle.apt_conf.specs.Refused.{unplaced, AreStatements, CanGoOn, IsFirstWrong, IsLeftOpen, IsRefusedOn, IsRefused}
+use Rattle.apt_conf.specs.Grammar.{spelled, given_by}
+use Rattle.apt_conf.specs.Refused.{unplaced, AreStatements, CanGoOn, IsRefused}
 use Rattle.apt_conf.proofs.GrammarLemmas.{front, bare, begin, at, after, items_read}
 use Rattle.apt_conf.proofs.TreeLemmas.{statements_from}
 
