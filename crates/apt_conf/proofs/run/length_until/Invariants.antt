@@ -1,10 +1,10 @@
 use Rattle.std.proofs.Common.{◌≡◌, ◌+◌, length}
-use Rattle.apt_conf.specs.Lexemes.{length_until, is_feed}
-use Rattle.apt_conf.proofs.lexeme.line_length.Given as goal
+use Rattle.apt_conf.specs.Lexemes as lexemes
+use Rattle.apt_conf.proofs.run.length_until.Given as goal
 
 abbrev pub invariant-loop-rest : goal.invariant-loop-rest
 invariant-loop-rest l = record {
-  read : l.count + length_until is_feed l.rest ≡ length_until is_feed l.text;
+  read : l.count + lexemes.length_until (lexemes.stops_at l.stop) l.rest ≡ lexemes.length_until (lexemes.stops_at l.stop) l.text;
   within : l.count + length l.rest ≡ length l.text;
 }
 
