@@ -2,7 +2,7 @@
 use Rattle.std.proofs.Common.{◌≡◌, [], ◌∷◌, refl, codes, Some, None}
 use Rattle.std.specs.Fmt.{digits}
 use Rattle.acq_base.specs.declared.uri.Scheme.TheVariants.{Http, File}
-use Rattle.acq_base.specs.Sum.{size_of_text}
+use Rattle.acq_base.specs.Digits.{number_of_digits}
 use Rattle.acq_base.specs.Uri.{text_of_parts, uri_text, name_of_parts, list_name}
 use Rattle.acq_base.specs.Words.{is_blank, is_blank_or_comma, trimmed, trimmed_end, words}
 
@@ -32,23 +32,23 @@ file_name : list_name (record { scheme = File; host = []; port = 0; path = codes
 unfolding name_of_parts
 file_name = refl
 
--- sizes: leading zeros count as digits
-zeros : size_of_text (codes "00") ≡ Some 0
+-- numbers: leading zeros count as digits
+zeros : number_of_digits (codes "00") ≡ Some 0
 zeros = refl
 
-greatest : size_of_text (codes "18446744073709551615") ≡ Some 18446744073709551615
+greatest : number_of_digits (codes "18446744073709551615") ≡ Some 18446744073709551615
 greatest = refl
 
-beyond : size_of_text (codes "18446744073709551616") ≡ None
+beyond : number_of_digits (codes "18446744073709551616") ≡ None
 beyond = refl
 
-long : size_of_text (codes "000000000000000000001") ≡ None
+long : number_of_digits (codes "000000000000000000001") ≡ None
 long = refl
 
-empty : size_of_text [] ≡ None
+empty : number_of_digits [] ≡ None
 empty = refl
 
-signed : size_of_text (codes "+1") ≡ None
+signed : number_of_digits (codes "+1") ≡ None
 signed = refl
 
 -- blanks are spaces and tabs, and no other white space

@@ -1,4 +1,4 @@
 mod Examples
-pub mod Planning
-pub mod Sums
-pub mod Wording
+mod Numbers
+mod Planning
+mod Sums

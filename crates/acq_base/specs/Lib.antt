@@ -1,5 +1,8 @@
+-- What contracts cite, here and in the crates above.
+pub mod Digits
 pub mod Sum
 pub mod Uri
 pub mod Words
+pub mod Mirror
 pub mod Fetch
 pub mod Plan

@@ -1,7 +1,6 @@
 -- URIs of this profile: their text, what makes one sound, and the list name that each has.
-use Rattle.std.specs.Prelude.{◌≡◌, ◌≢◌, ℕ, ◌/◌, ◌%◌, ◌^◌, ◌<◌, ◌≤◌, ◌==◌, ◌||◌, ◌&&◌, nat_le, nat_eq, Bool, false, if◌then◌else◌, List, [], ◌∷◌, ◌++◌, length, codes, slice_get, take, drop, All, Contains, Some, IsTrue}
+use Rattle.std.specs.Prelude.{◌≡◌, ◌≢◌, ℕ, ◌/◌, ◌%◌, ◌^◌, ◌<◌, ◌≤◌, ◌==◌, ◌||◌, ◌&&◌, nat_le, Bool, false, if◌then◌else◌, List, [], ◌∷◌, ◌++◌, length, codes, bytes_eq, slice_get, take, drop, All, Contains, Some, IsTrue}
 use Rattle.std.specs.List.{list_any, flat_map}
-use Rattle.std.specs.Cmp.Lexicographic.{pointwise}
 use Rattle.std.specs.Fmt.{decimal, digit_glyph}
 use Rattle.acq_base.specs.declared.uri.Scheme.{Scheme}
 use Rattle.acq_base.specs.declared.uri.Scheme.TheVariants.{Http, File}
@@ -13,7 +12,7 @@ scheme_index File = 1
 
 -- whether two URIs are the same in each part
 abbrev pub same_uri : Uri → Uri → Bool
-same_uri a b = (scheme_index a.scheme == scheme_index b.scheme) && pointwise nat_eq a.host b.host && (a.port == b.port) && pointwise nat_eq a.path b.path
+same_uri a b = (scheme_index a.scheme == scheme_index b.scheme) && bytes_eq a.host b.host && (a.port == b.port) && bytes_eq a.path b.path
 
 -- an ASCII letter or digit
 abbrev pub is_alphanumeric : ℕ → Bool

@@ -1,3 +1,5 @@
+//! Blanks and words of a text.
+
 ghost use Rattle.std.specs.Prelude.{◌≡◌, Bool, IfOk};
 ghost use Rattle.acq_base.specs.Words.{is_blank as blank, is_blank_or_comma, trimmed, trimmed_end, trimmed_start, separates, words as words_of};
 

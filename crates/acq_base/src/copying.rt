@@ -1,3 +1,5 @@
+//! Copies of values, where memory allows.
+
 ghost use Rattle.std.specs.Prelude.{◌≡◌, IfOk};
 
 use crate::NoMemory;

@@ -1,3 +1,5 @@
+//! What is asked of a mirror, and what it answers.
+
 use crate::{Bytes, NoMemory, Row, TryCopy, Uri};
 use std::alloc::Global;
 

@@ -1,3 +1,5 @@
+//! What is installed of a source.
+
 use crate::{Bytes, ListName, Row};
 
 /// What is installed of one source: its Release, and the files under its planned targets' names.

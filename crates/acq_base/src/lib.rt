@@ -3,17 +3,18 @@
 //! Contracts see a `Text` as the list of its bytes and a `Row` as the list of its cells, so a struct of them reads as
 //! plain data. What takes memory is handed an allocator and may answer `NoMemory`.
 //!
-//! The definitions that the contracts of all layers cite stand in specs/: `Sum` has a file's sum and the texts of one,
-//! `Uri` a URI's text, its list name and what makes it sound, `Plan` and `Fetch` what makes plans, mirrors and replies
-//! sound, `Words` blanks and words.
+//! The definitions that the contracts of all layers cite stand in specs/: `Digits` has numbers as texts write them, `Sum`
+//! a file's sum and the texts of one, `Uri` a URI's text, its list name and what makes it sound, `Mirror` the answer that
+//! a mirror has under a URI, `Plan` and `Fetch` what makes plans, mirrors and replies sound, `Words` blanks and words.
 #![tactic(auto)]
 
 pub use blank::{is_blank, listed_words, trim_blanks, trim_blanks_end, trim_blanks_start, words};
 pub use copying::TryCopy;
+pub use digits::read_digits;
 pub use fetch::{Answer, Job, Mirror, Reply};
 pub use installed::Old;
 pub use memory::NoMemory;
-pub use plan::{ByHash, Kind, Plan, Source, Target};
+pub use plan::{ByHash, Kind, Plan, Source, Target, sources_are_planned};
 pub use refusal::Refusal;
 pub use row::{Bytes, Row};
 pub use settings::{Dates, Pick, Settings};
@@ -23,6 +24,7 @@ pub use uri::{ListName, Scheme, Uri};
 
 mod blank;
 mod copying;
+mod digits;
 mod fetch;
 mod installed;
 mod memory;

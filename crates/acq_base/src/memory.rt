@@ -1,3 +1,5 @@
+//! Want of memory.
+
 use crate::Refusal;
 use std::alloc::{AllocError, AllocFailed};
 use std::error::Error;

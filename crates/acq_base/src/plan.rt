@@ -1,3 +1,8 @@
+//! What a configuration plans: sources, each with its Release and lists.
+
+ghost use Rattle.std.specs.Prelude.{All};
+ghost use Rattle.acq_base.specs.Plan.{IsPlanned, IsSound};
+
 use crate::{ListName, NoMemory, Row, Text, TryCopy, Uri};
 use std::alloc::Global;
 
@@ -53,6 +58,12 @@ pub struct Source {
 pub struct Plan {
     pub sources: Row<Source>,
 }
+
+/// Each source of a sound plan has what a call on one source may rely on.
+#[tactic(auto, using(crate::proofs::Planning::planned))]
+pub fn sources_are_planned()
+    ensures { (plan : Plan) → IsSound plan → All IsPlanned plan.sources }
+{}
 
 impl TryCopy for Kind {
     fn copy(&self, alloc: Global) -> Result<Kind, NoMemory> {

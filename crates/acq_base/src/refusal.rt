@@ -1,3 +1,5 @@
+//! What a report names of a refusal.
+
 ghost use Rattle.std.specs.Prelude.{◌≡◌, ℕ};
 
 /// A refusal that a report can name by its number and, where it has one, its line.

@@ -1,3 +1,5 @@
+//! Rows of values, which contracts see as lists.
+
 ghost use Rattle.std.specs.Prelude.{◌≡◌, ◌++◌, ◌∷◌, [], length, MatchResult, nat_eq};
 
 use crate::{NoMemory, TryCopy};

@@ -1,3 +1,5 @@
+//! The settings that take effect.
+
 use crate::{ByHash, NoMemory, Row, Text, TryCopy};
 use std::alloc::Global;
 

@@ -1,13 +1,14 @@
-ghost use Rattle.std.specs.Prelude.{◌≡◌, ◌↔◌, IsErrOf, IsOk};
-ghost use Rattle.std.specs.Char.{is_ascii_digit};
-ghost use Rattle.std.specs.List.{list_all};
-ghost use Rattle.acq_base.specs.Sum.{sum_of as summed, sum_of_texts, size_of_text, IsHash, IsSize};
+//! Sums of files. Nothing here takes memory.
 
-use crate::{NoMemory, Refusal, TryCopy};
+ghost use Rattle.std.specs.Prelude.{◌≡◌, ◌↔◌, IsErrOf, IsOk};
+ghost use Rattle.acq_base.specs.Digits.{IsNumber};
+ghost use Rattle.acq_base.specs.Sum.{sum_of as summed, sum_of_texts, IsHash};
+
+use crate::{NoMemory, Refusal, TryCopy, read_digits};
 use sha2::{Digest, Sha256};
 use std::alloc::Global;
 use std::error::Error;
-use std::{fmt, str};
+use std::fmt;
 
 /// A SHA-256 digest (FIPS 180-4).
 #[derive(Clone, Copy, Debug, PartialEq, Eq)]
@@ -81,38 +82,18 @@ pub fn sum_of(bytes: &[u8]) -> Sum
 /// Where both texts are wrong, the hash is named. It takes no memory.
 pub fn read_sum(hash: &[u8], size: &[u8]) -> Result<Sum, SumError>
     ensures value { result ≡ sum_of_texts hash.now size.now }
-    ensures ok { IsOk result ↔ (IsHash hash.now × IsSize size.now) }
+    ensures ok { IsOk result ↔ (IsHash hash.now × IsNumber size.now) }
     ensures bad_hash { IsErrOf result SumError.BadHash ↔ (IsHash hash.now → ⊥) }
 {
     let mut sha = [0; 32];
     if hex::decode_to_slice(hash, &mut sha).is_err() {
         return Err(SumError::BadHash);
     }
-    match read_size(size) {
+    match read_digits(size) {
         Some(size) => Ok(Sum {
             size,
             sha: Sha(sha),
         }),
         None => Err(SumError::BadSize),
     }
-}
-
-/// The number that 1 to 20 decimal digits write, if it is below 2^64.
-fn read_size(text: &[u8]) -> Option<u64>
-    ensures { result ≡ size_of_text text.now }
-{
-    if text.len() > 20 || !is_digits(text) {
-        return None;
-    }
-    match str::from_utf8(text) {
-        Ok(digits) => digits.parse::<u64>().ok(),
-        Err(_) => None,
-    }
-}
-
-/// Whether every byte is a decimal digit. `parse` alone would also take a sign.
-fn is_digits(text: &[u8]) -> bool
-    ensures { result ≡ list_all is_ascii_digit text.now }
-{
-    text.iter().all(|c| c.is_ascii_digit())
 }

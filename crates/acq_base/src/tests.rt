@@ -77,6 +77,25 @@ fn hashes_and_sizes(rt: HostRuntime) {
     }
 }
 
+/// Texts, with the number that they write.
+const NUMBERS: [(&[u8], Option<u64>); 7] = [
+    (b"0", Some(0)),
+    (b"007", Some(7)),
+    (b"18446744073709551615", Some(18_446_744_073_709_551_615)),
+    (b"18446744073709551616", None),
+    (b"000000000000000000001", None),
+    (b"", None),
+    (b"+1", None),
+];
+
+#[test]
+fn numbers_in_digits(rt: HostRuntime) {
+    for (text, want) in NUMBERS {
+        assert_eq!(rt; read_digits(text), want, "at {text:?}");
+    }
+    sources_are_planned();
+}
+
 /// Whether a value is equal to its copy, through the bounds alone.
 fn is_copied<T: TryCopy + PartialEq + Drop>(alloc: Global, value: &T) -> Result<bool, NoMemory> {
     Ok(value.copy(alloc)? == *value)

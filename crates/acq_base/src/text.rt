@@ -1,3 +1,5 @@
+//! Texts of bytes, which contracts see as lists of them.
+
 ghost use Rattle.std.specs.Prelude.{◌≡◌, ◌++◌, ◌∷◌, [], length, IfOk, MatchResult, nat_eq};
 
 use crate::{Bytes, NoMemory, TryCopy};
@@ -98,12 +100,11 @@ impl TryCopy for Text {
 }
 
 impl PartialEq for Text {
-    ghost use Rattle.std.specs.Prelude.{nat_eq};
-    ghost use Rattle.std.specs.Cmp.Lexicographic.{pointwise};
+    ghost use Rattle.std.specs.Prelude.{bytes_eq};
     ghost use Rattle.std.specs.Cmp.Rules.{comparing};
     ghost use Rattle.std.proofs.Common.{rules};
 
-    ghost eq = { λ a b. pointwise nat_eq a b };
+    ghost eq = { bytes_eq };
 
     ghost laws = { Prim.search (comparing, rules) };
 

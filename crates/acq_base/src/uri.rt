@@ -1,3 +1,5 @@
+//! URIs of this profile and the names of their files.
+
 use crate::{NoMemory, Text, TryCopy};
 use std::alloc::Global;
 

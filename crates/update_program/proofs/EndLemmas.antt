@@ -3,7 +3,7 @@ use Rattle.std.proofs.Common.{◌≡◌, ◌≢◌, inl, inr, ℕ, ℤ, Bool, Is
 use Rattle.acq_base.specs.declared.plan.Target.{Target}
 use Rattle.acq_base.specs.declared.plan.Source.{Source}
 use Rattle.acq_outside.specs.Disk.{Files}
-use Rattle.acq_outside.specs.Mirror.{World}
+use Rattle.acq_base.specs.Mirror.{World}
 use Rattle.acq_outside.specs.Sink.{Wrote}
 use Rattle.update_program.specs.declared.cause.Outcome.{Outcome}
 use Rattle.update_program.specs.declared.cause.Outcome.TheVariants.{Installs, Older, Kept}

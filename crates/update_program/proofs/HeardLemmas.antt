@@ -4,7 +4,8 @@ use Rattle.acq_base.specs.declared.memory.NoMemory.{NoMemory as no_memory}
 use Rattle.acq_base.specs.declared.fetch.Job.{Job}
 use Rattle.acq_base.specs.declared.fetch.Reply.{Reply}
 use Rattle.acq_base.specs.declared.fetch.Reply.TheVariants.{Served, Moved, Absent, TooBig, Garbled, Fault, NoMemory}
-use Rattle.acq_outside.specs.Mirror.{World, IsReply}
+use Rattle.acq_base.specs.Mirror.{World}
+use Rattle.acq_outside.specs.Mirror.{IsReply}
 use Rattle.acq_base.specs.declared.plan.Target.{Target}
 use Rattle.acq_base.specs.declared.plan.Source.{Source}
 use Rattle.update_program.specs.declared.cause.End.{End}

@@ -5,7 +5,7 @@ use Rattle.acq_base.specs.declared.plan.Target.{Target}
 use Rattle.acq_base.specs.declared.plan.Source.{Source}
 use Rattle.acq_base.specs.declared.fetch.Reply.{Reply}
 use Rattle.acq_base.specs.declared.fetch.Reply.TheVariants.{Served, Moved, Absent, TooBig, Garbled, Fault, NoMemory}
-use Rattle.acq_outside.specs.Mirror.{World}
+use Rattle.acq_base.specs.Mirror.{World}
 use Rattle.update_program.specs.declared.cause.Outcome.{Outcome}
 use Rattle.update_program.specs.declared.cause.Stage.{Stage}
 use Rattle.update_program.specs.declared.cause.Stage.TheVariants.{Over, Wants}

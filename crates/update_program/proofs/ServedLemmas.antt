@@ -11,7 +11,8 @@ use Rattle.acq_base.specs.declared.fetch.Answer.{Answer}
 use Rattle.acq_base.specs.declared.fetch.Answer.TheVariants as answers
 use Rattle.acq_base.specs.declared.fetch.Reply.{Reply}
 use Rattle.acq_base.specs.declared.fetch.Reply.TheVariants.{Served, Moved, Absent, TooBig, Garbled, Fault, NoMemory}
-use Rattle.acq_outside.specs.Mirror.{World, answer_at, reply_within}
+use Rattle.acq_base.specs.Mirror.{World, answer_at}
+use Rattle.acq_outside.specs.Mirror.{reply_within}
 use Rattle.release_file.specs.declared.release.Release.{Release}
 use Rattle.release_file.specs.declared.error.ReleaseError.{ReleaseError}
 use Rattle.release_file.specs.declared.judging.DateError.{DateError}

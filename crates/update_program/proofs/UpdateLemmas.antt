@@ -7,7 +7,7 @@ use Rattle.acq_base.specs.declared.plan.Target.{Target}
 use Rattle.acq_base.specs.declared.plan.Source.{Source}
 use Rattle.acq_outside.specs.Count.{Rose}
 use Rattle.acq_outside.specs.Disk.{Files, same_name, with_file}
-use Rattle.acq_outside.specs.Mirror.{World}
+use Rattle.acq_base.specs.Mirror.{World}
 use Rattle.update_program.specs.declared.cause.Outcome.{Outcome}
 use Rattle.update_program.specs.declared.cause.Outcome.TheVariants.{Installs, Older, Kept}
 use Rattle.release_file.specs.Release.{listed_sum}

@@ -9,7 +9,7 @@ use Rattle.acq_base.specs.declared.plan.Target.{Target}
 use Rattle.acq_base.specs.declared.plan.Source.{Source}
 use Rattle.acq_base.specs.declared.fetch.Reply.{Reply}
 use Rattle.acq_base.specs.declared.fetch.Reply.TheVariants.{Served, Moved, Absent, TooBig, Garbled, Fault, NoMemory}
-use Rattle.acq_outside.specs.Mirror.{World}
+use Rattle.acq_base.specs.Mirror.{World}
 use Rattle.release_file.specs.declared.release.Release.{Release}
 use Rattle.release_file.specs.declared.error.ReleaseError.{ReleaseError}
 use Rattle.release_file.specs.declared.judging.DateError.{DateError}

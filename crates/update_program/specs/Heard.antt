@@ -6,7 +6,8 @@ use Rattle.acq_base.specs.declared.fetch.Job.{Job}
 use Rattle.acq_base.specs.declared.fetch.Reply.{Reply}
 use Rattle.acq_base.specs.declared.fetch.Reply.TheVariants.{Served, Moved, Absent, TooBig, Garbled, Fault, NoMemory}
 use Rattle.acq_outside.specs.Count.{Rose}
-use Rattle.acq_outside.specs.Mirror.{World, Answers, answer_at, reply_within}
+use Rattle.acq_base.specs.Mirror.{World, answer_at}
+use Rattle.acq_outside.specs.Mirror.{Answers, reply_within}
 use Rattle.update_program.specs.declared.cause.Outcome.{Outcome}
 use Rattle.update_program.specs.declared.cause.Stage.{Stage}
 use Rattle.update_program.specs.declared.cause.Stage.TheVariants.{Over, Wants}

@@ -6,7 +6,7 @@ use Rattle.acq_base.specs.declared.plan.Target.{Target}
 use Rattle.acq_base.specs.declared.plan.Source.{Source}
 use Rattle.acq_outside.specs.Count.{Rose, one_more}
 use Rattle.acq_outside.specs.Disk.{Files}
-use Rattle.acq_outside.specs.Mirror.{World}
+use Rattle.acq_base.specs.Mirror.{World}
 use Rattle.acq_outside.specs.Sink.{Wrote, WrotePart}
 use Rattle.release_file.specs.declared.release.Release.{Release}
 use Rattle.release_file.specs.Release.{release_of, listed_sum}

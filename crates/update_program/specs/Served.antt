@@ -6,7 +6,7 @@ use Rattle.acq_base.specs.declared.sum.Sum.{Sum}
 use Rattle.acq_base.specs.declared.plan.Target.{Target}
 use Rattle.acq_base.specs.declared.plan.Source.{Source}
 use Rattle.acq_base.specs.declared.fetch.Answer.TheVariants.{Served}
-use Rattle.acq_outside.specs.Mirror.{World, answer_at}
+use Rattle.acq_base.specs.Mirror.{World, answer_at}
 use Rattle.acq_outside.specs.Sink.{Wrote}
 use Rattle.release_file.specs.declared.release.Release.{Release}
 use Rattle.release_file.specs.Release.{release_of, listed_sum}
