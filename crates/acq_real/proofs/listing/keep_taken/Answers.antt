@@ -10,7 +10,7 @@ loop-name-preserved c =
     let name : List ℕ = c.name-item.result in
     let front : Names = take c.loop-name.name-index c.args.names.now in
     let more : take (c.loop-name.name-index + 1) c.args.names.now ≡ front ++ name ∷ [] =
-        take_more c.args.names.now c.loop-name.name-index name c.loop-name-test.true ∙ ap (λ (n : List ℕ). front ++ n ∷ []) (sym c.name-item.is) in
+    take_more c.args.names.now c.loop-name.name-index name c.loop-name-test.true ∙ ap (λ (n : List ℕ). front ++ n ∷ []) (sym c.name-item.is) in
     let P : Names → Type 0 = λ kept. Keeps (front ++ name ∷ []) kept in
     subst (λ (names : Names). Keeps names c.if-is_taken.kept.items) (sym more)
     (elim c.if-is_taken.branch [
