@@ -7,6 +7,6 @@ pub returns-in-Ok-clause-ended : goal.returns-in-Ok-clause-ended
 returns-in-Ok-clause-ended g c =
     let ran = simp (to_z-of_z, c.ranges.now) at c.in-Ok.ensures.ran in
     elim c.tell.ensures.told [
-      | inl said ↦ record { way = inl (record { outcome = c.in-Ok.outcome; run = ran; said = said }) }
-      | inr said ↦ record { way = inr (inr (record { left = inr (c.in-Ok.outcome, ran); said = said })) }
+      | inl said ↦ record { way = inl (record { outcome = c.in-Ok.outcome; run = ran; quiet = c.run.ensures.disk_quiet; said = said }) }
+      | inr said ↦ record { way = inr (inr (record { left = inr (c.in-Ok.outcome, ran); quiet = c.run.ensures.disk_quiet; said = said })) }
     ]
