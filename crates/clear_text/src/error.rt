@@ -15,7 +15,10 @@ impl fmt::Display for FrameError {
     fn fmt<W: fmt::Write>(&self, f: &mut fmt::Formatter<W>) -> fmt::Result {
         match self {
             FrameError::BadFrame(0) => f.write_str("the signed text ends too early"),
-            FrameError::BadFrame(line) => write!(f, "line {line} can't stand there in a signed text"),
+            FrameError::BadFrame(line) => write!(
+                f,
+                "line {line} can't stand there in a signed text"
+            ),
             FrameError::NoMemory => f.write_str("out of memory"),
         }
     }
