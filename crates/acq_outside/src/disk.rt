@@ -1,3 +1,4 @@
+//! The lists folder, as the rest of the program asks for it.
 ghost use Rattle.std.specs.Prelude.{◌≡◌, ℕ, ◌<◌, ◌≤◌, ◌^◌, [], Bool, All, IsTrue, length, Option, IfOk, OnOk, OnErr, IsErrOf, IfSome, IsSomeAnd, option_map, unwrap_or};
 ghost use Rattle.acq_outside.specs.Count.{Rose};
 ghost use Rattle.acq_outside.specs.Disk.{Files, IsName, IsNames, IsRead, IsTornWrite, IsTornCut, IsDoneOrNot, after_write, after_cut, after_rename, after_remove};
@@ -23,6 +24,8 @@ pub trait Disk: Drop {
     fn names(&mut self, alloc: Global) -> Result<Row<Text>, OutError>
         ensures count { faults self.old ≤ faults self.new }
         ensures fault { IsErrOf result OutError.Fault → Rose (faults self.old) (faults self.new) }
+        ensures quiet { OnOk result (faults self.new ≡ faults self.old) }
+        ensures dry { IsErrOf result OutError.NoMemory → faults self.new ≡ faults self.old }
         ensures telling { tells self.new ≡ tells self.old }
         ensures same { files self.new ≡ files self.old }
         ensures few { IfOk result (λ names. length names < 2 ^ 31) }
@@ -34,6 +37,7 @@ pub trait Disk: Drop {
         requires { IsName name.now }
         ensures count { faults self.old ≤ faults self.new }
         ensures fault { OnErr result (Rose (faults self.old) (faults self.new)) }
+        ensures quiet { OnOk result (faults self.new ≡ faults self.old) }
         ensures telling { tells self.new ≡ tells self.old }
         ensures same { files self.new ≡ files self.old }
         ensures told { IsTrue (tells self.old) → IfOk result (λ size. size ≡ option_map length (files self.old name.now)) };
@@ -44,6 +48,7 @@ pub trait Disk: Drop {
         requires { IsName name.now }
         ensures count { faults self.old ≤ faults self.new }
         ensures fault { OnErr result (Rose (faults self.old) (faults self.new)) }
+        ensures quiet { OnOk result (faults self.new ≡ faults self.old) }
         ensures telling { tells self.new ≡ tells self.old }
         ensures same { files self.new ≡ files self.old }
         ensures within { IfOk result (λ n. n ≤ length out.old) }
@@ -55,6 +60,7 @@ pub trait Disk: Drop {
         requires there { IsTrue (tells self.old) → IsSomeAnd (files self.old name.now) (λ content. at ≤ length content) }
         ensures count { faults self.old ≤ faults self.new }
         ensures fault { OnErr result (Rose (faults self.old) (faults self.new)) }
+        ensures quiet { OnOk result (faults self.new ≡ faults self.old) }
         ensures telling { tells self.new ≡ tells self.old }
         ensures ok { IsTrue (tells self.old) → OnOk result (files self.new ≡ after_write (files self.old) name.now at bytes.now) }
         ensures err { IsTrue (tells self.old) → OnErr result (IsTornWrite (files self.old) (files self.new) name.now at (length bytes.now)) };
@@ -65,6 +71,7 @@ pub trait Disk: Drop {
         requires within { IsTrue (tells self.old) → len ≤ length (unwrap_or (files self.old name.now) []) }
         ensures count { faults self.old ≤ faults self.new }
         ensures fault { OnErr result (Rose (faults self.old) (faults self.new)) }
+        ensures quiet { OnOk result (faults self.new ≡ faults self.old) }
         ensures telling { tells self.new ≡ tells self.old }
         ensures ok { IsTrue (tells self.old) → OnOk result (files self.new ≡ after_cut (files self.old) name.now len) }
         ensures err { IsTrue (tells self.old) → OnErr result (IsTornCut (files self.old) (files self.new) name.now len) };
@@ -74,6 +81,7 @@ pub trait Disk: Drop {
         requires { IsName name.now }
         ensures count { faults self.old ≤ faults self.new }
         ensures fault { OnErr result (Rose (faults self.old) (faults self.new)) }
+        ensures quiet { OnOk result (faults self.new ≡ faults self.old) }
         ensures telling { tells self.new ≡ tells self.old }
         ensures same { files self.new ≡ files self.old };
 
@@ -83,6 +91,7 @@ pub trait Disk: Drop {
         requires to { IsName to.now }
         ensures count { faults self.old ≤ faults self.new }
         ensures fault { OnErr result (Rose (faults self.old) (faults self.new)) }
+        ensures quiet { OnOk result (faults self.new ≡ faults self.old) }
         ensures telling { tells self.new ≡ tells self.old }
         ensures ok { IsTrue (tells self.old) → OnOk result (files self.new ≡ after_rename (files self.old) from.now to.now) }
         ensures err { IsTrue (tells self.old) → OnErr result (IsDoneOrNot (files self.old) (files self.new) (after_rename (files self.old) from.now to.now)) };
@@ -92,6 +101,7 @@ pub trait Disk: Drop {
         requires { IsName name.now }
         ensures count { faults self.old ≤ faults self.new }
         ensures fault { OnErr result (Rose (faults self.old) (faults self.new)) }
+        ensures quiet { OnOk result (faults self.new ≡ faults self.old) }
         ensures telling { tells self.new ≡ tells self.old }
         ensures ok { IsTrue (tells self.old) → OnOk result (files self.new ≡ after_remove (files self.old) name.now) }
         ensures err { IsTrue (tells self.old) → OnErr result (IsDoneOrNot (files self.old) (files self.new) (after_remove (files self.old) name.now)) };
@@ -100,6 +110,7 @@ pub trait Disk: Drop {
     fn sync_names(&mut self) -> Result<(), Fault>
         ensures count { faults self.old ≤ faults self.new }
         ensures fault { OnErr result (Rose (faults self.old) (faults self.new)) }
+        ensures quiet { OnOk result (faults self.new ≡ faults self.old) }
         ensures telling { tells self.new ≡ tells self.old }
         ensures same { files self.new ≡ files self.old };
 }

@@ -1,3 +1,4 @@
+//! A disk in memory.
 ghost use Rattle.std.specs.Prelude.{◌≡◌, ◌≤◌, length, option_copied, option_map};
 ghost use Rattle.acq_outside.specs.Disk.{IsRead};
 
@@ -26,7 +27,8 @@ impl MemDisk {
     ghost use Rattle.std.specs.Prelude.{◌≡◌, ◌≤◌, ◌↔◌, [], IsTrue, IfOk, OnOk, OnErr, MatchResult};
     ghost use Rattle.acq_outside.specs.Count.{Rose};
     ghost use Rattle.acq_outside.specs.Failing.{fresh, starved};
-    ghost use Rattle.acq_outside.specs.History.{IsNamed, IsStart, files_of, changed, after_change};
+    ghost use Rattle.acq_outside.specs.History.{IsStart, files_of, changed, after_change};
+    ghost use Rattle.acq_outside.specs.Held.{IsNamed};
     ghost use Rattle.acq_outside.specs.MemDisk.{past_of, failing_of, held_of};
 
     /// Whether a disk may begin with these files.
@@ -82,6 +84,7 @@ impl MemDisk {
         ensures counted { MatchResult result (λ _. failing_of self.new ≡ failing_of self.old) (λ _. failing_of self.new ≡ starved (failing_of self.old)) }
         ensures count { (failing_of self.old).faults ≤ (failing_of self.new).faults }
         ensures fault { OnErr result (Rose (failing_of self.old).faults (failing_of self.new).faults) }
+        ensures quiet { OnOk result ((failing_of self.new).faults ≡ (failing_of self.old).faults) }
     {
         match self.history.apply(self.alloc, change) {
             Ok(()) => Ok(()),
@@ -107,6 +110,8 @@ impl Disk for MemDisk {
     fn names(&mut self, alloc: Global) -> Result<Row<Text>, OutError>
         ensures count { (failing_of self.old).faults ≤ (failing_of self.new).faults }
         ensures fault { IsErrOf result OutError.Fault → Rose (failing_of self.old).faults (failing_of self.new).faults }
+        ensures quiet { OnOk result ((failing_of self.new).faults ≡ (failing_of self.old).faults) }
+        ensures dry { IsErrOf result OutError.NoMemory → (failing_of self.new).faults ≡ (failing_of self.old).faults }
         ensures telling { true ≡ true }
         ensures same { files_of (past_of self.new) ≡ files_of (past_of self.old) }
         ensures few { IfOk result (λ names. length names < 2 ^ 31) }
@@ -131,6 +136,7 @@ impl Disk for MemDisk {
         requires { IsName name.now }
         ensures count { (failing_of self.old).faults ≤ (failing_of self.new).faults }
         ensures fault { OnErr result (Rose (failing_of self.old).faults (failing_of self.new).faults) }
+        ensures quiet { OnOk result ((failing_of self.new).faults ≡ (failing_of self.old).faults) }
         ensures telling { true ≡ true }
         ensures same { files_of (past_of self.new) ≡ files_of (past_of self.old) }
         ensures told { IsTrue true → IfOk result (λ size. size ≡ option_map length (files_of (past_of self.old) name.now)) }
@@ -151,6 +157,7 @@ impl Disk for MemDisk {
         requires { IsName name.now }
         ensures count { (failing_of self.old).faults ≤ (failing_of self.new).faults }
         ensures fault { OnErr result (Rose (failing_of self.old).faults (failing_of self.new).faults) }
+        ensures quiet { OnOk result ((failing_of self.new).faults ≡ (failing_of self.old).faults) }
         ensures telling { true ≡ true }
         ensures same { files_of (past_of self.new) ≡ files_of (past_of self.old) }
         ensures within { IfOk result (λ n. n ≤ length out.old) }
@@ -174,6 +181,7 @@ impl Disk for MemDisk {
         requires there { IsTrue true → IsSomeAnd (files_of (past_of self.old) name.now) (λ content. at ≤ length content) }
         ensures count { (failing_of self.old).faults ≤ (failing_of self.new).faults }
         ensures fault { OnErr result (Rose (failing_of self.old).faults (failing_of self.new).faults) }
+        ensures quiet { OnOk result ((failing_of self.new).faults ≡ (failing_of self.old).faults) }
         ensures telling { true ≡ true }
         ensures ok { IsTrue true → OnOk result (files_of (past_of self.new) ≡ after_write (files_of (past_of self.old)) name.now at bytes.now) }
         ensures err { IsTrue true → OnErr result (IsTornWrite (files_of (past_of self.old)) (files_of (past_of self.new)) name.now at (length bytes.now)) }
@@ -200,6 +208,7 @@ impl Disk for MemDisk {
         requires within { IsTrue true → len ≤ length (unwrap_or (files_of (past_of self.old) name.now) []) }
         ensures count { (failing_of self.old).faults ≤ (failing_of self.new).faults }
         ensures fault { OnErr result (Rose (failing_of self.old).faults (failing_of self.new).faults) }
+        ensures quiet { OnOk result ((failing_of self.new).faults ≡ (failing_of self.old).faults) }
         ensures telling { true ≡ true }
         ensures ok { IsTrue true → OnOk result (files_of (past_of self.new) ≡ after_cut (files_of (past_of self.old)) name.now len) }
         ensures err { IsTrue true → OnErr result (IsTornCut (files_of (past_of self.old)) (files_of (past_of self.new)) name.now len) }
@@ -224,6 +233,7 @@ impl Disk for MemDisk {
         requires { IsName name.now }
         ensures count { (failing_of self.old).faults ≤ (failing_of self.new).faults }
         ensures fault { OnErr result (Rose (failing_of self.old).faults (failing_of self.new).faults) }
+        ensures quiet { OnOk result ((failing_of self.new).faults ≡ (failing_of self.old).faults) }
         ensures telling { true ≡ true }
         ensures same { files_of (past_of self.new) ≡ files_of (past_of self.old) }
 
@@ -248,6 +258,7 @@ impl Disk for MemDisk {
         requires to { IsName to.now }
         ensures count { (failing_of self.old).faults ≤ (failing_of self.new).faults }
         ensures fault { OnErr result (Rose (failing_of self.old).faults (failing_of self.new).faults) }
+        ensures quiet { OnOk result ((failing_of self.new).faults ≡ (failing_of self.old).faults) }
         ensures telling { true ≡ true }
         ensures ok { IsTrue true → OnOk result (files_of (past_of self.new) ≡ after_rename (files_of (past_of self.old)) from.now to.now) }
         ensures err { IsTrue true → OnErr result (IsDoneOrNot (files_of (past_of self.old)) (files_of (past_of self.new)) (after_rename (files_of (past_of self.old)) from.now to.now)) }
@@ -272,6 +283,7 @@ impl Disk for MemDisk {
         requires { IsName name.now }
         ensures count { (failing_of self.old).faults ≤ (failing_of self.new).faults }
         ensures fault { OnErr result (Rose (failing_of self.old).faults (failing_of self.new).faults) }
+        ensures quiet { OnOk result ((failing_of self.new).faults ≡ (failing_of self.old).faults) }
         ensures telling { true ≡ true }
         ensures ok { IsTrue true → OnOk result (files_of (past_of self.new) ≡ after_remove (files_of (past_of self.old)) name.now) }
         ensures err { IsTrue true → OnErr result (IsDoneOrNot (files_of (past_of self.old)) (files_of (past_of self.new)) (after_remove (files_of (past_of self.old)) name.now)) }
@@ -295,6 +307,7 @@ impl Disk for MemDisk {
     fn sync_names(&mut self) -> Result<(), Fault>
         ensures count { (failing_of self.old).faults ≤ (failing_of self.new).faults }
         ensures fault { OnErr result (Rose (failing_of self.old).faults (failing_of self.new).faults) }
+        ensures quiet { OnOk result ((failing_of self.new).faults ≡ (failing_of self.old).faults) }
         ensures telling { true ≡ true }
         ensures same { files_of (past_of self.new) ≡ files_of (past_of self.old) }
 

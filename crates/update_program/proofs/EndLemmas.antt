@@ -12,7 +12,7 @@ use Rattle.update_program.specs.Heard.{mirror_outcome}
 use Rattle.update_program.specs.Files.{with_list, files_after}
 use Rattle.update_program.specs.Lines.{line_of, status_of}
 use Rattle.update_program.specs.Words.{source_of_words}
-use Rattle.update_program.specs.Run.{Outside, ForRun, ForMethod, ByMirror, MethodFailed, FollowsMirror, seen_with}
+use Rattle.update_program.specs.Run.{Outside, ForRun, ForFirst, ByMirror, MethodFailed, FollowsMirror, seen_with}
 use Rattle.update_program.specs.Served.{ServesNone, EndsAsServed, get_line, held_list}
 use Rattle.update_program.proofs.RequestLemmas.{request_of_words}
 use Rattle.update_program.proofs.ServedLemmas.{served-installs, installs-served}
@@ -110,7 +110,7 @@ follows-ends : (before after : Outside) (world : World) (source : Source) (targe
 follows-ends before after world source target now result n h = by_way h.mirror
   where
     by_way : ByMirror before after world source target now h.outcome → EndsAsServed before after world source target now result
-    by_way (inl is) = by_mirror-ends before after world source target now result h.outcome n is h.line h.status h.files
+    by_way (inl is) = by_mirror-ends before after world source target now result h.outcome n is.0 h.line h.status h.files
     by_way (inr failed) = failed-ends before after world source target now result h.outcome failed h.line h.status h.files
 
 if_told-map : (world : Option World) (P Q : World → Type 0) → ((entries : World) → P entries → Q entries) → IfSome world P → IfSome world Q
@@ -119,7 +119,7 @@ if_told-map (Some entries) P Q f h = f entries h
 
 abbrev pub Ends : {M : Type 0} → (M → ℕ) → (M → Option World) → Bool → (ℕ → Option World → Outside) → (ℕ → Option World → Outside) → List M → List M → ℕ → Source → Target → ℤ → Type 0
 Ends {M} faults world tells before after old new result source target now =
-    ForMethod old new (λ was is. IfSome (world was) (λ entries. IsTrue tells → result ≢ 102 → result ≢ 103 → result ≢ 105
+    ForFirst old new (λ was is. IfSome (world was) (λ entries. IsTrue tells → result ≢ 102 → result ≢ 103 → result ≢ 105
     → EndsAsServed (before (faults was) (world was)) (after (faults is) (world is)) entries source target now result))
 
 -- words that are accepted end with what is served

@@ -121,14 +121,14 @@ set_of-sound path installed now release sum (Garbled at) names = tt
 set_of-sound path installed now release sum (Fault before after) names = tt
 set_of-sound path installed now release sum NoMemory names = tt
 
-ends_from-sound : (low high : ℕ) (world : Option World) (target : Target) (installed : Option ℤ) (now : ℤ) (stage : Stage) (outcome : Outcome)
-    → SoundStage target.path installed now stage → EndsFrom low high world target stage outcome → SoundOutcome target.path installed now outcome
-ends_from-sound low high world target installed now (Over ending) outcome sound h = rw h sound
-ends_from-sound low high world target installed now (Wants release sum) outcome sound h =
+ends_from-sound : (before after : ℕ) (world : Option World) (target : Target) (installed : Option ℤ) (now : ℤ) (stage : Stage) (outcome : Outcome)
+    → SoundStage target.path installed now stage → EndsFrom before after world target stage outcome → SoundOutcome target.path installed now outcome
+ends_from-sound before after world target installed now (Over ending) outcome sound h = rw h.0 sound
+ends_from-sound before after world target installed now (Wants release sum) outcome sound h =
     rw h.2 (set_of-sound target.path installed now release sum h.0 sound)
 
-pub ends_as-sound : (low high : ℕ) (world : Option World) (source : Source) (target : Target) (installed : Option ℤ) (now : ℤ) (outcome : Outcome)
-    → EndsAs low high world source target installed now outcome → SoundOutcome target.path installed now outcome
-ends_as-sound low high world source target installed now outcome h =
-    ends_from-sound low high world target installed now (stage_of target.path installed now (release_end h.0)) outcome
-    (stage_of-sound target.path installed now (release_end h.0)) h.2
+pub ends_as-sound : (before after : ℕ) (world : Option World) (source : Source) (target : Target) (installed : Option ℤ) (now : ℤ) (outcome : Outcome)
+    → EndsAs before after world source target installed now outcome → SoundOutcome target.path installed now outcome
+ends_as-sound before after world source target installed now outcome h =
+    ends_from-sound h.0 after world target installed now (stage_of target.path installed now (release_end h.1)) outcome
+    (stage_of-sound target.path installed now (release_end h.1)) h.3
