@@ -8,6 +8,7 @@ pub mod Obtained
 pub mod Sets
 pub mod Sources
 pub mod Nexts
+pub mod Carried
 -- worked examples
 pub mod Sample
 pub mod ListExamples

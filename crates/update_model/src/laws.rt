@@ -1,5 +1,6 @@
 //! What holds of the definitions of `specs/`, whatever mirrors hold and methods answer.
 
+ghost use Rattle.update_model.specs.Carried.{DeedsLeadToNext};
 ghost use Rattle.update_model.specs.Laws as law;
 
 use release_file::judged_is_admissible;
@@ -61,4 +62,9 @@ pub fn nexts_are_alike()
 /// The test whether a set is there already tells just that.
 pub fn held_sets_are_found()
     ensures { law.HeldSetsAreFound }
+{}
+
+/// What is done for the sources of a plan, in any order, and the clean-up behind it leave what is next.
+pub fn deeds_lead_to_next()
+    ensures { DeedsLeadToNext }
 {}
