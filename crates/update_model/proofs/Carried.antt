@@ -19,11 +19,11 @@ use Rattle.update_model.proofs.Nexts.{sets-found, tests-hold}
 
 -- ---- lists
 
-each-from : {X : Type 0} (P : X → Type 0) (xs : List X) → ((x : X) → Contains xs x → P x) → Each P xs
+pub each-from : {X : Type 0} (P : X → Type 0) (xs : List X) → ((x : X) → Contains xs x → P x) → Each P xs
 each-from P [] h = tt
 each-from P (x ∷ xs) h = (h x (0, omega arith, refl), each-from P xs (λ y c. h y (suc c.0, omega (arith, c.1), c.2)))
 
-each-at : {X : Type 0} (P : X → Type 0) (xs : List X) (x : X) → Each P xs → Contains xs x → P x
+pub each-at : {X : Type 0} (P : X → Type 0) (xs : List X) (x : X) → Each P xs → Contains xs x → P x
 each-at P [] x h c = absurd (omega (arith, c.1))
 each-at P (y ∷ ys) x h c = at c.0 c.1 c.2 (λ d. each-at P ys x h.1 d)
   where
@@ -32,14 +32,14 @@ each-at P (y ∷ ys) x h c = at c.0 c.1 c.2 (λ d. each-at P ys x h.1 d)
     at (suc k) below is more = more (k, omega (arith, below), is)
 
 -- in two lists that have no name twice together no name stands in both
-apart : (xs ys : List (List ℕ)) → AllPairs (λ a b. a ≢ b) (xs ++ ys) → (name : List ℕ) → Contains xs name → Contains ys name → ⊥
+pub apart : (xs ys : List (List ℕ)) → AllPairs (λ a b. a ≢ b) (xs ++ ys) → (name : List ℕ) → Contains xs name → Contains ys name → ⊥
 apart xs ys h name a b =
     let count = length-append xs ys in
     let first : slice_index_or (xs ++ ys) a.0 name ≡ name = get_or_append_left xs ys name a.0 a.1 ∙ a.2 in
     let second : slice_index_or (xs ++ ys) (length xs + b.0) name ≡ name = get_or-append-add xs ys b.0 name ∙ b.2 in
     h a.0 (length xs + b.0) name (omega (arith, a.1)) (omega (arith, count, b.1)) (first ∙ sym second)
 
-behind-distinct : (xs ys : List (List ℕ)) → AllPairs (λ a b. a ≢ b) (xs ++ ys) → AllPairs (λ a b. a ≢ b) ys
+pub behind-distinct : (xs ys : List (List ℕ)) → AllPairs (λ a b. a ≢ b) (xs ++ ys) → AllPairs (λ a b. a ≢ b) ys
 behind-distinct xs ys h = λ i j d before below same.
     let count = length-append xs ys in
     let first : slice_index_or (xs ++ ys) (length xs + i) d ≡ slice_index_or ys i d = get_or-append-add xs ys i d in
@@ -183,7 +183,7 @@ same-bools false true f g = g refl
 same-bools false false f g = refl
 
 -- a name of one of these sources, and the source that has it
-names-in : (sources : List Source) (source : Source) (name : List ℕ) → Contains sources source → Contains (names_of source) name → Contains (all_names sources) name
+pub names-in : (sources : List Source) (source : Source) (name : List ℕ) → Contains sources source → Contains (names_of source) name → Contains (all_names sources) name
 names-in [] source name c n = absurd (omega (arith, c.1))
 names-in (s ∷ sources) source name c n = at c.0 c.1 c.2 (λ d. names-in sources source name d n)
   where

@@ -9,6 +9,7 @@ pub mod Sets
 pub mod Sources
 pub mod Nexts
 pub mod Carried
+pub mod Existence
 -- worked examples
 pub mod Sample
 pub mod ListExamples

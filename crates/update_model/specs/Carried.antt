@@ -2,7 +2,7 @@
 use Rattle.std.specs.Prelude.{◌≡◌, ◌≢◌, ◌↔◌, ℕ, ℤ, List, [], ◌∷◌, map, AllPairs, Contains, None}
 use Rattle.std.specs.List.{flat_map, AllByRecursion as Each}
 use Rattle.acq_base.specs.Mirror.{World}
-use Rattle.acq_base.specs.Plan.{names_of, plan_names}
+use Rattle.acq_base.specs.Plan.{IsSound, names_of, plan_names}
 use Rattle.acq_base.specs.declared.plan.Plan.{Plan}
 use Rattle.acq_base.specs.declared.plan.Source.{Source}
 use Rattle.acq_base.specs.declared.settings.Settings.{Settings}
@@ -49,3 +49,9 @@ DeedsLeadToNext =
     → AreSettled world dir parts plan settings change now order → AreLoose dir plan loose
     → Carried (deeds dir settings loose order) dir after
     → IsNext world dir parts plan settings change now after
+
+-- a sound plan has a directory that is next
+abbrev pub NextIsThere : Type 0
+NextIsThere =
+    (world : World) (dir : Directory) (parts : Parts) (plan : Plan) (settings : Settings) (change : Change) (now : ℤ)
+    → IsSound plan → (after : Directory) × IsNext world dir parts plan settings change now after
