@@ -9,7 +9,7 @@ abbrev weight : List (List ℕ) → ℕ
 weight segments = length (joined segments)
 
 -- the segment that a dot segment at the end leaves
-abbrev closing : List (List ℕ) → List (List ℕ)
+abbrev pub closing : List (List ℕ) → List (List ℕ)
 closing segments = cond (ends_in_dots segments) ([] ∷ []) []
 
 weight-append : (a b : List (List ℕ)) → weight (a ++ b) ≡ weight a + weight b
@@ -37,13 +37,13 @@ weight-enter_dots kept s dots =
     cond_both (is_dot s) kept _ (λ r. weight r ≤ weight kept) (λ _. omega arith)
     (λ first. cond_both (is_dot_dot s) (take (length kept - 1) kept) (kept ++ s ∷ []) (λ r. weight r ≤ weight kept) (λ _. weight-take (length kept - 1) kept) (λ second. absurd (both_ways _ (or_from _ _ first second) dots)))
 
-enter_keeps : (kept : List (List ℕ)) (s : List ℕ) → (is_dot s || is_dot_dot s) ≡ false → enter kept s ≡ kept ++ s ∷ []
+pub enter_keeps : (kept : List (List ℕ)) (s : List ℕ) → (is_dot s || is_dot_dot s) ≡ false → enter kept s ≡ kept ++ s ∷ []
 unfolding enter
 enter_keeps kept s none = let tests = or_parts (is_dot s) (is_dot_dot s) none in
     cond-false (is_dot s) kept _ tests.0 ∙ cond-false (is_dot_dot s) (take (length kept - 1) kept) (kept ++ s ∷ []) tests.1
 
 -- the last of two or more segments is the last of those behind the first
-ends_later : (s t : List ℕ) (rest : List (List ℕ)) → ends_in_dots (s ∷ t ∷ rest) ≡ ends_in_dots (t ∷ rest)
+pub ends_later : (s t : List ℕ) (rest : List (List ℕ)) → ends_in_dots (s ∷ t ∷ rest) ≡ ends_in_dots (t ∷ rest)
 unfolding ends_in_dots
 ends_later s t rest =
     let n = length rest in

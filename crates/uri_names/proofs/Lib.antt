@@ -5,6 +5,8 @@ pub mod Normals
 pub mod Segments
 pub mod Lengths
 pub mod BelowSound
+pub mod Removals
+pub mod Refusals
 pub mod Moved
 pub mod Bases
 pub mod ListNames

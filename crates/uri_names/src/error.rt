@@ -1,3 +1,4 @@
+//! Why a text is no URI. It touches nothing and takes no memory.
 use acq_base::{NoMemory, Refusal};
 use std::error::Error;
 use std::fmt;

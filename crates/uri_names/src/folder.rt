@@ -1,6 +1,8 @@
+//! What lies below a base, dot segments removed. It may take memory, and touches nothing else.
 ghost use Rattle.std.specs.Prelude.{◌≡◌, ◌+◌, ◌≤◌, ◌++◌, ◌||◌, IfOk, OnOk, length, map};
 ghost use Rattle.std.specs.List.{slice_split};
 ghost use Rattle.acq_base.specs.Uri.{uri_text, IsSound};
+ghost use Rattle.uri_names.specs.DotSegments.{IsWithoutDots};
 ghost use Rattle.uri_names.specs.Folder as spec;
 ghost use Rattle.uri_names.specs.Normal.{IsBase, IsNormal};
 ghost use Rattle.uri_names.specs.Reading.{ReadsBack};
@@ -14,6 +16,8 @@ use std::alloc::{AllocError, Global};
 /// A base and a path of letters, digits and `._-+~:/` give a sound URI, where its text isn't too long for one.
 pub fn below(alloc: Global, base: &Uri, path: &[u8]) -> Result<Uri, NoMemory>
     ensures value { IfOk result (λ uri. uri ≡ spec.below_of base.now path.now) }
+    // The removal by the standard's rounds.
+    ensures rounds { IsSound base.now → IfOk result (λ uri. IsWithoutDots (base.now.path ++ path.now) uri.path) }
     ensures short { IfOk result (λ uri. length (uri_text uri) ≤ length (uri_text base.now) + length path.now) }
     ensures sound { IsSound base.now → spec.AreBelowCharacters path.now
         → IfOk result (λ uri. length (uri_text uri) ≤ 16384 → IsSound uri) }

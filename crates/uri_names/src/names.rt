@@ -1,3 +1,4 @@
+//! A URI's text, the key of its host, and the name of its list. It may take memory, and touches nothing else.
 ghost use Rattle.std.specs.Prelude.{◌≡◌, ◌+◌, ◌<◌, ◌≤◌, ◌++◌, false, length, Contains, IfOk, OnOk};
 ghost use Rattle.std.specs.Fmt.{digit_glyph};
 ghost use Rattle.std.specs.List.{flat_map};

@@ -1,3 +1,4 @@
+//! Which URLs are URIs of this profile. It may take memory, and touches nothing else.
 ghost use Rattle.std.specs.Prelude.{◌≡◌, ◌≤◌, IfOk, IfSome};
 ghost use Rattle.std.specs.List.{list_all};
 ghost use Rattle.acq_base.specs.Uri.{is_uri_character as is_uri_byte, IsSound};

@@ -1,4 +1,5 @@
-ghost use Rattle.std.specs.Prelude.{◌≡◌, ◌⊎◌, ◌-◌, ◌==◌, None, Some, Ok, Err, IfOk, IfSome, length, ok_or, bytes_eq};
+//! URIs and bases, read from texts. It may take memory, and touches nothing else.
+ghost use Rattle.std.specs.Prelude.{◌≡◌, ◌⊎◌, ◌-◌, ◌==◌, None, Some, Ok, Err, IfOk, IfErr, IfSome, length, ok_or, bytes_eq};
 ghost use Rattle.std.specs.List.{list_all, list_any, position_or_len, suffix_len};
 ghost use Rattle.std.specs.Char.{is_ascii_graphic};
 ghost use Rattle.url.specs.Input.{lowercase};
@@ -7,6 +8,7 @@ ghost use Rattle.acq_base.specs.Uri.{IsSound};
 ghost use Rattle.uri_names.specs.Normal.{IsBase, IsNormal};
 ghost use Rattle.uri_names.specs.Parts as parts;
 ghost use Rattle.uri_names.specs.Reading as spec;
+ghost use Rattle.uri_names.specs.Refused.{IsRefused, IsBaseRefused};
 
 use crate::UriError;
 use crate::parts::{uri_of_url, within};
@@ -27,12 +29,22 @@ const TEXT_BYTES: usize = 4096;
 /// case; else `BadUri` where the text isn't at most 4,096 bytes of ASCII without blanks and control characters, or
 /// is no URL by the URL Standard, or one with a user name, a password, a fragment, or a character in its path and query
 /// that RFC 3986 doesn't list, or an http URL without a host, or a file URL with a host or a query.
-#[tactic(auto, unfolding(crate::specs::Reading::read_uri_of), using(crate::proofs::Texts::utf8_if_visible))]
 pub fn read_uri(alloc: Global, text: &[u8]) -> Result<Uri, UriError>
     ensures value { (result ≡ Err UriError.NoMemory) ⊎ (result ≡ spec.read_uri_of text.now) }
+    ensures refused { IfErr result (IsRefused text.now) }
     ensures sound { IfOk result IsSound }
     ensures normal { IfOk result IsNormal }
     ensures again { IfOk result spec.ReadsBack }
+{
+    judged_text(alloc, text)
+}
+
+/// The URI of a text: the scheme is judged first, then the text.
+#[tactic(auto, unfolding(crate::specs::Reading::read_uri_of), using(crate::proofs::Texts::utf8_if_visible))]
+fn judged_text(alloc: Global, text: &[u8]) -> Result<Uri, UriError>
+    ensures value { (result ≡ Err UriError.NoMemory) ⊎ (result ≡ spec.read_uri_of text.now) }
+    ensures sound { IfOk result IsSound }
+    ensures normal { IfOk result IsNormal }
 {
     if !has_scheme(text) {
         return Err(UriError::Scheme);
@@ -47,12 +59,22 @@ pub fn read_uri(alloc: Global, text: &[u8]) -> Result<Uri, UriError>
 }
 
 /// Reads the base URI of a source: as `read_uri`, with `BadUri` for a query too. The path then ends with exactly one `/`.
-#[tactic(auto, unfolding(crate::specs::Reading::read_base_of))]
 pub fn read_base(alloc: Global, text: &[u8]) -> Result<Uri, UriError>
     ensures value { (result ≡ Err UriError.NoMemory) ⊎ (result ≡ spec.read_base_of text.now) }
+    ensures refused { IfErr result (IsBaseRefused text.now) }
     ensures sound { IfOk result IsSound }
     ensures base { IfOk result IsBase }
     ensures again { IfOk result spec.ReadsBack }
+{
+    judged_base(alloc, text)
+}
+
+/// The base of a text: the URI is judged first, then whether it can be a folder.
+#[tactic(auto, unfolding(crate::specs::Reading::read_base_of))]
+fn judged_base(alloc: Global, text: &[u8]) -> Result<Uri, UriError>
+    ensures value { (result ≡ Err UriError.NoMemory) ⊎ (result ≡ spec.read_base_of text.now) }
+    ensures sound { IfOk result IsSound }
+    ensures base { IfOk result IsBase }
 {
     let uri = read_uri(alloc, text)?;
     folder(alloc, uri)

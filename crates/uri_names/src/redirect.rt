@@ -1,3 +1,4 @@
+//! Where a redirect leads. It may take memory, and touches nothing else.
 ghost use Rattle.std.specs.Prelude.{◌≡◌, None, Some, IfOk, IfSome};
 ghost use Rattle.std.specs.Char.{is_ascii};
 ghost use Rattle.std.specs.List.{list_all};

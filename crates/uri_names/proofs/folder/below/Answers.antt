@@ -1,15 +1,24 @@
 -- What holds of the URI that the definition names holds of the result.
-use Rattle.std.proofs.Common.{◌≡◌, ◌+◌, ◌≤◌, length, sym, subst}
+use Rattle.std.proofs.Common.{◌≡◌, ◌+◌, ◌++◌, ◌≤◌, length, sym, subst}
 use Rattle.std.proofs.lemmas.Result.{IfOk-weaker}
 use Rattle.acq_base.specs.declared.uri.Uri.{Uri}
 use Rattle.acq_base.specs.Uri.{uri_text, IsSound}
+use Rattle.uri_names.specs.DotSegments.{IsWithoutDots}
 use Rattle.uri_names.specs.Folder.{below_of}
 use Rattle.uri_names.specs.Normal.{IsNormal}
 use Rattle.uri_names.specs.Reading.{ReadsBack}
 use Rattle.uri_names.proofs.BelowSound.{below_short, below_sound}
+use Rattle.uri_names.proofs.Removals.{below_rounds}
 use Rattle.uri_names.proofs.Bases.{below_normal}
 use Rattle.uri_names.proofs.ReadsBack.{reads_back}
 use Rattle.uri_names.proofs.folder.below.Goals as goal
+
+pub returns-clause-rounds : goal.returns-clause-rounds
+returns-clause-rounds c = λ sound.
+    let base = c.args.base.now in
+    let path = c.args.path.now in
+    let P : Uri → Type 0 = λ uri. IsWithoutDots (base.path ++ path) uri.path in
+    IfOk-weaker c.appended.result (λ uri. uri ≡ below_of base path) P (λ uri e. subst P (sym e) (below_rounds base path sound)) c.appended.ensures
 
 pub returns-clause-short : goal.returns-clause-short
 returns-clause-short c =
