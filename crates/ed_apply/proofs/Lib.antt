@@ -1,0 +1,5 @@
+pub mod FileLines
+pub mod Ranges
+pub mod Scans
+pub mod Sound
+pub mod EditLaws

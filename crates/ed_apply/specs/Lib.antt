@@ -1,0 +1,4 @@
+pub mod Refused
+pub mod Edits
+pub mod Grammar
+pub mod Taken
