@@ -4,8 +4,10 @@
 //! otherwise can't be put in.
 #![tactic(auto)]
 
+pub use judge::{HeadTest, Judge};
 pub use picker::{Picker, TargetTest};
 
+mod judge;
 mod picker;
 #[cfg(test)]
 mod tests;

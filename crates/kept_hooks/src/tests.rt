@@ -1,8 +1,9 @@
 ghost use Rattle.std.specs.Prelude.{◌≡◌};
 ghost use Rattle.kept_hooks.specs.Picking.{is_picked};
 
-use crate::Picker;
+use crate::{Judge, Picker};
 use acq_base::{Kind, ListName, NoMemory, Pick, Scheme, Target, Text, Uri};
+use release_file::{Change, Head, is_allowed};
 use std::alloc::Global;
 use std::test::*;
 
@@ -60,4 +61,42 @@ fn kinds_that_are_switched_on_are_picked(rt: HostRuntime) {
             Ok((packages, sources, translations))
         );
     }
+}
+
+fn head(alloc: Global, origin: &[u8], suite: &[u8]) -> Result<Head, NoMemory> {
+    Ok(Head {
+        origin: Some(Text::from_bytes(alloc, origin)?),
+        label: None,
+        suite: Some(Text::from_bytes(alloc, suite)?),
+        codename: None,
+    })
+}
+
+/// What a judge answers where only the suite may change: of a head the same, one of another suite and one of another
+/// origin.
+fn judged(alloc: Global) -> Result<(bool, bool, bool), NoMemory> {
+    let change = Change {
+        origin: false,
+        label: false,
+        suite: true,
+        codename: false,
+    };
+    let test = Box::new(alloc, move |old: &Head, new: &Head| {
+        is_allowed(&change, old, new)
+    })?;
+    let judge = Judge::new(test, change);
+    let old = head(alloc, b"Debian", b"stable")?;
+    let same = head(alloc, b"Debian", b"stable")?;
+    let suite = head(alloc, b"Debian", b"oldstable")?;
+    let origin = head(alloc, b"Other", b"stable")?;
+    Ok((
+        judge.allows(&old, &same),
+        judge.allows(&old, &suite),
+        judge.allows(&old, &origin),
+    ))
+}
+
+#[test]
+fn heads_that_may_follow_are_allowed(rt: HostRuntime) {
+    assert_eq!(rt; judged(rt.alloc()), Ok((true, true, false)));
 }
