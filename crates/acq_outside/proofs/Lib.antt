@@ -5,3 +5,6 @@ pub mod Torn
 pub mod Worlds
 pub mod SampleUri
 pub mod Named
+pub mod Trace
+pub mod Crashes
+pub mod Choices
