@@ -61,7 +61,7 @@ part_case : (t : Bool) (change : NameChange) (changes : List NameChange) (later 
 part_case true change changes later part = left_out change part
 part_case false change changes later part = taken change part
 
-drawn_is_part : (whole : List ℕ) (changes : List NameChange) (rest : List ℕ) → IsPart (drawn_part whole changes rest).value changes
+pub drawn_is_part : (whole : List ℕ) (changes : List NameChange) (rest : List ℕ) → IsPart (drawn_part whole changes rest).value changes
 drawn_is_part whole [] rest = none
 drawn_is_part whole (change ∷ changes) rest = part_case (nat_eq (next_byte whole rest) 0) change changes (drawn_part whole changes (next_rest whole rest)) (drawn_is_part whole changes (next_rest whole rest))
 
@@ -131,7 +131,7 @@ decoded_files whole [] bytes more outcomes = refl
 decoded_files whole (file ∷ files) bytes more outcomes =
     let later : List ℕ = encode_files files (λ i. bytes (suc i)) ++ more in
     let this : drawn_bytes whole file.least file.cells (encode_files (file ∷ files) bytes ++ more) ≡ record { value = refit file.cells (bytes zero); rest = later } =
-        ap (drawn_bytes whole file.least file.cells) (append_assoc (encode_bytes file.cells (bytes zero)) (encode_files files (λ i. bytes (suc i))) more) ∙ decoded whole file.least file.cells (bytes zero) later (outcomes zero).long in
+    ap (drawn_bytes whole file.least file.cells) (append_assoc (encode_bytes file.cells (bytes zero)) (encode_files files (λ i. bytes (suc i))) more) ∙ decoded whole file.least file.cells (bytes zero) later (outcomes zero).long in
     ap (λ (d : Drawn (List ℕ)). put_first d.value (drawn_files whole files d.rest)) this
     ∙ ap (put_first (refit file.cells (bytes zero))) (decoded_files whole files (λ i. bytes (suc i)) more (λ i. outcomes (suc i)))
 

@@ -8,3 +8,7 @@ pub mod Named
 pub mod Trace
 pub mod Crashes
 pub mod Choices
+pub mod Cells
+pub mod NameMap
+pub mod Replaying
+pub mod Images

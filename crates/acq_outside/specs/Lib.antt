@@ -23,3 +23,4 @@ pub mod Traces
 -- Cited by this crate's own functions and proofs alone.
 pub mod Held
 pub mod Whole
+pub mod Replay

@@ -25,5 +25,4 @@ pub fn torn_is_done()
 /// The choices by which a crash may be tried leave what a crash may leave: all of that, and nothing else.
 pub fn choices_leave()
     ensures { (s : State) → IsSound s → ChoicesLeave s }
-{
-}
+{}

@@ -25,8 +25,10 @@ pub struct MemDisk {
 }
 
 impl MemDisk {
-    ghost use Rattle.std.specs.Prelude.{◌≡◌, ◌≤◌, ◌↔◌, [], IsTrue, IfOk, OnOk, OnErr, MatchResult};
+    ghost use Rattle.std.specs.Prelude.{◌≡◌, ◌≤◌, ◌↔◌, [], false, IsTrue, IfOk, OnOk, OnErr, MatchResult};
+    ghost use Rattle.acq_outside.specs.Choice.{image_of};
     ghost use Rattle.acq_outside.specs.Count.{Rose};
+    ghost use Rattle.acq_outside.specs.Crash.{newest, trace_of};
     ghost use Rattle.acq_outside.specs.Failing.{fresh, fused, starved};
     ghost use Rattle.acq_outside.specs.History.{IsStart, files_of, changed, after_change};
     ghost use Rattle.acq_outside.specs.Held.{IsNamed};
@@ -72,6 +74,22 @@ impl MemDisk {
         let mut disk = self;
         disk.failing.set_fuse(calls);
         disk
+    }
+
+    /// What a crash leaves of it now, as a fresh disk, which nobody holds and of which no call is to fail. The choice says
+    /// what is left, byte by byte and again from its first byte where it ends; an empty one counts as one 0.
+    ///
+    /// Of each pending change of names it reads a byte: 0 leaves the change out. Then of each file it reads two bytes for
+    /// each of its bytes: the first ends the file where it is 0 and the file may end there, and the second is the byte
+    /// where it may be any.
+    pub fn crashed(self, choice: &Row<u8>) -> Result<MemDisk, NoMemory>
+        ensures files { IfOk result (λ disk. files_of (past_of disk) ≡ image_of (newest (trace_of (past_of self))) choice.now) }
+        ensures no_changes { IfOk result (λ disk. (past_of disk).changes ≡ []) }
+        ensures held { IfOk result (λ disk. held_of disk ≡ false) }
+        ensures failing { IfOk result (λ disk. failing_of disk ≡ fresh []) }
+    {
+        let files = self.history.crashed(self.alloc, choice.as_slice())?;
+        MemDisk::new(self.alloc, files, false, Row::new(self.alloc))
     }
 
     /// How many of its faults were for want of memory that its call can't name.
