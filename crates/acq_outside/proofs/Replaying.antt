@@ -77,3 +77,9 @@ one_call s t end calls i call low is done was =
 
 pub no_call : (s end : State) (calls : List Change) (i : ℕ) → length calls ≤ i → newest (trace_after s [] (drop i calls)) ≡ end → s ≡ end
 no_call s end calls i past was = sym (ap (λ (list : List Change). newest (trace_after s [] list)) (drop_all i calls past)) ∙ was
+
+-- the changes that are left, with one carried out
+pub one_change : (m n end : Names) (changes : List NameChange) (i : ℕ) (change : NameChange) → i < length changes → change ≡ get_or changes i change → n ≡ renamed m change → all_renamed m (drop i changes) ≡ end → all_renamed n (drop (i + 1) changes) ≡ end
+one_change m n end changes i change low is done was =
+    let split : drop i changes ≡ change ∷ drop (i + 1) changes = drop_more changes i change low ∙ ap (λ (c : NameChange). c ∷ drop (i + 1) changes) (sym is) in
+    ap (λ (names : Names). all_renamed names (drop (i + 1) changes)) done ∙ sym (ap (all_renamed m) split) ∙ was
