@@ -1,4 +1,4 @@
-use Rattle.std.proofs.Common.{◌≡◌, ◌∙◌, sym, ap, List, Ok, Err, Result, IfOk, ℕ}
+use Rattle.std.proofs.Common.{◌≡◌, rules, List, Ok, Err, Result, IfOk, ℕ}
 use Rattle.acq_base.specs.declared.memory.NoMemory.{NoMemory}
 use Rattle.std.specs.BTreeMap.{BTreeMap, IsOrdered}
 use Rattle.std.specs.Ordering.{nat_cmp}
@@ -21,7 +21,16 @@ files_if_ok s choice names contents (Ok rows) are leads hold = rows_image s choi
 files_if_ok s choice names contents (Err want) are leads hold = tt
 
 pub returns-clause-start : goal.returns-clause-start
-returns-clause-start c = ?
+returns-clause-start c =
+    let s : State = state_of c.args.replay.now in
+    let choice : List ℕ = c.args.choice.now in
+    let leads : names_in c.draw_part.new.names ≡ all_renamed s.base (drawn_part choice s.pending choice).value = search rules in
+    start_if_ok s choice c.draw_part.new.names c.as_slice-4.result.now c.rows_of.result c.requires c.rows_of.ensures.ordered c.rows_of.ensures.rows leads
 
 pub returns-clause-files : goal.returns-clause-files
-returns-clause-files c = ?
+returns-clause-files c =
+    let s : State = state_of c.args.replay.now in
+    let choice : List ℕ = c.args.choice.now in
+    let leads : names_in c.draw_part.new.names ≡ all_renamed s.base (drawn_part choice s.pending choice).value = search rules in
+    let hold : c.as_slice-4.result.now ≡ (drawn_files choice s.files (drawn_part choice s.pending choice).rest).value = search rules in
+    files_if_ok s choice c.draw_part.new.names c.as_slice-4.result.now c.rows_of.result c.rows_of.ensures.rows leads hold

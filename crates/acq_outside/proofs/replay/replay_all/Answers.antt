@@ -9,5 +9,5 @@ loop-change-preserved c = record {
   state =
       one_call (state_of c.loop-change.replay) (state_of c.apply.new.self) (newest (trace_after (start_state c.args.rows.now) [] c.args.changes.now)) c.args.changes.now c.loop-change.change-index
       c.change-item.result (omega arith) c.change-item.is c.in_ok-apply.ensures.state c.loop-change.invariant.state;
-  names = c.in_ok-apply.ensures.names;
+  names = c.in_ok-apply.ensures.standing;
 }
