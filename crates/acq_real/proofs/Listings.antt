@@ -1,5 +1,5 @@
 -- Which names are listed: what is kept of them name by name, and that an order without repetition changes nothing of that.
-use Rattle.std.proofs.Common.{◌≡◌, ◌∙◌, sym, subst, arith, inl, inr, ⊎_elim, ℕ, List, [], ◌∷◌, ◌++◌, ◌<◌, length, get_or, All, Contains, AllPairs}
+use Rattle.std.proofs.Common.{◌≡◌, sym, subst, arith, ⊎_elim, ℕ, List, [], ◌∷◌, ◌++◌, get_or, All, Contains, AllPairs}
 use Rattle.std.specs.Ordering.{nat_cmp}
 use Rattle.std.specs.declared.cmp.Ordering.TheVariants.{Less}
 use Rattle.std.specs.List.{dedup}

@@ -23,7 +23,7 @@ pub ends_as : (before between after : ℕ) (world later : Option World) (source 
     → EndsAs before after world source target installed now outcome
 ends_as before between after world later source target installed now ending stage outcome heard same is h =
     let over : EndsFrom between after world target (stage_of target.path installed now (release_end heard.0)) outcome = rw (← heard.2, ← is, ← same) h in
-    (between, (heard.0, heard.1, over))
+    (between, heard.0, heard.1, over)
 
 -- the same of a call that may have wanted memory
 pub ends_as_if_ok : (before between after : ℕ) (world later : Option World) (source : Source) (target : Target) (installed : Option ℤ) (now : ℤ) (ending : End) (stage : Stage) (result : Result Outcome no_memory)

@@ -1,5 +1,5 @@
 -- What a run does for its source, over what the outside objects hold and count before and after it.
-use Rattle.std.specs.Prelude.{◌≡◌, ◌⊎◌, ℕ, ℤ, ◌≤◌, ◌++◌, ◌==◌, Bool, IsTrue, List, [], ◌∷◌, codes, Option, Ok, IfSome, IsSome, IsSomeAnd, slice_get}
+use Rattle.std.specs.Prelude.{◌≡◌, ◌⊎◌, ℕ, ℤ, ◌++◌, ◌==◌, Bool, IsTrue, List, [], ◌∷◌, codes, Option, Ok, IfSome, IsSome, IsSomeAnd, slice_get}
 use Rattle.std.specs.List.{list_any}
 use Rattle.acq_base.specs.Sum.{sum_of}
 use Rattle.acq_base.specs.declared.plan.Target.{Target}
