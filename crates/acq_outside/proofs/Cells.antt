@@ -1,5 +1,5 @@
 -- Cells that may be any.
-use Rattle.std.proofs.Common.{◌≡◌, refl, sym, ap, ◌∙◌, arith, ℕ, zero, suc, ◌+◌, ◌<◌, List, [], ◌∷◌, ◌++◌, length, take, drop, Option, None, add-one}
+use Rattle.std.proofs.Common.{◌≡◌, refl, ap, ◌∙◌, arith, ℕ, zero, suc, ◌+◌, ◌<◌, List, [], ◌∷◌, ◌++◌, length, take, drop, Option, None, add-one}
 use Rattle.std.proofs.lemmas.List.{drop_more}
 use Rattle.acq_outside.specs.Disk.{spliced}
 use Rattle.acq_outside.specs.Crash.{all_any}

@@ -1,11 +1,11 @@
 -- What a crash leaves after each sync, and within a call.
-use Rattle.std.proofs.Common.{◌≡◌, ◌≢◌, refl, sym, ap, subst, ◌∙◌, ⊎_elim, ℕ, ◌<◌, ◌≤◌, List, [], ◌∷◌, length, set, Option, Some, None, option_map}
+use Rattle.std.proofs.Common.{◌≡◌, ◌≢◌, refl, sym, ap, subst, ◌∙◌, ⊎_elim, ℕ, ◌<◌, ◌≤◌, List, [], length, set, Option, Some, None, option_map}
 use Rattle.std.proofs.lemmas.Bool.{cases_lt, cases_eq}
 use Rattle.std.proofs.lemmas.List.{get_or-set_same, get_or-set_other, set_past}
 use Rattle.acq_outside.specs.Disk.{Files}
-use Rattle.acq_outside.specs.Crash.{State, IsOutcome, IsPart, none, left_out, taken, IsImage, IsSound, IsApart, IsTorn, Names, all_renamed, names_of, file_at, no_file, on_file, after, synced, reads, seen_at}
+use Rattle.acq_outside.specs.Crash.{State, IsOutcome, IsPart, none, left_out, taken, IsImage, IsSound, Names, all_renamed, names_of, file_at, no_file, on_file, after, synced, reads, seen_at}
 use Rattle.acq_outside.specs.Moments.{SyncLasts, NamesLast, SyncsShrink, LeavesApart, LeavesAsDone}
-use Rattle.acq_outside.specs.declared.change.Change.TheVariants.{Sync, SyncNames}
+use Rattle.acq_outside.specs.declared.change.Change.TheVariants.{SyncNames}
 use Rattle.acq_outside.specs.declared.state.FileState.{FileState}
 use Rattle.acq_outside.specs.declared.state.NameChange.{NameChange}
 use Rattle.acq_outside.specs.Outcomes.{only_synced}

@@ -13,7 +13,7 @@ use Rattle.std.proofs.lemmas.Cmp.{nat_list_eq_equiv}
 use Rattle.std.proofs.lemmas.Map.Entries.{lookup_head, lookup_tail}
 use Rattle.std.proofs.lemmas.Map.Text.{is_eq-slice_cmp}
 use Rattle.std.proofs.lemmas.Slice.Eq.{bytes_eq-Decides}
-use Rattle.acq_outside.specs.Disk.{Files, IsName, same_name, with_file}
+use Rattle.acq_outside.specs.Disk.{IsName, same_name}
 use Rattle.acq_outside.specs.History.{FileRows, IsStart, names_differ, start_files}
 use Rattle.acq_outside.specs.Held.{IsNamed, AreNamed}
 use Rattle.acq_outside.specs.Crash.{State, Names, IsPart, none, left_out, taken, with_name, moved_name, renamed, all_renamed, names_of, number_of, on_file, with_change, cut_or_made, after, start_state, trace_after, newest, file_written, file_cut, synced}

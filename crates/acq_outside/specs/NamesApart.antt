@@ -1,5 +1,5 @@
 -- No two names lead to one file, whatever part of the pending changes of names is done.
-use Rattle.std.proofs.Common.{◌≡◌, refl, sym, ap, ◌∙◌, subst, arith, ℕ, ◌+◌, ◌<◌, ◌≤◌, Bool, true, false, if◌then◌else◌, List, [], ◌∷◌, ◌++◌, length, Option, Some, None}
+use Rattle.std.proofs.Common.{◌≡◌, refl, sym, ◌∙◌, subst, arith, ℕ, ◌+◌, ◌<◌, ◌≤◌, Bool, true, false, if◌then◌else◌, List, [], ◌∷◌, ◌++◌, Option, Some, None}
 use Rattle.std.proofs.lemmas.Slice.Eq.{bytes_eq-Decides}
 use Rattle.acq_outside.specs.Disk.{same_name}
 use Rattle.acq_outside.specs.Crash.{Names, with_name, moved_name, renamed, all_renamed, IsPart, none, left_out, taken, IsApart, Ascends}

@@ -1,19 +1,19 @@
 -- Each state that a disk in memory has had is sound, and what reads give at it is what the list of its changes gives.
-use Rattle.std.proofs.Common.{◌≡◌, ◌≢◌, refl, sym, ap, ◌∙◌, subst, ⊎_elim, inl, inr, arith, ℕ, zero, suc, ◌+◌, ◌-◌, ◌<◌, ◌≤◌, Bool, true, false, if◌then◌else◌, List, [], ◌∷◌, ◌++◌, length, take, get_or, set, Option, Some, None, option_map, unwrap_or, Result, Ok, Err, OnOk, OnErr}
+use Rattle.std.proofs.Common.{◌≡◌, ◌≢◌, refl, sym, ap, ◌∙◌, subst, ⊎_elim, arith, ℕ, zero, suc, ◌+◌, ◌-◌, ◌<◌, ◌≤◌, Bool, true, false, if◌then◌else◌, List, [], ◌∷◌, ◌++◌, length, take, get_or, set, Option, Some, None, option_map, unwrap_or}
 use Rattle.std.proofs.Math.Path.{fun_ext}
 use Rattle.std.proofs.lemmas.Bool.{cases_lt, cases_eq}
 use Rattle.std.proofs.lemmas.Slice.Eq.{bytes_eq-Decides}
-use Rattle.std.proofs.lemmas.List.{length-set, get_or-set_same, get_or-set_other, set_past, get_or_append_left, get_or-append_right, get_or_at, length_push, append-nil}
-use Rattle.acq_outside.specs.Disk.{Files, same_name, with_file, spliced, moved_file, after_write, after_cut, after_rename, after_remove}
-use Rattle.acq_outside.specs.History.{FileRows, Past, start_files, after_change, files_after, files_of, changed}
-use Rattle.acq_outside.specs.Crash.{State, IsOutcome, IsSound, IsApart, Ascends, AllSound, IsShown, Names, with_name, moved_name, renamed, all_renamed, file_at, no_file, names_of, seen_at, reads, on_file, with_change, cut_or_made, after, synced, file_written, file_cut, number_of, synced_rows, start_state, trace_after, trace_of, Goes}
+use Rattle.std.proofs.lemmas.List.{length-set, get_or-set_same, get_or-set_other, set_past, get_or_append_left, get_or-append_right, get_or_at, length_push}
+use Rattle.acq_outside.specs.Disk.{Files, same_name, with_file, spliced, moved_file}
+use Rattle.acq_outside.specs.History.{FileRows, Past, start_files, after_change, files_after, files_of}
+use Rattle.acq_outside.specs.Crash.{State, IsOutcome, IsSound, IsApart, Ascends, AllSound, IsShown, Names, moved_name, renamed, all_renamed, file_at, no_file, names_of, seen_at, reads, on_file, with_change, cut_or_made, after, synced, file_written, file_cut, number_of, synced_rows, start_state, trace_after, trace_of}
 use Rattle.acq_outside.specs.declared.state.FileState.{FileState}
 use Rattle.acq_outside.specs.declared.state.NameChange.{NameChange}
 use Rattle.acq_outside.specs.declared.state.NameChange.TheVariants.{Made, Moved, Removed}
 use Rattle.acq_outside.specs.declared.change.Change.{Change}
 use Rattle.acq_outside.specs.declared.change.Change.TheVariants.{Write, Cut, Sync, Rename, Remove, SyncNames}
 use Rattle.acq_outside.specs.Outcomes.{synced_outcome, written_outcome, cut_outcome}
-use Rattle.acq_outside.specs.NamesApart.{weaken, part_apart, part_all, ascends_weaker, ascends_make, ascends_move, ascends_gone}
+use Rattle.acq_outside.specs.NamesApart.{part_apart, part_all, ascends_make, ascends_move, ascends_gone}
 
 same-at : (files : Files) (name other : List ℕ) (content : Option (List ℕ)) → files name ≡ content → (b : Bool) → same_name name other ≡ b → (if b then content else files other) ≡ files other
 same-at files name other content is true same = sym is ∙ ap files ((bytes_eq-Decides name other).0 same)

@@ -1,6 +1,5 @@
-use Rattle.std.proofs.Common.{◌≡◌, ◌∙◌, sym, ap, refl, rules, ℕ, ◌+◌, ◌<◌, nat_eq, Bool, true, false, if◌then◌else◌, arith, List, [], ◌∷◌, length, drop, get_or}
+use Rattle.std.proofs.Common.{◌≡◌, ◌∙◌, sym, ap, refl, ℕ, ◌+◌, ◌<◌, nat_eq, Bool, true, false, if◌then◌else◌, arith, List, ◌∷◌, length, drop, get_or}
 use Rattle.std.proofs.lemmas.List.{drop_more}
-use Rattle.std.proofs.lemmas.Result.{MatchResult-at_ok}
 use Rattle.acq_outside.specs.Crash.{Names, renamed, all_renamed}
 use Rattle.acq_outside.specs.Choice.{Drawn, put_first, next_byte, next_rest, drawn_part}
 use Rattle.acq_outside.specs.declared.state.NameChange.{NameChange}

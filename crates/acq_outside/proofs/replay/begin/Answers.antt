@@ -1,8 +1,7 @@
-use Rattle.std.proofs.Common.{rules, ◌≡◌, ◌∙◌, sym, ap, subst, arith, ℕ, ◌+◌, ◌-◌, ◌++◌, ◌∷◌, [], List, drop}
-use Rattle.acq_outside.specs.Crash.{Names, renamed, number_of, all_renamed}
+use Rattle.std.proofs.Common.{rules, ◌≡◌, ◌∙◌, sym, ap, arith, ℕ, ◌+◌, ◌-◌, ◌++◌, ◌∷◌, [], List, drop}
+use Rattle.acq_outside.specs.Crash.{renamed, number_of}
 use Rattle.acq_outside.specs.Replay.{names_in}
 use Rattle.acq_outside.specs.Replay.{nowhere}
-use Rattle.acq_outside.specs.declared.state.NameChange.{NameChange}
 use Rattle.acq_outside.specs.declared.state.NameChange.TheVariants.{Made}
 use Rattle.acq_outside.proofs.Replaying.{number_step, pushed}
 use Rattle.acq_outside.proofs.replay.begin.Goals as goal

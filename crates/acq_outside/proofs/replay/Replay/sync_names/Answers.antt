@@ -1,6 +1,5 @@
 use Rattle.std.proofs.Common.{rules, ◌≡◌, ◌∙◌, ap, sym, ◌++◌, [], List}
 use Rattle.acq_outside.specs.Crash.{State, Names, all_renamed}
-use Rattle.acq_outside.specs.Replay.{names_in}
 use Rattle.acq_outside.specs.Replay.{nowhere}
 use Rattle.acq_outside.specs.declared.state.NameChange.{NameChange}
 use Rattle.acq_outside.proofs.Replaying.{all_append}
