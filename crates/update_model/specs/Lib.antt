@@ -7,11 +7,11 @@ pub mod Obtained
 pub mod Releases
 pub mod Outcomes
 pub mod Next
+pub mod Carried
 -- which asks lead there:
 pub mod Trails
 pub mod Walks
 pub mod Mirrored
 pub mod Points
-pub mod Carried
 -- what the laws of this crate say:
 pub mod Laws
