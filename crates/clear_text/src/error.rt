@@ -1,3 +1,5 @@
+//! Why a text is no frame. It touches nothing and takes no memory.
+
 use acq_base::{NoMemory as OutOfMemory, Refusal};
 use std::error::Error;
 use std::fmt;

@@ -1,3 +1,5 @@
+//! The kept closure on heads of Releases. It touches nothing and takes no memory.
+
 ghost use Rattle.std.specs.Prelude.{◌≡◌};
 ghost use Rattle.release_file.specs.Changes.{allowed};
 ghost use Rattle.kept_hooks.specs.Judging.{Allows};

@@ -1,3 +1,5 @@
+//! The kept closure on targets. It touches nothing and takes no memory.
+
 ghost use Rattle.std.specs.Prelude.{◌≡◌};
 ghost use Rattle.kept_hooks.specs.Picking.{is_picked, Picks};
 

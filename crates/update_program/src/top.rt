@@ -1,3 +1,5 @@
+//! The top call.
+
 ghost use Rattle.std.specs.Prelude.{◌≡◌, ◌≢◌, ◌≤◌, ◌⊎◌, None, Some, drop, map, vec_len, string_bytes, IsTrue, IfSome, IfNone};
 ghost use Rattle.acq_base.specs.Uri.{IsSound};
 ghost use Rattle.acq_outside.specs.Count.{Rose};
