@@ -1,5 +1,6 @@
-use crate::{apply, read_script};
-use acq_base::Refusal;
+use crate::{Edit, apply, read_script};
+use acq_base::{Bytes, Refusal};
+use std::alloc::Global;
 use std::test::Fail;
 
 /// Texts that are no script, and the number and line of the refusal.
@@ -150,6 +151,61 @@ fn differences(rt: HostRuntime) -> Result<(), Fail> {
         let script = read_script(rt.alloc(), *bytes)?;
         let made = apply(rt.alloc(), *old, &script)?;
         assert!(rt; made.as_slice() == *new, "at {old:?} {bytes:?}");
+    }
+    Ok(())
+}
+
+/// A file, scripts one after another, the file in the end, and the line at which the last script is refused, or 0.
+const CHAINS: [(&[u8], &[&[u8]], &[u8], u64); 11] = [
+    (
+        b"a\nb\nc\n",
+        &[b"3d\n1a\nx\n..\n.\ns/.//\na\ny\n.\n0a\nt\n.\n"],
+        b"t\na\nx\n.\ny\nb\n",
+        0,
+    ),
+    (b"a\nb\nc\n", &[b"4d\n"], b"a\nb\nc\n", 1),
+    (b"a\nb\nc\n", &[b""], b"a\nb\nc\n", 0),
+    (b"a\n", &[b"999999999999999999d\n"], b"a\n", 1),
+    (b"a\n", &[b"3a\nx\n.\n2d\n"], b"a\n", 1),
+    // A last line without a line feed, and what is put behind it, are one line.
+    (b"a", &[b"1a\nx\n.\n"], b"ax\n", 0),
+    (b"a", &[b"1a\nx\n.\n", b"2d\n"], b"ax\n", 1),
+    (
+        b"a\nb",
+        &[b"2a\nx\ny\n.\n", b"2a\nz\n.\n1d\n", b"1d"],
+        b"z\ny\n",
+        0,
+    ),
+    (
+        b"a\nb",
+        &[b"2a\nx\ny\n.\n0a\nt\n.\n", b"3a\nz\n.\n", b"1,2d"],
+        b"bx\nz\ny\n",
+        0,
+    ),
+    (b"a\nb\n", &[b"2c\ny\n.\n", b"0a\nt\n.\n"], b"t\na\ny\n", 0),
+    (b"", &[b"0a\nt\n.\n", b"1d\n"], b"", 0),
+];
+
+/// The file after the scripts, its size, and the line at which the last of them is refused, or 0.
+fn run_all(alloc: Global, old: &[u8], scripts: &[&[u8]]) -> Result<(Bytes, u64, u64), Fail> {
+    let mut edit = Edit::whole(alloc, old)?;
+    let mut refused = 0;
+    for bytes in scripts {
+        refused = match edit.then(alloc, read_script(alloc, bytes)?) {
+            Ok(()) => 0,
+            Err(error) => error.line(),
+        };
+    }
+    Ok((edit.copy_out(alloc, old)?, edit.size(), refused))
+}
+
+#[test]
+fn chains(rt: HostRuntime) -> Result<(), Fail> {
+    for (old, scripts, new, line) in &CHAINS {
+        let (made, size, refused) = run_all(rt.alloc(), *old, *scripts)?;
+        assert_eq!(rt; refused, *line, "at {old:?}");
+        assert_eq!(rt; size, new.len() as u64, "at {old:?}");
+        assert!(rt; made.as_slice() == *new, "at {old:?}");
     }
     Ok(())
 }
