@@ -1,3 +1,5 @@
+//! Scripts applied to a file whose bytes are at hand. What takes memory is handed an allocator.
+
 ghost use Rattle.std.specs.Prelude.{◌≡◌, ◌⊎◌, All, Some, IfOk, IfErr};
 ghost use Rattle.ed_apply.specs.Edits.{IsSound, applied_all, edited, refusal};
 

@@ -1,3 +1,5 @@
+//! Tests of reading scripts, and of applying them.
+
 use crate::{Edit, apply, read_script};
 use acq_base::{Bytes, Refusal};
 use std::alloc::Global;

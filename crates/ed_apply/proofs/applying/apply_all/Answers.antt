@@ -1,4 +1,4 @@
-use Rattle.std.proofs.Common.{◌≡◌, ◌∙◌, List, ℕ, drop, Some, sym, ap}
+use Rattle.std.proofs.Common.{◌∙◌, List, ℕ, Some, sym, ap}
 use Rattle.ed_apply.specs.Edits.{applied_all}
 use Rattle.ed_apply.specs.Files.{file_of}
 use Rattle.ed_apply.proofs.Chains.{one-more, no-more}
