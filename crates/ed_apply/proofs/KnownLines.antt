@@ -1,18 +1,16 @@
 -- The lines of an old file and of texts: all are ended but perhaps the old file's last.
-use Rattle.std.proofs.Common.{◌≡◌, ◌∙◌, ◌⊎◌, ℕ, zero, suc, ◌+◌, ◌-◌, ◌<◌, ◌≤◌, nat_eq, nat_lt, Bool, true, false, List, [], ◌∷◌, ◌++◌, length, get_or, Option, Some, None, inl, inr, refl, sym, ap, subst, append_assoc, length-append, arith}
+use Rattle.std.proofs.Common.{◌≡◌, ◌∙◌, ◌⊎◌, ℕ, zero, suc, ◌+◌, ◌-◌, ◌<◌, ◌≤◌, nat_eq, nat_lt, Bool, true, false, List, [], ◌∷◌, ◌++◌, length, Option, Some, None, inl, inr, refl, sym, ap, subst, append_assoc, length-append, arith}
 use Rattle.std.specs.Prelude.{if◌then◌else◌, IfSome, slice_get}
-use Rattle.std.specs.List.{concat, flat_map}
+use Rattle.std.specs.List.{concat}
 use Rattle.std.proofs.Math.ListN.{get_or-append}
 use Rattle.std.proofs.Math.Seq.{get_or-append_right}
-use Rattle.std.proofs.lemmas.Bool.{cases_Bool, eqb-true}
+use Rattle.std.proofs.lemmas.Bool.{cases_Bool}
 use Rattle.std.proofs.lemmas.Bool.Decides.{nat_tests}
 use Rattle.std.proofs.lemmas.List.{append-nil}
 use Rattle.ed_apply.specs.Edits.{file_lines, in_front, IsWholeLines}
-use Rattle.ed_apply.specs.Segments.{is_none, is_ended, line_at, open_line, known_lines, texts_of}
-use Rattle.ed_apply.specs.declared.script.Hunk.{Hunk}
-use Rattle.ed_apply.proofs.Pieces.{is_open, AreEnded, ended-first, ended-lines, concat-lines}
+use Rattle.ed_apply.specs.Segments.{is_none, is_ended, line_at, open_line, known_lines}
+use Rattle.ed_apply.proofs.Pieces.{is_open, AreEnded, ended-first, concat-lines}
 use Rattle.ed_apply.proofs.Numbered.{AreKnown}
-use Rattle.ed_apply.proofs.Merges.{texts_in}
 
 -- ---- texts of whole lines
 

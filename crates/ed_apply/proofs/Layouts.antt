@@ -1,12 +1,12 @@
 -- The numbers of segments, one segment after another.
-use Rattle.std.proofs.Common.{◌≡◌, ◌∙◌, ℕ, zero, suc, ◌+◌, ◌-◌, ◌<◌, ◌≤◌, nat_eq, Bool, true, false, List, [], ◌∷◌, ◌++◌, length, take, drop, get_or, drop-cons, refl, sym, ap, inl, inr, length-append, arith}
-use Rattle.std.specs.List.{position_or_len, flat_map}
+use Rattle.std.proofs.Common.{◌≡◌, ◌∙◌, ℕ, ◌+◌, ◌-◌, ◌<◌, ◌≤◌, nat_eq, Bool, List, [], ◌∷◌, ◌++◌, length, take, drop, get_or, refl, sym, ap, inl, inr, length-append, arith}
+use Rattle.std.specs.List.{position_or_len}
 use Rattle.std.proofs.lemmas.Bool.{cases_Bool}
-use Rattle.std.proofs.lemmas.List.{take_more, take-append-drop, drop_all, take_all}
+use Rattle.std.proofs.lemmas.List.{take_more, take-append-drop}
 use Rattle.std.proofs.lemmas.List.Concat.{flat_map-append}
 use Rattle.ed_apply.specs.Segments.{numbers, numbers_in}
 use Rattle.ed_apply.specs.declared.segment.Segment.{Segment}
-use Rattle.ed_apply.proofs.Numbers.{numbers-push, length-push, length-numbers_in}
+use Rattle.ed_apply.proofs.Numbers.{numbers-push, length-numbers_in}
 
 pub numbers-more : (segments : List Segment) (i : ℕ) (segment : Segment) → i < length segments → numbers (take (i + 1) segments) ≡ numbers (take i segments) ++ numbers_in (get_or segments i segment)
 numbers-more segments i segment within = ap numbers (take_more segments i segment within) ∙ numbers-push (take i segments) (get_or segments i segment)

@@ -14,3 +14,4 @@ pub mod KnownLines
 pub mod Theorem
 pub mod Merging
 pub mod Standing
+pub mod Chains

@@ -1,13 +1,13 @@
 -- A script on numbers makes the file that the script makes of the file.
-use Rattle.std.proofs.Common.{◌≡◌, ◌∙◌, ℕ, zero, suc, ◌+◌, ◌-◌, ◌<◌, ◌≤◌, nat_eq, nat_le, nat_lt, Bool, true, false, ◌&&◌, List, [], ◌∷◌, ◌++◌, length, map, take, drop, get_or, Option, Some, None, inl, inr, refl, sym, ap, append_assoc, length-append, length-drop, arith}
-use Rattle.std.specs.Prelude.{if◌then◌else◌, option_map, IfSome}
-use Rattle.std.specs.List.{concat, flat_map}
-use Rattle.std.proofs.Math.Seq.{drop-append_seam, take-length}
-use Rattle.std.proofs.lemmas.Bool.{cases_Bool, eqb-true}
+use Rattle.std.proofs.Common.{◌≡◌, ◌∙◌, ℕ, zero, suc, ◌+◌, ◌<◌, ◌≤◌, nat_eq, nat_le, nat_lt, true, false, ◌&&◌, List, [], ◌∷◌, ◌++◌, length, map, take, drop, Option, Some, None, inl, inr, refl, sym, ap, append_assoc, length-append, arith}
+use Rattle.std.specs.Prelude.{if◌then◌else◌, IfSome}
+use Rattle.std.specs.List.{concat}
+use Rattle.std.proofs.Math.Seq.{drop-append_seam}
+use Rattle.std.proofs.lemmas.Bool.{cases_Bool}
 use Rattle.std.proofs.lemmas.Bool.Decides.{nat_tests}
-use Rattle.std.proofs.lemmas.List.{take-append-drop, length-take-le, map-append, append-nil, get_or-append-add, take_all}
+use Rattle.std.proofs.lemmas.List.{take-append-drop, length-take-le, map-append, get_or-append-add}
 use Rattle.ed_apply.specs.Edits.{file_lines, applied_to}
-use Rattle.ed_apply.specs.Segments.{range, merged, AreBelow, count_of, place_of, lines_of, line_at, line_count, AreWithin}
+use Rattle.ed_apply.specs.Segments.{range, merged, AreBelow, count_of, place_of, lines_of, line_at, AreWithin}
 use Rattle.ed_apply.specs.declared.script.Hunk.{Hunk}
 use Rattle.ed_apply.proofs.Pieces.{Matches, concat-lines}
 

@@ -1,15 +1,14 @@
 -- A script on an edit: the numbers that are merged stand for the file that the script makes.
-use Rattle.std.proofs.Common.{◌≡◌, ◌∙◌, ℕ, zero, suc, ◌+◌, ◌-◌, ◌<◌, ◌≤◌, nat_eq, nat_le, nat_lt, true, false, List, [], ◌∷◌, ◌++◌, length, map, Option, Some, None, inl, inr, refl, sym, ap, subst, length-append, arith}
-use Rattle.std.specs.Prelude.{All, IfSome, if◌then◌else◌}
+use Rattle.std.proofs.Common.{◌≡◌, ◌∙◌, ℕ, suc, ◌+◌, ◌<◌, ◌≤◌, nat_eq, nat_lt, List, [], ◌∷◌, ◌++◌, length, map, Option, Some, None, inl, inr, sym, ap, subst, length-append, arith}
+use Rattle.std.specs.Prelude.{All, IfSome}
 use Rattle.std.specs.List.{concat, position_or_len}
 use Rattle.std.proofs.lemmas.Bool.{cases_Bool}
 use Rattle.std.proofs.lemmas.Bool.Decides.{nat_tests}
 use Rattle.std.proofs.lemmas.List.{length-map}
-use Rattle.ed_apply.specs.Edits.{file_lines, applied_to, IsSoundHunk, GoesDown, first_outside}
-use Rattle.ed_apply.specs.Segments.{merged, place_of, lines_of, joint, line_at, known_lines, open_line, count_of, AreWithin, FirstFits, ends_from, grown, texts_of}
+use Rattle.ed_apply.specs.Edits.{file_lines, applied_to, IsSoundHunk, GoesDown}
+use Rattle.ed_apply.specs.Segments.{merged, lines_of, joint, line_at, known_lines, open_line, count_of, AreWithin, FirstFits, ends_from, grown, texts_of}
 use Rattle.ed_apply.specs.Files.{file_from, Stands}
 use Rattle.ed_apply.specs.declared.script.Hunk.{Hunk}
-use Rattle.ed_apply.specs.declared.error.ApplyError.{ApplyError}
 use Rattle.ed_apply.proofs.Pieces.{Matches}
 use Rattle.ed_apply.proofs.Numbered.{matches}
 use Rattle.ed_apply.proofs.Merges.{texts_in, InOrder, applied-merged, merged-below, merged-count, below-more, within-order, place-within}

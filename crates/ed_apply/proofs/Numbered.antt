@@ -1,12 +1,12 @@
 -- The pieces with these numbers, of which at most one is the open one, make the lines of the file.
-use Rattle.std.proofs.Common.{◌≡◌, ◌∙◌, ℕ, zero, suc, ◌+◌, ◌-◌, ◌<◌, ◌≤◌, nat_eq, nat_lt, Bool, true, false, List, [], ◌∷◌, ◌++◌, length, map, take, drop, Option, Some, None, inl, inr, refl, sym, ap, append_assoc, length-append, arith}
-use Rattle.std.specs.Prelude.{if◌then◌else◌, option_map, IfSome}
+use Rattle.std.proofs.Common.{◌≡◌, ◌∙◌, ℕ, suc, ◌+◌, ◌<◌, ◌≤◌, nat_eq, nat_lt, true, false, List, [], ◌∷◌, ◌++◌, length, map, Option, Some, None, inl, inr, refl, ap, arith}
+use Rattle.std.specs.Prelude.{option_map, IfSome}
 use Rattle.std.specs.List.{concat, position_or_len}
 use Rattle.std.proofs.lemmas.Bool.{cases_Bool, eqb-true}
 use Rattle.std.proofs.lemmas.Bool.Decides.{nat_tests}
 use Rattle.std.proofs.lemmas.List.{append-nil}
 use Rattle.ed_apply.specs.Edits.{file_lines}
-use Rattle.ed_apply.specs.Segments.{is_ended, is_none, count_of, AreBelow, place_of, lines_of, joint, line_at}
+use Rattle.ed_apply.specs.Segments.{is_ended, is_none, count_of, AreBelow, joint, line_at}
 use Rattle.ed_apply.proofs.Pieces.{is_open, AreEnded, ended-first, ended-lines, open-first, open-last, Matches, matches-same, matches-cons, matches-joined}
 
 -- each known line but the open one is ended

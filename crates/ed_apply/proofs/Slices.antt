@@ -1,13 +1,8 @@
 -- Bytes between two places of a file with texts behind it, and the ends of lines.
-use Rattle.std.proofs.Common.{◌≡◌, ◌∙◌, ℕ, zero, suc, ◌+◌, ◌-◌, ◌<◌, ◌≤◌, min, nat_lt, true, false, List, [], ◌∷◌, ◌++◌, length, take, drop, map, get_or, refl, sym, ap, append_assoc, length-append, length-drop, inl, inr, arith, subst}
-use Rattle.std.specs.Prelude.{slice_index}
+use Rattle.std.proofs.Common.{◌≡◌, ◌∙◌, ℕ, zero, suc, ◌+◌, ◌-◌, ◌<◌, ◌≤◌, min, nat_lt, true, List, [], ◌∷◌, ◌++◌, length, take, drop, get_or, refl, sym, ap, append_assoc, length-append, length-drop, arith}
 use Rattle.std.specs.List.{concat}
-use Rattle.std.proofs.Math.Seq.{take-append_seam, drop-append_seam}
-use Rattle.std.proofs.lemmas.Bool.{cases_Bool}
 use Rattle.std.proofs.lemmas.Bool.Decides.{nat_tests}
-use Rattle.std.proofs.lemmas.List.{take_all, drop_all, length-take-le, take-append-drop, drop-drop, append-nil}
-use Rattle.ed_apply.specs.Edits.{file_lines}
-use Rattle.ed_apply.specs.Segments.{range, line_at, ends_from, start_at, bytes_between, segment_bytes, segment_size, numbers_in}
+use Rattle.ed_apply.specs.Segments.{ends_from, start_at, bytes_between, segment_bytes}
 use Rattle.ed_apply.specs.declared.segment.Segment.{Segment}
 
 take-min : (n : ℕ) (xs : List ℕ) → take (min n (length xs)) xs ≡ take n xs

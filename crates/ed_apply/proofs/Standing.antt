@@ -1,13 +1,12 @@
 -- What holds of an edit: at its beginning, after a script, and of its size and its copy.
-use Rattle.std.proofs.Common.{◌≡◌, ◌∙◌, ℕ, zero, suc, ◌+◌, ◌-◌, ◌<◌, ◌≤◌, nat_eq, nat_le, true, false, List, [], ◌∷◌, ◌++◌, length, map, take, drop, Option, Some, None, inl, inr, refl, sym, ap, subst, length-append, arith}
-use Rattle.std.specs.Prelude.{All, IfSome, if◌then◌else◌}
+use Rattle.std.proofs.Common.{◌≡◌, ◌∙◌, ℕ, zero, suc, ◌-◌, ◌≤◌, nat_eq, List, [], ◌∷◌, ◌++◌, length, map, Option, Some, None, inl, inr, refl, sym, ap, subst, arith}
+use Rattle.std.specs.Prelude.{IfSome}
 use Rattle.std.specs.List.{concat, flat_map, sum_by}
 use Rattle.std.proofs.Math.Seq.{take-length}
 use Rattle.std.proofs.lemmas.Bool.{cases_Bool, eqb-true}
-use Rattle.std.proofs.lemmas.Bool.Decides.{nat_tests}
 use Rattle.std.proofs.lemmas.List.{append-nil}
-use Rattle.ed_apply.specs.Edits.{file_lines, IsSound, edited, applied_to, applied, refusal, first_outside}
-use Rattle.ed_apply.specs.Segments.{range, numbers, numbers_in, merged, lines_of, joint, line_at, known_lines, open_line, count_of, AreBelow, AreWithin, FirstFits, ends_from, grown, texts_of, segment_bytes, segment_size}
+use Rattle.ed_apply.specs.Edits.{file_lines, IsSound, edited, applied, refusal, first_outside}
+use Rattle.ed_apply.specs.Segments.{range, numbers, merged, lines_of, joint, line_at, known_lines, open_line, count_of, AreBelow, FirstFits, ends_from, grown, texts_of, segment_bytes, segment_size}
 use Rattle.ed_apply.specs.Files.{file_from, file_of, Stands, IsOf}
 use Rattle.ed_apply.specs.declared.edit.Edit.{Edit}
 use Rattle.ed_apply.specs.declared.layout.Layout.{Layout}

@@ -1,21 +1,19 @@
 -- An edit stands for the file that the scripts make, and what is copied out is that file.
-use Rattle.std.proofs.Common.{◌≡◌, ◌∙◌, ◌⊎◌, ℕ, zero, suc, ◌+◌, ◌-◌, ◌<◌, ◌≤◌, nat_lt, true, false, List, [], ◌∷◌, ◌++◌, length, map, take, drop, drop-cons, Option, Some, None, inl, inr, refl, sym, ap, subst, append_assoc, length-append, length-drop, arith}
-use Rattle.std.specs.Prelude.{All, IfSome}
+use Rattle.std.proofs.Common.{◌≡◌, ◌∙◌, ℕ, zero, suc, ◌+◌, ◌-◌, ◌<◌, ◌≤◌, nat_lt, List, [], ◌∷◌, ◌++◌, length, map, take, drop, drop-cons, inl, inr, refl, sym, ap, subst, append_assoc, length-append, arith}
+use Rattle.std.specs.Prelude.{All}
 use Rattle.std.specs.List.{concat, flat_map, sum_by}
 use Rattle.std.proofs.Math.ListN.{get_or-append}
 use Rattle.std.proofs.Math.Seq.{take-append_seam, drop-append_seam, take-length}
 use Rattle.std.proofs.lemmas.Bool.{cases_Bool}
 use Rattle.std.proofs.lemmas.Bool.Decides.{nat_tests}
-use Rattle.std.proofs.lemmas.List.{take-append-drop, map-append, length-take-le, drop-drop, append-nil}
+use Rattle.std.proofs.lemmas.List.{take-append-drop, map-append, append-nil}
 use Rattle.std.proofs.lemmas.List.Sums.{sum_by-append}
-use Rattle.ed_apply.specs.Edits.{file_lines, applied_to, IsWholeLines, IsSoundHunk}
-use Rattle.ed_apply.specs.Segments.{range, numbers, numbers_in, merged, place_of, lines_of, joint, line_at, known_lines, open_line, count_of, AreBelow, AreWithin, ends_from, start_at, grown, texts_of, bytes_between, segment_bytes, segment_size}
+use Rattle.ed_apply.specs.Edits.{file_lines, IsWholeLines, IsSoundHunk}
+use Rattle.ed_apply.specs.Segments.{range, numbers, numbers_in, line_at, known_lines, AreBelow, ends_from, start_at, grown, texts_of, bytes_between, segment_bytes, segment_size}
 use Rattle.ed_apply.specs.declared.script.Hunk.{Hunk}
 use Rattle.ed_apply.specs.declared.segment.Segment.{Segment}
-use Rattle.ed_apply.proofs.Pieces.{Matches, concat-lines}
-use Rattle.ed_apply.proofs.Numbered.{AreKnown, matches}
-use Rattle.ed_apply.proofs.Merges.{texts_in, concat-append, InOrder, applied-merged, merged-below, merged-count, below-more, within-order}
-use Rattle.ed_apply.proofs.KnownLines.{are-known, lines-append, whole-append}
+use Rattle.ed_apply.proofs.Merges.{texts_in, concat-append}
+use Rattle.ed_apply.proofs.KnownLines.{lines-append, whole-append}
 use Rattle.ed_apply.proofs.Slices.{ends-append, length-ends, start-is}
 
 -- ---- the texts of hunks

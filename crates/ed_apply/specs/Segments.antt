@@ -1,5 +1,5 @@
 -- Files as rows of known lines: the lines of an old file, and behind them those of scripts' texts, each by its number.
-use Rattle.std.specs.Prelude.{ℕ, zero, suc, ◌+◌, ◌-◌, ◌<◌, ◌≤◌, ◌==◌, nat_le, nat_lt, nat_eq, Bool, true, false, not, ◌&&◌, if◌then◌else◌, List, [], ◌∷◌, ◌++◌, length, map, take, drop, slice_index_or, slice_index, Option, Some, None}
+use Rattle.std.specs.Prelude.{ℕ, zero, suc, ◌+◌, ◌-◌, ◌<◌, ◌≤◌, nat_lt, nat_eq, Bool, true, false, if◌then◌else◌, List, [], ◌∷◌, ◌++◌, length, take, drop, reverse, slice_index_or, slice_index, Option, Some, None}
 use Rattle.std.specs.List.{flat_map, position_or_len}
 use Rattle.ed_apply.specs.Edits.{file_lines}
 use Rattle.ed_apply.specs.declared.segment.Segment.{Segment}
@@ -18,6 +18,10 @@ numbers_in segment = range segment.from (segment.to - segment.from)
 -- the numbers of the lines in these segments, in order
 abbrev pub numbers : List Segment → List ℕ
 numbers segments = flat_map numbers_in segments
+
+-- those of a row that is built from its end
+abbrev pub numbers_backward : List Segment → List ℕ
+numbers_backward segments = numbers (reverse segments)
 
 -- how often a number stands there
 abbrev pub count_of : ℕ → List ℕ → ℕ

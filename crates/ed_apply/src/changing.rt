@@ -1,7 +1,9 @@
+//! What a script makes of a layout of segments, in one walk from the file's end. It takes memory for the new row.
+
 ghost use Rattle.std.specs.Prelude.{◌≡◌, ◌≤◌, ◌++◌, length, take, drop, reverse, Some, IfOk, OnOk, MatchResult};
 ghost use Rattle.std.specs.List.{sum_by};
 ghost use Rattle.ed_apply.specs.Edits.{file_lines, first_outside};
-ghost use Rattle.ed_apply.specs.Segments.{AreWithin, merged, numbers, range, line_count, ends_from, start_at, grown, texts_of, segment_size, FirstFits};
+ghost use Rattle.ed_apply.specs.Segments.{AreWithin, merged, numbers, numbers_backward, range, line_count, ends_from, start_at, grown, texts_of, segment_size, FirstFits};
 
 use crate::known::Known;
 use crate::layout::Layout;
@@ -78,7 +80,8 @@ fn replace(
     requires within { to ≤ lines }
     requires lines { lines ≡ length (numbers rows.old.left.items) }
     ensures left { OnOk result (numbers rows.new.left.items ≡ take from (numbers rows.old.left.items)) }
-    ensures kept { OnOk result (numbers (reverse rows.new.kept.items) ≡ range (length known.old.ends.items) (line_count text.now) ++ (drop to (numbers rows.old.left.items) ++ numbers (reverse rows.old.kept.items))) }
+    ensures kept { OnOk result (numbers_backward rows.new.kept.items ≡ range (length known.old.ends.items) (line_count text.now)
+        ++ (drop to (numbers rows.old.left.items) ++ numbers_backward rows.old.kept.items)) }
     ensures ends { OnOk result (known.new.ends.items ≡ known.old.ends.items ++ ends_from (start_at known.old.ends.items (length known.old.ends.items)) (file_lines text.now)) }
     ensures texts { OnOk result (known.new.texts.items ≡ known.old.texts.items ++ text.now) }
     ensures old_ends { take (length known.old.ends.items) known.new.ends.items ≡ known.old.ends.items }

@@ -1,3 +1,5 @@
+//! Files as old ones become them by scripts. What takes memory is handed an allocator.
+
 ghost use Rattle.std.specs.Prelude.{◌≡◌, ◌⊎◌, ℕ, List, length, Some, IfOk, IfErr, OnOk, OnErr};
 ghost use Rattle.ed_apply.specs.Edits.{IsSound, edited, file_lines, refusal};
 ghost use Rattle.ed_apply.specs.Files.{IsOf, file_of};

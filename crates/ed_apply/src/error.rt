@@ -1,3 +1,5 @@
+//! What is answered where bytes are no script, and where a script doesn't apply.
+
 use acq_base::{NoMemory as OutOfMemory, Refusal};
 use std::error::Error;
 use std::fmt;

@@ -1,3 +1,5 @@
+//! The lines of an old file and of scripts' texts, by the places where they end. Texts take memory, looking up takes none.
+
 ghost use Rattle.std.specs.Prelude.{◌≡◌, ◌+◌, ◌-◌, ◌<◌, ◌^◌, ◌++◌, [], length, take, IfOk, OnOk};
 ghost use Rattle.std.specs.List.{sum_by};
 ghost use Rattle.ed_apply.specs.Edits.{file_lines};

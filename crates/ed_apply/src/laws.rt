@@ -1,3 +1,5 @@
+//! Laws of the definitions, on functions with nothing to do.
+
 ghost use Rattle.std.specs.Prelude.{◌≡◌, ◌↔◌, ℕ, List, Some};
 ghost use Rattle.ed_apply.specs.Edits.{applied, edited};
 ghost use Rattle.ed_apply.specs.declared.script.Script.{Script as AnyScript};

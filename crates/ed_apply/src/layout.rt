@@ -1,3 +1,5 @@
+//! Of which known lines a file is made. Nothing here takes memory.
+
 ghost use Rattle.std.specs.Prelude.{◌≡◌, ◌+◌, ◌<◌, ◌^◌, length, nat_eq, IfOk};
 ghost use Rattle.std.specs.List.{position_or_len};
 ghost use Rattle.ed_apply.specs.Segments.{numbers, joint, place_of, lines_of};

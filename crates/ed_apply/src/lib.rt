@@ -1,7 +1,7 @@
 //! Edit scripts (what `diff --ed` writes): read, and applied to files one after another without copying in between.
 #![tactic(auto)]
 
-pub use applying::apply;
+pub use applying::{apply, apply_all};
 pub use edit::Edit;
 pub use error::{ApplyError, ScriptError};
 pub use laws::applied_is_edited;
@@ -20,3 +20,5 @@ mod lines;
 mod reading;
 mod script;
 mod segment;
+#[cfg(test)]
+mod tests;

@@ -1,3 +1,5 @@
+//! Known lines that stand one behind another, and rows of such segments, which take memory.
+
 ghost use Rattle.std.specs.Prelude.{◌≡◌, ◌+◌, ◌-◌, ◌<◌, ◌++◌, length, reverse, nat_eq, OnOk};
 ghost use Rattle.std.specs.List.{position_or_len};
 ghost use Rattle.ed_apply.specs.Segments.{numbers, numbers_in};

@@ -1,3 +1,5 @@
+//! Sums by the names of steps, in a map, which takes memory.
+
 ghost use Rattle.std.specs.Prelude.{◌≡◌, ℕ, List, not, is_some, IfOk, OnOk};
 ghost use Rattle.std.specs.BTreeMap.{get};
 ghost use Rattle.std.specs.Cmp.Lexicographic.{slice_cmp};

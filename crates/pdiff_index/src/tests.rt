@@ -1,3 +1,5 @@
+//! Tests of reading an Index and of chains.
+
 use crate::{NoChain, chain, read_index};
 use acq_base::{Refusal, Row, Sum, read_sum};
 use std::test::Fail;

@@ -1,4 +1,4 @@
-use Rattle.std.proofs.Common.{◌≡◌, ◌∙◌, ◌+◌, ◌++◌, ◌<◌, ◌^◌, ℕ, List, length, take, drop, reverse, sym, ap, subst, arith}
+use Rattle.std.proofs.Common.{◌∙◌, ◌+◌, ◌++◌, ℕ, List, length, take, drop, reverse, sym, ap, subst, arith}
 use Rattle.ed_apply.specs.Edits.{file_lines}
 use Rattle.ed_apply.specs.Segments.{numbers, range, line_count, ends_from, start_at}
 use Rattle.ed_apply.proofs.Changes.{IsAt, next-within, goes_on}

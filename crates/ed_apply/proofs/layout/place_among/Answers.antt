@@ -1,4 +1,4 @@
-use Rattle.std.proofs.Common.{◌≡◌, ◌∙◌, ◌<◌, ◌≤◌, ◌-◌, get_or, sym, subst, arith}
+use Rattle.std.proofs.Common.{◌<◌, ◌≤◌, ◌-◌, get_or, arith}
 use Rattle.ed_apply.specs.declared.segment.Segment.{Segment}
 use Rattle.ed_apply.proofs.Layouts.{place-fits, place-here, place-passed}
 use Rattle.ed_apply.proofs.layout.place_among.Goals as goal

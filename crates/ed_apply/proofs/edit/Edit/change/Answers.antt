@@ -1,8 +1,6 @@
-use Rattle.std.proofs.Common.{◌≡◌, ◌∙◌, ◌++◌, ℕ, List, length, take, inr, refl, sym, ap, subst, arith, Some}
-use Rattle.std.specs.List.{sum_by}
-use Rattle.ed_apply.specs.Edits.{file_lines, first_outside}
-use Rattle.ed_apply.specs.Segments.{numbers, merged, lines_of, AreWithin, FirstFits, grown, texts_of, segment_size}
-use Rattle.ed_apply.specs.Files.{IsOf, file_of}
+use Rattle.std.proofs.Common.{◌≡◌, ◌∙◌, ◌++◌, List, length, take, inr, refl, sym, ap, subst, arith}
+use Rattle.ed_apply.specs.Edits.{first_outside}
+use Rattle.ed_apply.specs.Segments.{numbers, merged, lines_of, AreWithin, FirstFits, grown, texts_of}
 use Rattle.ed_apply.specs.declared.script.Hunk.{Hunk}
 use Rattle.ed_apply.proofs.Merging.{in-order, all-within}
 use Rattle.ed_apply.proofs.Standing.{then-is, refused-is, kept-is}

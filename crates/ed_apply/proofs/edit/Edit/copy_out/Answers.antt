@@ -1,4 +1,4 @@
-use Rattle.std.proofs.Common.{◌≡◌, ◌∙◌, List, take, ap, subst, ◌++◌, length, ◌≤◌}
+use Rattle.std.proofs.Common.{◌∙◌, List, ap, subst, ◌++◌, length, ◌≤◌}
 use Rattle.std.specs.List.{flat_map}
 use Rattle.std.proofs.lemmas.List.{take_all}
 use Rattle.ed_apply.specs.Segments.{segment_bytes}

@@ -1,4 +1,4 @@
-use Rattle.std.proofs.Common.{◌≡◌, ◌∙◌, ◌+◌, ◌-◌, length, ap, arith, length-append}
+use Rattle.std.proofs.Common.{◌≡◌, ◌∙◌, ◌-◌, length, ap, arith, length-append}
 use Rattle.ed_apply.specs.Edits.{file_lines}
 use Rattle.ed_apply.specs.Segments.{range, line_count, ends_from}
 use Rattle.ed_apply.proofs.Slices.{length-ends}

@@ -1,4 +1,4 @@
-use Rattle.std.proofs.Common.{◌≡◌, ◌∙◌, ◌++◌, List, ℕ, ap}
+use Rattle.std.proofs.Common.{◌∙◌, ◌++◌, List, ℕ, ap}
 use Rattle.ed_apply.specs.Segments.{bytes_between}
 use Rattle.ed_apply.proofs.Slices.{copied}
 use Rattle.ed_apply.proofs.known.Known.copy.Goals as goal
