@@ -1,5 +1,5 @@
 -- How a disk in memory keeps its files, and which changes it takes.
-use Rattle.std.specs.Prelude.{ℕ, List, IsSome}
+use Rattle.std.specs.Prelude.{ℕ, List, [], ◌∷◌, IsSome}
 use Rattle.std.specs.Ordering.{nat_cmp}
 use Rattle.std.specs.Cmp.Lexicographic.{slice_cmp}
 use Rattle.std.specs.BTreeMap.{BTreeMap, get}
@@ -19,6 +19,11 @@ IsNamed (Sync name) = IsName name
 IsNamed (Rename from to) = IsName from × IsName to
 IsNamed (Remove name) = IsName name
 IsNamed SyncNames = Unit {0}
+
+-- the same of each of some changes
+abbrev pub AreNamed : List Change → Type 0
+AreNamed [] = Unit {0}
+AreNamed (change ∷ changes) = IsNamed change × AreNamed changes
 
 -- the files that a sorted map of them holds
 abbrev pub files_in : BTreeMap (List ℕ) (List ℕ) → Files

@@ -3,6 +3,9 @@ pub mod Count
 pub mod Refusals
 pub mod Etc
 pub mod Disk
+pub mod Crash
+pub mod Moments
+pub mod Choice
 pub mod Mirror
 pub mod Sink
 -- Cited by public clauses of the objects in memory alone.
@@ -13,6 +16,11 @@ pub mod MapMethod
 pub mod MemEtc
 pub mod History
 pub mod MemDisk
+-- The laws of the disk that may crash: what its trait asks each disk to show, and the proofs for the one in memory.
+pub mod Outcomes
+pub mod NamesApart
+pub mod Traces
 -- Cited by this crate's own functions and proofs alone.
 pub mod Held
 pub mod Whole
+pub mod Replay

@@ -117,7 +117,7 @@ fn remove_in(held: &mut Held, name: &Text)
 }
 
 /// The content with bytes written at a place within it or at its end.
-fn spliced(alloc: Global, content: &[u8], at: u64, bytes: &[u8]) -> Result<Bytes, NoMemory>
+pub fn spliced(alloc: Global, content: &[u8], at: u64, bytes: &[u8]) -> Result<Bytes, NoMemory>
     ensures { IfOk result (λ new. new ≡ spliced content.now at bytes.now) }
 {
     let start = (at as usize).min(content.len());

@@ -22,6 +22,7 @@ pub fn write_whole<D: Disk>(disk: &mut D, name: &[u8], bytes: &[u8]) -> Result<(
     ensures count { D.faults disk.old ≤ D.faults disk.new }
     ensures fault { OnErr result (Rose (D.faults disk.old) (D.faults disk.new)) }
     ensures quiet { OnOk result (D.faults disk.new ≡ D.faults disk.old) }
+    ensures held { D.held disk.new ≡ D.held disk.old }
     ensures telling { D.tells disk.new ≡ D.tells disk.old }
     ensures ok { IsTrue (D.tells disk.old) → OnOk result (D.files disk.new ≡ with_file (D.files disk.old) name.now (Some bytes.now)) }
     ensures others { IsTrue (D.tells disk.old) → (other : List ℕ) → other ≢ name.now → D.files disk.new other ≡ D.files disk.old other }
@@ -48,8 +49,10 @@ pub fn read_whole<D: Disk>(
     ensures fault { IsErrOf result OutError.Fault → Rose (D.faults disk.old) (D.faults disk.new) }
     ensures quiet { OnOk result (D.faults disk.new ≡ D.faults disk.old) }
     ensures dry { IsErrOf result OutError.NoMemory → D.faults disk.new ≡ D.faults disk.old }
+    ensures held { D.held disk.new ≡ D.held disk.old }
     ensures telling { D.tells disk.new ≡ D.tells disk.old }
     ensures same { D.files disk.new ≡ D.files disk.old }
+    ensures still { D.trace disk.new ≡ D.trace disk.old }
     ensures told { IsTrue (D.tells disk.old) → IfOk result (λ file. file ≡ D.files disk.old name.now) }
 {
     if disk.size(name)?.is_none() {
@@ -65,8 +68,10 @@ fn read_pieces<D: Disk>(alloc: Global, disk: &mut D, name: &[u8]) -> Result<Byte
     ensures fault { IsErrOf result OutError.Fault → Rose (D.faults disk.old) (D.faults disk.new) }
     ensures quiet { OnOk result (D.faults disk.new ≡ D.faults disk.old) }
     ensures dry { IsErrOf result OutError.NoMemory → D.faults disk.new ≡ D.faults disk.old }
+    ensures held { D.held disk.new ≡ D.held disk.old }
     ensures telling { D.tells disk.new ≡ D.tells disk.old }
     ensures same { D.files disk.new ≡ D.files disk.old }
+    ensures still { D.trace disk.new ≡ D.trace disk.old }
     ensures told { IsTrue (D.tells disk.old) → IfOk result (λ bytes. bytes ≡ unwrap_or (D.files disk.old name.now) []) }
 {
     let mut piece = vec![in alloc; 0u8; PIECE]?;
@@ -86,8 +91,10 @@ fn read_through<D: Disk>(
     ensures fault { IsErrOf result OutError.Fault → Rose (D.faults disk.old) (D.faults disk.new) }
     ensures quiet { OnOk result (D.faults disk.new ≡ D.faults disk.old) }
     ensures dry { IsErrOf result OutError.NoMemory → D.faults disk.new ≡ D.faults disk.old }
+    ensures held { D.held disk.new ≡ D.held disk.old }
     ensures telling { D.tells disk.new ≡ D.tells disk.old }
     ensures same { D.files disk.new ≡ D.files disk.old }
+    ensures still { D.trace disk.new ≡ D.trace disk.old }
     ensures told { IsTrue (D.tells disk.old) → IfOk result (λ bytes. bytes ≡ unwrap_or (D.files disk.old name.now) []) }
 {
     let mut content = Vec::new(alloc);
@@ -113,8 +120,10 @@ fn read_piece<D: Disk>(
     ensures fault { IsErrOf result OutError.Fault → Rose (D.faults disk.old) (D.faults disk.new) }
     ensures quiet { OnOk result (D.faults disk.new ≡ D.faults disk.old) }
     ensures dry { IsErrOf result OutError.NoMemory → D.faults disk.new ≡ D.faults disk.old }
+    ensures held { D.held disk.new ≡ D.held disk.old }
     ensures telling { D.tells disk.new ≡ D.tells disk.old }
     ensures same { D.files disk.new ≡ D.files disk.old }
+    ensures still { D.trace disk.new ≡ D.trace disk.old }
     ensures small { length content.old.items < 2 ^ 64 }
     ensures longer { IfOk result (λ n. length content.new.items ≡ length content.old.items + n) }
     ensures told { IsTrue (D.tells disk.old) → IfOk result (λ n. GrowsTo (unwrap_or (D.files disk.old name.now) []) n content.old.items content.new.items) }

@@ -1,5 +1,6 @@
 //! A folder of the operating system as a disk.
-ghost use Rattle.std.specs.Prelude.{◌≡◌, ◌≤◌, ◌<◌, ◌^◌, length, All, AllPairs, None, true, false, string_bytes, IfOk, IsErr, OnOk, OnErr, IsErrOf, MatchResult};
+ghost use Rattle.std.specs.Prelude.{◌≡◌, ◌≤◌, ◌<◌, ◌^◌, [], length, All, AllPairs, None, true, false, string_bytes, IfOk, IsErr, OnOk, OnErr, IsErrOf, MatchResult};
+ghost use Rattle.std.proofs.Common.{refl};
 ghost use Rattle.std.specs.Ordering.{nat_cmp};
 ghost use Rattle.std.specs.declared.cmp.Ordering.TheVariants.{Less};
 ghost use Rattle.std.specs.Cmp.Lexicographic.{slice_cmp};
@@ -12,12 +13,15 @@ use crate::folder;
 use crate::listing::{Entry, list};
 use crate::path::{PARTIAL, path_of};
 use acq_base::{Row, Text};
-use acq_outside::{Disk, Fault, OutError};
+use acq_outside::{Disk, Fault, HoldError, OutError};
 use std::alloc::{AllocError, Global};
 use std::fs::File;
 use std::io;
 use std::io::ErrorKind;
 use std::rt::Files;
+
+/// The file whose lock holds the folder. It is made where it is missing, and never removed.
+const LOCK: &[u8] = b"lock";
 
 /// A folder of the operating system. It works below that folder alone, and on plain files alone: any other name is a
 /// fault, and so is a folder or a link in place of a file, or in place of `partial` anything but a folder.
@@ -31,6 +35,8 @@ pub struct RealDisk<R: Drop> {
     folder: String,
     is_made: bool,
     faults: u64,
+    times_held: u64,
+    lock: Option<File>,
 }
 
 impl<R: Files<File = File> + AllocGlobal + Clone + Drop> RealDisk<R> {
@@ -45,6 +51,8 @@ impl<R: Files<File = File> + AllocGlobal + Clone + Drop> RealDisk<R> {
             folder: String::from_str(alloc, folder)?,
             is_made: false,
             faults: 0,
+            times_held: 0,
+            lock: None,
         })
     }
 
@@ -58,6 +66,7 @@ impl<R: Files<File = File> + AllocGlobal + Clone + Drop> RealDisk<R> {
     /// The answer of the system, an error of it as a fault that is counted.
     fn counted<T: Drop>(&mut self, done: io::Result<T>) -> Result<T, Fault>
         ensures count { self.old.faults ≤ self.new.faults }
+        ensures held { self.new.times_held ≡ self.old.times_held }
         ensures folder { folder_of self.new ≡ folder_of self.old }
         ensures fault { OnErr result (Rose self.old.faults self.new.faults) }
         ensures quiet { OnOk result (self.new.faults ≡ self.old.faults) }
@@ -94,6 +103,18 @@ impl<R: Files<File = File> + AllocGlobal + Clone + Drop> RealDisk<R> {
             self.is_made = true;
         }
         Ok(())
+    }
+
+    /// Locks the file `lock`, and answers whether no other process has it locked.
+    fn lock_folder(&mut self) -> io::Result<bool>
+        ensures { IsSame self.old self.new }
+    {
+        if self.lock.is_some() {
+            return Ok(true);
+        }
+        let path = self.path(LOCK)?;
+        self.lock = folder::lock(&self.rt, path.as_str())?;
+        Ok(self.lock.is_some())
     }
 
     fn entries(&mut self, alloc: Global) -> io::Result<Vec<Entry>>
@@ -176,8 +197,35 @@ impl<R: Files<File = File> + AllocGlobal + Clone + Drop> Disk for RealDisk<R> {
 
     ghost files = { λ _ _. None };
 
+    ghost trace = { λ _. [] };
+
+    ghost held = { λ disk. disk.times_held };
+
+    ghost sound = { λ _. tt };
+
+    ghost shown = { λ _. refl };
+
     // Beside what the trait says: a name that may lead out of the folder is a fault, no such name is listed, and the
     // folder stays.
+
+    fn hold(&mut self) -> Result<(), HoldError>
+        ensures count { self.old.faults ≤ self.new.faults }
+        ensures fault { IsErrOf result HoldError.Fault → Rose self.old.faults self.new.faults }
+        ensures quiet { OnOk result (self.new.faults ≡ self.old.faults) }
+        ensures quiet_held { IsErrOf result HoldError.Held → self.new.faults ≡ self.old.faults }
+        ensures held_count { self.old.times_held ≤ self.new.times_held }
+        ensures held { IsErrOf result HoldError.Held → Rose self.old.times_held self.new.times_held }
+        ensures free { OnOk result (self.new.times_held ≡ self.old.times_held) }
+        ensures free_fault { IsErrOf result HoldError.Fault → self.new.times_held ≡ self.old.times_held }
+        ensures folder { folder_of self.new ≡ folder_of self.old }
+    {
+        let locked = self.lock_folder();
+        if self.counted(locked)? {
+            return Ok(());
+        }
+        self.times_held = self.times_held.saturating_add(1);
+        Err(HoldError::Held)
+    }
 
     fn names(&mut self, alloc: Global) -> Result<Row<Text>, OutError>
         ensures count { self.old.faults ≤ self.new.faults }
@@ -188,6 +236,7 @@ impl<R: Files<File = File> + AllocGlobal + Clone + Drop> Disk for RealDisk<R> {
         ensures named { IfOk result (λ names. All IsName names) }
         ensures inside { IfOk result (λ names. All IsInside names) }
         ensures sorted { IfOk result (AllPairs (λ a b. slice_cmp nat_cmp a b ≡ Less)) }
+        ensures held { self.new.times_held ≡ self.old.times_held }
         ensures folder { folder_of self.new ≡ folder_of self.old }
     {
         match self.entries(alloc) {
@@ -205,6 +254,7 @@ impl<R: Files<File = File> + AllocGlobal + Clone + Drop> Disk for RealDisk<R> {
         ensures fault { OnErr result (Rose self.old.faults self.new.faults) }
         ensures quiet { OnOk result (self.new.faults ≡ self.old.faults) }
         ensures inside { OnOk result (IsInside name.now) }
+        ensures held { self.new.times_held ≡ self.old.times_held }
         ensures folder { folder_of self.new ≡ folder_of self.old }
     {
         let size = self.size_of(name);
@@ -217,6 +267,7 @@ impl<R: Files<File = File> + AllocGlobal + Clone + Drop> Disk for RealDisk<R> {
         ensures quiet { OnOk result (self.new.faults ≡ self.old.faults) }
         ensures within { IfOk result (λ n. n ≤ length out.old) }
         ensures inside { OnOk result (IsInside name.now) }
+        ensures held { self.new.times_held ≡ self.old.times_held }
         ensures folder { folder_of self.new ≡ folder_of self.old }
     {
         let read = self.read(name, at, out);
@@ -228,6 +279,7 @@ impl<R: Files<File = File> + AllocGlobal + Clone + Drop> Disk for RealDisk<R> {
         ensures fault { OnErr result (Rose self.old.faults self.new.faults) }
         ensures quiet { OnOk result (self.new.faults ≡ self.old.faults) }
         ensures inside { OnOk result (IsInside name.now) }
+        ensures held { self.new.times_held ≡ self.old.times_held }
         ensures folder { folder_of self.new ≡ folder_of self.old }
     {
         let written = self.write(name, at, bytes);
@@ -239,6 +291,7 @@ impl<R: Files<File = File> + AllocGlobal + Clone + Drop> Disk for RealDisk<R> {
         ensures fault { OnErr result (Rose self.old.faults self.new.faults) }
         ensures quiet { OnOk result (self.new.faults ≡ self.old.faults) }
         ensures inside { OnOk result (IsInside name.now) }
+        ensures held { self.new.times_held ≡ self.old.times_held }
         ensures folder { folder_of self.new ≡ folder_of self.old }
     {
         let cut = self.shorten(name, len);
@@ -250,6 +303,7 @@ impl<R: Files<File = File> + AllocGlobal + Clone + Drop> Disk for RealDisk<R> {
         ensures fault { OnErr result (Rose self.old.faults self.new.faults) }
         ensures quiet { OnOk result (self.new.faults ≡ self.old.faults) }
         ensures inside { OnOk result (IsInside name.now) }
+        ensures held { self.new.times_held ≡ self.old.times_held }
         ensures folder { folder_of self.new ≡ folder_of self.old }
     {
         let synced = self.sync_one(name);
@@ -261,6 +315,7 @@ impl<R: Files<File = File> + AllocGlobal + Clone + Drop> Disk for RealDisk<R> {
         ensures fault { OnErr result (Rose self.old.faults self.new.faults) }
         ensures quiet { OnOk result (self.new.faults ≡ self.old.faults) }
         ensures inside { OnOk result (IsInside from.now × IsInside to.now) }
+        ensures held { self.new.times_held ≡ self.old.times_held }
         ensures folder { folder_of self.new ≡ folder_of self.old }
     {
         let moved = self.move_one(from, to);
@@ -272,6 +327,7 @@ impl<R: Files<File = File> + AllocGlobal + Clone + Drop> Disk for RealDisk<R> {
         ensures fault { OnErr result (Rose self.old.faults self.new.faults) }
         ensures quiet { OnOk result (self.new.faults ≡ self.old.faults) }
         ensures inside { OnOk result (IsInside name.now) }
+        ensures held { self.new.times_held ≡ self.old.times_held }
         ensures folder { folder_of self.new ≡ folder_of self.old }
     {
         let removed = self.remove_one(name);
@@ -282,6 +338,7 @@ impl<R: Files<File = File> + AllocGlobal + Clone + Drop> Disk for RealDisk<R> {
         ensures count { self.old.faults ≤ self.new.faults }
         ensures fault { OnErr result (Rose self.old.faults self.new.faults) }
         ensures quiet { OnOk result (self.new.faults ≡ self.old.faults) }
+        ensures held { self.new.times_held ≡ self.old.times_held }
         ensures folder { folder_of self.new ≡ folder_of self.old }
     {
         let synced = self.sync_all();

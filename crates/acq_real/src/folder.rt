@@ -6,7 +6,7 @@ use crate::listing::Entry;
 use crate::path::PARTIAL;
 use acq_base::Text;
 use std::alloc::Global;
-use std::fs::{File, Metadata, OpenOptions};
+use std::fs::{File, Metadata, OpenOptions, TryLockError};
 use std::io::ErrorKind;
 use std::os::unix::fs::{FileExt, MetadataExt};
 use std::rt::Files;
@@ -164,6 +164,28 @@ pub fn remove(rt: &impl Files, path: &str) -> io::Result<()> {
     match find_plain(rt, path)? {
         Some(_) => fs::remove_file(rt, path),
         None => Ok(()),
+    }
+}
+
+/// Opens the file at a path to write, an absent one being made first.
+fn open_or_make(rt: &impl Files<File = File>, path: &str) -> io::Result<File> {
+    if let Some(made) = unless(ErrorKind::AlreadyExists, File::create_new(rt, path))? {
+        return Ok(made);
+    }
+    match find_plain(rt, path)? {
+        Some(found) => open_to_write(rt, path, &found),
+        None => Err(io::Error::from(ErrorKind::NotFound)),
+    }
+}
+
+/// Locks the file at a path, which is made where it is missing, and answers it, or `None` where another opening of it is
+/// locked. The lock lasts as long as the file stays open.
+pub fn lock(rt: &impl Files<File = File>, path: &str) -> io::Result<Option<File>> {
+    let file = open_or_make(rt, path)?;
+    match file.try_lock() {
+        Ok(()) => Ok(Some(file)),
+        Err(TryLockError::WouldBlock) => Ok(None),
+        Err(TryLockError::Error(error)) => Err(error),
     }
 }
 

@@ -1,6 +1,6 @@
 use crate::{RealClock, RealDisk, RealSink};
 use acq_base::{NoMemory, Row, Text};
-use acq_outside::{Clock, Disk, Fault, OutError, Sink, is_name, read_whole, write_whole};
+use acq_outside::{Clock, Disk, Fault, HoldError, OutError, Sink, is_name, read_whole, write_whole};
 use std::alloc::Global;
 use std::os::unix::fs::symlink;
 use std::test::Fail;
@@ -191,6 +191,21 @@ fn a_parent_that_is_made_later_serves_and_a_folder_that_is_gone_fails(
     assert_eq!(rt; disk.rename(LIST, OTHER), Err(Fault));
     assert_eq!(rt; disk.faults(), 6);
     fs::remove_dir_all(&rt, own.as_str())?;
+    Ok(())
+}
+
+#[test]
+fn a_folder_is_held_by_one_disk_as_long_as_it_lives(rt: HostRuntime) -> Result<(), Fail> {
+    let alloc = rt.alloc();
+    let folder = own_path(&rt, "hold")?;
+    let mut first = RealDisk::new(alloc, rt.clone()?, folder.as_str())?;
+    let mut second = RealDisk::new(alloc, rt.clone()?, folder.as_str())?;
+    assert_eq!(rt; (first.hold(), first.hold()), (Ok(()), Ok(())));
+    assert_eq!(rt; (second.hold(), second.faults()), (Err(HoldError::Held), 0));
+    assert_eq!(rt; second.names(alloc)?, names_of(alloc, &[b"lock"])?);
+    drop(first);
+    assert_eq!(rt; second.hold(), Ok(()));
+    fs::remove_dir_all(&rt, folder.as_str())?;
     Ok(())
 }
 

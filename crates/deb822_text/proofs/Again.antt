@@ -1,19 +1,16 @@
 -- Reading what was written gives the paragraphs again.
-use Rattle.std.proofs.Common.{◌≡◌, ℕ, ◌+◌, Bool, true, false, cond, not, List, [], ◌∷◌, ◌++◌, ◌&&◌, ◌||◌, map, is_some, Option, Some, None, Ok, refl, sym, ap, subst, ◌∙◌, append_assoc}
+use Rattle.std.proofs.Common.{◌≡◌, ℕ, ◌+◌, Bool, true, false, not, List, [], ◌∷◌, ◌++◌, ◌&&◌, map, is_some, None, Ok, refl, sym, ap, subst, ◌∙◌, append_assoc}
 use Rattle.std.specs.List.{list_all, flat_map}
 use Rattle.std.specs.Str.Lines.{lines as text_lines}
-use Rattle.std.specs.Str.{str_eq_ignore_ascii_case, str_to_ascii_lowercase}
-use Rattle.std.specs.Prelude.{bytes_eq}
-use Rattle.std.specs.Cmp.Lexicographic.{bytes_decides}
-use Rattle.std.proofs.lemmas.Bool.{and_parts, or_from, not-true, false≢true, false_from_ne_true}
+use Rattle.std.proofs.lemmas.Bool.{and_parts, not-true, false≢true}
 use Rattle.std.proofs.lemmas.List.{append-nil}
-use Rattle.std.proofs.lemmas.List.Folds.{list_any-append}
 use Rattle.deb822_text.specs.declared.paragraph.Field.{Field}
 use Rattle.deb822_text.specs.declared.paragraph.Paragraph.{Paragraph}
 use Rattle.deb822_text.specs.Control.{Line, Separator, Continuation, Named, is_empty, is_name, has_name, field_named, line_of, lines_from, lines_of, paragraphs_of}
 use Rattle.deb822_text.specs.Names.{names_of}
 use Rattle.deb822_text.specs.Scan.{State, start, fault_at, step, scan}
 use Rattle.deb822_text.specs.Written.{is_line_character, is_first_line, is_later_line, are_field_lines, is_writable_field, are_distinct, is_writable_paragraph, is_writable, first_line_text, later_line_text, lines_text, field_text, paragraph_text, next_paragraph_text, text_of, unplaced_field, unplaced, ReadsAs}
+use Rattle.deb822_text.proofs.Distinct.{AreFresh, fresh_none, fresh_push}
 use Rattle.deb822_text.proofs.Steps.{is_empty-push, add_line-push, names_of-push}
 use Rattle.deb822_text.proofs.Groups.{scan-start}
 use Rattle.deb822_text.proofs.Plain.{lines_plain, line_of-later, later_plain, line_of-name, behind_colon, first_text, trimmed-behind, header_plain}
@@ -76,31 +73,6 @@ field_read comments name (first ∷ later) paragraphs fields at rest fit fresh =
     (more.0, here ∙ more.1)
 
 -- ---- the fields of a paragraph
-
--- none of the fields has one of the names
-abbrev AreFresh : List (List ℕ) → List Field → Type 0
-AreFresh names [] = Unit {0}
-AreFresh names (field ∷ fields) = (has_name names field.name ≡ false) × AreFresh names fields
-
-fresh_none : (fields : List Field) → AreFresh [] fields
-fresh_none [] = tt
-fresh_none (field ∷ fields) = (refl, fresh_none fields)
-
-other_way : (a b : List ℕ) → bytes_eq a b ≡ false → bytes_eq b a ≡ false
-other_way a b e = false_from_ne_true (bytes_eq b a) (λ same. false≢true (sym e ∙ (bytes_decides a b).1 (sym ((bytes_decides b a).0 same))))
-
-unfound : (b : Bool) (field : Field) (found : Option Field) → is_some (cond b (Some field) found) ≡ false → (b ≡ false) × (is_some found ≡ false)
-unfound true field found e = absurd cc
-unfound false field found e = (refl, e)
-
-fresh_push : (names : List (List ℕ)) (name : List ℕ) (fields : List Field) → AreFresh names fields → is_some (field_named fields name) ≡ false → AreFresh (names ++ name ∷ []) fields
-fresh_push names name [] fresh none = tt
-fresh_push names name (field ∷ fields) fresh none =
-    let parts = unfound (str_eq_ignore_ascii_case field.name name) field (field_named fields name) none in
-    let apart : str_eq_ignore_ascii_case name field.name ≡ false = other_way (str_to_ascii_lowercase field.name) (str_to_ascii_lowercase name) parts.0 in (
-      list_any-append (λ other. str_eq_ignore_ascii_case other field.name) names (name ∷ []) ∙ or_from (has_name names field.name) (str_eq_ignore_ascii_case name field.name || false) fresh.0 (or_from (str_eq_ignore_ascii_case name field.name) false apart refl),
-      fresh_push names name fields fresh.1 parts.1,
-    )
 
 fields_read : (comments : Bool) (fields : List Field) (paragraphs : List Paragraph) (before : List Field) (at : ℕ) (rest : List ℕ) → list_all is_writable_field fields ≡ true → are_distinct fields ≡ true → AreFresh (names_of before) fields
     → (next : ℕ) × (again : List Field) × (map unplaced_field again ≡ map unplaced_field fields)

@@ -8,4 +8,5 @@ pub mod Scans
 pub mod Groups
 pub mod Faults
 pub mod Plain
+pub mod Distinct
 pub mod Again

@@ -1,10 +1,10 @@
 -- The names of a paragraph's fields, no two of which may be one (Debian Policy, section 5.1).
-use Rattle.std.specs.Prelude.{◌≡◌, ◌⊎◌, ℕ, ◌+◌, ◌*◌, ◌%◌, ◌^◌, ◌==◌, nat_le, nat_lt, nat_eq, ◌&&◌, Bool, if◌then◌else◌, List, [], ◌∷◌, ◌++◌, map, Option, Some, None, Result, Ok, Err}
+use Rattle.std.specs.Prelude.{◌≡◌, ◌⊎◌, ℕ, ◌+◌, ◌*◌, ◌%◌, ◌^◌, ◌==◌, nat_le, nat_lt, ◌&&◌, Bool, if◌then◌else◌, List, [], ◌∷◌, ◌++◌, map, Option, Some, None, Result, Ok, Err}
 use Rattle.std.specs.List.{fold}
 use Rattle.std.specs.Ordering.{nat_cmp, ordering_then}
 use Rattle.std.specs.declared.cmp.Ordering.{Ordering}
-use Rattle.std.specs.Cmp.Lexicographic.{slice_cmp, pointwise}
-use Rattle.std.specs.Str.{str_to_ascii_lowercase}
+use Rattle.std.specs.Cmp.Lexicographic.{slice_cmp}
+use Rattle.std.specs.Str.{bytes_eq, str_to_ascii_lowercase}
 use Rattle.deb822_text.specs.declared.paragraph.Field.{Field}
 use Rattle.deb822_text.specs.declared.repeated.Key.{Key}
 use Rattle.deb822_text.specs.declared.error.TextError.{TextError}
@@ -18,6 +18,7 @@ names_of fields = map (λ field. field.name) fields
 abbrev pub name_fault : List (List ℕ) → Field → Option TextError
 name_fault names field = if has_name names field.name then Some (Twice field.at) else None
 
+-- the first field whose name one of these, or an earlier field, has
 abbrev pub repeated_behind : List (List ℕ) → List Field → Option TextError
 repeated_behind names [] = None
 repeated_behind names (field ∷ fields) = or_else (name_fault names field) (repeated_behind (names ++ field.name ∷ []) fields)
@@ -57,7 +58,7 @@ key_cmp a b = ordering_then (nat_cmp a.digest b.digest) (ordering_then (slice_cm
 
 -- the next key is of a later field of the same name
 abbrev pub is_repeated : Key → Key → Bool
-is_repeated key next = key.digest == next.digest && (pointwise nat_eq key.name next.name && nat_lt key.place next.place)
+is_repeated key next = key.digest == next.digest && (bytes_eq key.name next.name && nat_lt key.place next.place)
 
 abbrev pub lesser : Option ℕ → Option ℕ → Option ℕ
 lesser None other = other

@@ -53,8 +53,9 @@ scan state (line ∷ lines) = unless (fault_at state.fields line) (scan (step st
 abbrev pub state_of : Reading → State
 state_of reading = record { paragraphs = reading.paragraphs; fields = reading.fields.items }
 
--- The names of an open paragraph are compared where it ends, or where a line is refused, so up to there a name that
--- an earlier field has is a fault still owed: it comes before that of any line behind it.
+-- The names of an open paragraph are compared where it ends, where a line is refused, and early where a field comes behind
+-- 4, 32, 256 fields and so on. Up to there a name that an earlier field has is a fault still owed: it comes before that of any
+-- line behind it.
 abbrev pub owed : State → Line → Option TextError
 owed state line = or_else (repeated state.fields) (fault_at state.fields line)
 

@@ -1,3 +1,4 @@
+//! A text cut at its first line or byte. It touches nothing and takes no memory.
 ghost use Rattle.std.specs.Prelude.{◌≡◌, ◌==◌, ◌<◌, ◌≤◌, ◌∷◌, length};
 ghost use Rattle.std.specs.List.{position_or_len};
 ghost use Rattle.std.specs.Str.Lines.{lines as text_lines, strip_carriage_return};

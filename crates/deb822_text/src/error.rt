@@ -1,3 +1,4 @@
+//! Why a control text is refused. It touches nothing and takes no memory.
 use acq_base::{NoMemory as OutOfMemory, Refusal};
 use std::error::Error;
 use std::fmt;

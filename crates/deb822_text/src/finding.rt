@@ -1,3 +1,4 @@
+//! Fields looked up by name. It touches nothing and takes no memory.
 ghost use Rattle.std.specs.Prelude.{◌≡◌, option_copied, is_some};
 ghost use Rattle.deb822_text.specs.Control.{field_named};
 

@@ -1,4 +1,5 @@
-ghost use Rattle.std.specs.Prelude.{◌≡◌, is_some};
+//! What can be written. It touches nothing; `can_write` alone may take memory.
+ghost use Rattle.std.specs.Prelude.{◌≡◌, ◌≢◌, false, is_some, IfOk};
 ghost use Rattle.deb822_text.specs.Written.{is_writable, is_writable_paragraph, is_writable_field, is_first_line, is_later_line, are_field_lines, are_distinct, is_line_character, ends_with};
 ghost use Rattle.std.specs.List.{list_all};
 ghost use Rattle.acq_base.specs.Words.{is_blank};
@@ -6,15 +7,17 @@ ghost use Rattle.deb822_text.specs.Control.{begins_with, field_named};
 
 use crate::finding::names_field;
 use crate::line::{all_blank, sound_name};
-use crate::{Field, Paragraph};
-use acq_base::{Row, Text, is_blank};
+use crate::repeated::check_names;
+use crate::{Field, Paragraph, TextError};
+use acq_base::{NoMemory, Row, Text, is_blank};
+use std::alloc::Global;
 
 /// Whether `write` can write these paragraphs, so that reading gives them again.
 ///
 /// Each paragraph has a field. A name is one or more printable ASCII characters, not the colon, `#` and `-` not first,
 /// and no two of a paragraph's are one, ASCII case aside. Each field has a line, and no line holds a line feed or a
 /// carriage return. A first line has no blank at an end; a later one has none at its end, and isn't of blanks alone.
-/// It takes no memory, so its time grows with the square of a paragraph's number of fields.
+/// It takes no memory, so its time grows with the square of a paragraph's number of fields; that of `can_write` doesn't.
 #[tactic(auto, unfolding(crate::specs::Written::is_writable))]
 pub fn writable(paragraphs: &Row<Paragraph>) -> bool
     ensures { result ≡ is_writable paragraphs.now }
@@ -23,6 +26,51 @@ pub fn writable(paragraphs: &Row<Paragraph>) -> bool
         .as_slice()
         .iter()
         .all(|paragraph| writable_paragraph(paragraph))
+}
+
+/// As `writable`, with memory: where a paragraph has many fields their names are sorted, so that n of them take n log n
+/// time. Its only error is `NoMemory`.
+#[tactic(auto, unfolding(crate::specs::Written::is_writable))]
+pub fn can_write(alloc: Global, paragraphs: &Row<Paragraph>) -> Result<bool, NoMemory>
+    ensures { IfOk result (λ can. can ≡ is_writable paragraphs.now) }
+{
+    for paragraph in paragraphs.as_slice() {
+        if !can_write_paragraph(alloc, paragraph)? {
+            return Ok(false);
+        }
+    }
+    Ok(true)
+}
+
+#[tactic(auto, using(crate::proofs::Lookups::emptiness))]
+fn can_write_paragraph(alloc: Global, paragraph: &Paragraph) -> Result<bool, NoMemory>
+    ensures { IfOk result (λ can. can ≡ is_writable_paragraph paragraph.now) }
+{
+    let fields = paragraph.fields.as_slice();
+    if fields.is_empty() || !writable_fields(fields) {
+        return Ok(false);
+    }
+    are_different(alloc, fields)
+}
+
+/// Whether no two of the fields have one name, by their names in order.
+fn are_different(alloc: Global, fields: &[Field]) -> Result<bool, NoMemory>
+    ensures { IfOk result (λ different. different ≡ are_distinct fields.now) }
+{
+    match check_names(alloc, fields) {
+        Ok(()) => Ok(true),
+        Err(fault) => not_different(fault),
+    }
+}
+
+/// That names are not all different, by the refusal of one; or that memory ran out before it was known.
+fn not_different(fault: TextError) -> Result<bool, NoMemory>
+    ensures { IfOk result (λ different. (different ≡ false) × (fault ≢ TextError.NoMemory)) }
+{
+    match fault {
+        TextError::NoMemory => Err(NoMemory),
+        _ => Ok(false),
+    }
 }
 
 #[tactic(auto, using(crate::proofs::Lookups::emptiness))]

@@ -5,7 +5,7 @@
 
 pub use error::TextError;
 pub use finding::find;
-pub use judging::writable;
+pub use judging::{can_write, writable};
 pub use paragraph::{Field, Paragraph};
 pub use reading::read;
 pub use writing::write;

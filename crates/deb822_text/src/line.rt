@@ -1,3 +1,4 @@
+//! What a line is by itself. It touches nothing and takes no memory.
 ghost use Rattle.std.specs.Prelude.{◌≡◌};
 ghost use Rattle.std.specs.List.{list_all};
 ghost use Rattle.acq_base.specs.Words.{is_blank};

@@ -1,3 +1,4 @@
+//! Names compared, and their digests. It touches nothing and takes no memory.
 ghost use Rattle.std.specs.Prelude.{◌≡◌};
 ghost use Rattle.std.specs.Ordering.{nat_cmp};
 ghost use Rattle.std.specs.Cmp.Lexicographic.{slice_cmp};
@@ -32,12 +33,11 @@ impl<'a> Name<'a> {
 }
 
 impl<'a> PartialEq for Name<'a> {
-    ghost use Rattle.std.specs.Prelude.{nat_eq};
-    ghost use Rattle.std.specs.Cmp.Lexicographic.{pointwise};
+    ghost use Rattle.std.specs.Str.{bytes_eq};
     ghost use Rattle.std.specs.Cmp.Rules.{comparing};
     ghost use Rattle.std.proofs.Common.{rules};
 
-    ghost eq = { λ a b. pointwise nat_eq a b };
+    ghost eq = { bytes_eq };
 
     ghost laws = { Prim.search (comparing, rules) };
 

@@ -1,3 +1,4 @@
+//! Paragraphs and their fields. Copies take memory.
 use acq_base::{NoMemory, Row, Text, TryCopy};
 use std::alloc::Global;
 

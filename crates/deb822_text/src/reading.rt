@@ -1,3 +1,4 @@
+//! Control text read line by line. It may take memory, and touches nothing else.
 ghost use Rattle.std.specs.Prelude.{◌≡◌, ◌⊎◌, ◌++◌, ◌∷◌, [], Some, Err, OnOk, IfOk, IfErr};
 ghost use Rattle.deb822_text.specs.Control.{paragraphs_of, lines_of, or_else, Separator, Continuation, Named};
 ghost use Rattle.deb822_text.specs.Scan.{scan, start, state_of, Takes};

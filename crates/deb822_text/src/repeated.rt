@@ -1,3 +1,4 @@
+//! The first field of a name that an earlier one has. It may take memory, and touches nothing else.
 ghost use Rattle.std.specs.Prelude.{◌≡◌, ◌<◌, ◌+◌, ◌∷◌, IfOk, length, drop, slice_index_or};
 ghost use Rattle.std.specs.List.Sorted.{IsPermutation, IsSorted};
 ghost use Rattle.deb822_text.specs.declared.error.TextError.TheVariants.{Twice};

@@ -1,5 +1,5 @@
 use super::*;
-use acq_base::{NoMemory, Refusal, Row, Text};
+use acq_base::{Bytes, NoMemory, Refusal, Row, Text};
 use std::test::*;
 
 /// The refusal that a text has with comments off and on, as its number and line, or the number of its paragraphs.
@@ -230,19 +230,74 @@ fn field(rt: &HostRuntime, name: &[u8], lines: &[&[u8]]) -> Result<Field, NoMemo
     })
 }
 
-fn judged(rt: &HostRuntime, parts: &[(&[u8], &[&[u8]])]) -> Result<bool, NoMemory> {
+/// What `writable` and `can_write` say of a paragraph.
+fn judged(rt: &HostRuntime, parts: &[(&[u8], &[&[u8]])]) -> Result<(bool, bool), NoMemory> {
     let mut fields = Row::new(rt.alloc());
     for (name, lines) in parts {
         fields.push(field(rt, name, lines)?)?;
     }
     let mut paragraphs = Row::new(rt.alloc());
     paragraphs.push(Paragraph { fields })?;
-    Ok(writable(&paragraphs))
+    let with_memory = can_write(rt.alloc(), &paragraphs)?;
+    Ok((writable(&paragraphs), with_memory))
 }
 
 #[test]
 fn what_can_be_written(rt: HostRuntime) {
     for (parts, wanted) in JUDGED {
-        assert_eq!(rt; judged(&rt, parts).ok(), Some(wanted));
+        assert_eq!(rt; judged(&rt, parts).ok(), Some((wanted, wanted)));
     }
+}
+
+/// Five thousand fields of one paragraph, five thousand paragraphs, and one field of five thousand lines.
+fn long_texts(rt: &HostRuntime) -> Result<[Text; 3], NoMemory> {
+    let mut fields = Text::new(rt.alloc());
+    let mut paragraphs = Text::from_bytes(rt.alloc(), b"A: 0\n")?;
+    let mut lines = Text::from_bytes(rt.alloc(), b"A: 0\n")?;
+    for thousands in b"01234" {
+        for hundreds in b"0123456789" {
+            for tens in b"0123456789" {
+                for ones in b"0123456789" {
+                    let number = [*thousands, *hundreds, *tens, *ones];
+                    fields.append(b"F")?;
+                    fields.append(&number)?;
+                    fields.append(b": one of many values\n")?;
+                    paragraphs.append(b"\nA: one of many paragraphs\n")?;
+                    lines.append(b" one of many further lines\n")?;
+                }
+            }
+        }
+    }
+    Ok([fields, paragraphs, lines])
+}
+
+/// How many paragraphs there are, how many fields the first has, and how many lines its first one.
+fn counts(paragraphs: &Row<Paragraph>) -> Option<(usize, usize, usize)> {
+    let fields = &paragraphs.as_slice().first()?.fields;
+    let lines = &fields.as_slice().first()?.lines;
+    Some((paragraphs.len(), fields.len(), lines.len()))
+}
+
+/// The paragraphs written, where they can be.
+fn written(rt: &HostRuntime, paragraphs: &Row<Paragraph>) -> Option<Bytes> {
+    match can_write(rt.alloc(), paragraphs) {
+        Ok(true) => write(rt.alloc(), paragraphs).ok(),
+        _ => None,
+    }
+}
+
+#[test]
+fn long_texts_are_read_and_written(rt: HostRuntime) -> Result<(), Fail> {
+    let texts = long_texts(&rt).ok().ok_or("memory is there")?;
+    let wanted = [(1, 5000, 1), (5001, 1, 1), (1, 1, 5001)];
+    for (text, wanted) in texts.iter().zip(wanted) {
+        let paragraphs = read(rt.alloc(), text.as_bytes(), true)
+            .ok()
+            .ok_or("it is control text")?;
+        let again = written(&rt, &paragraphs).ok_or("it can be written")?;
+        assert!(rt; text.len() > 100_000);
+        assert_eq!(rt; counts(&paragraphs), Some(wanted));
+        assert!(rt; again.as_slice() == text.as_bytes());
+    }
+    Ok(())
 }

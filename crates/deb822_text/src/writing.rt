@@ -1,3 +1,4 @@
+//! Paragraphs written. It may take memory, and touches nothing else.
 ghost use Rattle.std.specs.Prelude.{◌≡◌, ◌++◌, IfOk, OnOk, IsTrue};
 ghost use Rattle.std.specs.List.{flat_map};
 ghost use Rattle.deb822_text.specs.Written.{is_writable, text_of, ReadsAs, first_line_text, later_line_text, lines_text, field_text, paragraph_text, next_paragraph_text};

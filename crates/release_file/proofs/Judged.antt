@@ -59,5 +59,12 @@ admissible_of release installed dates now =
     let all = both_pass (judged_end (end_of_validity release dates) now) _ _ _ first rest in
     ((λ h. let a = all.0 h in (a.0, a.1.0, a.1.1)), (λ h. all.1 (h.0, (h.1, h.2))))
 
+pub judged_ok : (release : Release) (installed : Option ℤ) (dates : Dates) (now : ℤ) → (judged release installed dates now ≡ Ok tt) ↔ IsAdmissible release installed dates now
+judged_ok release installed dates now = by (judged release installed dates now) (admissible_of release installed dates now)
+  where
+    by : (result : Result (Unit {0}) DateError) → IsOk result ↔ IsAdmissible release installed dates now → (result ≡ Ok tt) ↔ IsAdmissible release installed dates now
+    by (Ok tt) h = ((λ e. h.0 refl), (λ fine. refl))
+    by (Err refusal) h = ((λ e. absurd (cc)), (λ fine. let ok = h.1 fine in absurd (cc)))
+
 pub admissible : (release : Release) (installed : Option ℤ) (dates : Dates) (now : ℤ) (result : Result (Unit {0}) DateError) → result ≡ judged release installed dates now → IsOk result ↔ IsAdmissible release installed dates now
 admissible release installed dates now result e = subst (λ r. IsOk r ↔ IsAdmissible release installed dates now) (sym e) (admissible_of release installed dates now)

@@ -3,6 +3,9 @@ pub mod Parts
 pub mod Days
 pub mod Judged
 pub mod Joined
+pub mod Places
 pub mod SumLines
 pub mod Listings
+pub mod SumFaults
+pub mod Changes
 pub mod LastPart

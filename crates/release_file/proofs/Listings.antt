@@ -1,17 +1,15 @@
 -- A Release that is read lists a path with a sum exactly where a sum line says so, and no path twice.
-use Rattle.std.proofs.Common.{◌≡◌, ◌≢◌, ◌∙◌, ◌⊎◌, ◌↔◌, ◌==◌, ℕ, true, false, not, List, [], ◌∷◌, ◌++◌, codes, drop, filter, Option, Some, None, Result, Ok, Err, IfOk, refl, sym, ap, subst, inl, inr, arith, append_assoc, ⊎_elim, length}
-use Rattle.std.specs.Prelude.{option_to_list, if◌then◌else◌, Contains, AllPairs}
-use Rattle.std.specs.List.{filter_map, cons_option}
-use Rattle.std.proofs.lemmas.Bool.{cases_Bool, and_parts, false≢true}
+use Rattle.std.proofs.Common.{◌≡◌, ◌≢◌, ◌∙◌, ◌⊎◌, ◌↔◌, ◌==◌, ℕ, zero, suc, ◌+◌, ◌<◌, ◌≤◌, true, false, not, List, [], ◌∷◌, ◌++◌, codes, drop, get_or, filter, Option, Some, None, Result, Ok, Err, IfOk, refl, sym, ap, subst, inl, inr, arith, ⊎_elim, length}
+use Rattle.std.specs.Prelude.{bytes_eq, option_to_list, if◌then◌else◌, Contains, AllPairs}
+use Rattle.std.proofs.lemmas.Bool.{cases_Bool, and_parts, false≢true, not-false}
 use Rattle.std.proofs.lemmas.Bool.Decides.{nat_tests}
-use Rattle.std.proofs.lemmas.List.{append-nil}
+use Rattle.std.proofs.lemmas.List.{take_all}
 use Rattle.std.proofs.lemmas.List.Elements.{Contains-append_left, Contains-append_right, Contains-push, Contains-push_cases, filter_passes}
 use Rattle.std.proofs.lemmas.List.Kept.{AllPairs-cons, AllPairs-filter}
 use Rattle.acq_base.specs.declared.sum.Sum.{Sum}
-use Rattle.release_file.specs.DateText.{same_text}
 use Rattle.release_file.specs.Entries.{sum_beside}
-use Rattle.release_file.specs.Release.{listed_of_line, same_sum, sum_in, agrees, may_follow, line_below, first_bad, firsts, refused_at, files_of_lines, files_of_field, files_of, ◌>>=◌, date_of, until_of, release_of_fields, release_of_paragraphs, release_of_text, release_of, listed_sum}
-use Rattle.release_file.specs.Listing.{later_lines, sum_lines_of, sum_lines, entries_of}
+use Rattle.release_file.specs.Release.{listed_of_line, entries_in, same_sum, sum_in, agrees, may_follow, first_bad, firsts, refused_at, files_of_lines, files_of_field, files_of, ◌>>=◌, date_of, until_of, release_of_fields, release_of_paragraphs, release_of_text, release_in, text_within, release_of, listed_sum}
+use Rattle.release_file.specs.Listing.{later_lines, sums_of_paragraphs, sums_of_text, sums_field, entries_of}
 use Rattle.deb822_text.specs.Control.{paragraphs_of, field_named}
 use Rattle.deb822_text.specs.declared.error.TextError.{TextError}
 use Rattle.deb822_text.specs.declared.paragraph.Field.{Field}
@@ -20,34 +18,37 @@ use Rattle.release_file.specs.declared.error.ReleaseError.TheVariants.{BadSums, 
 use Rattle.release_file.specs.declared.release.Release.{Release}
 use Rattle.release_file.specs.declared.error.ReleaseError.{ReleaseError}
 use Rattle.release_file.specs.declared.release.Listed.{Listed}
-use Rattle.release_file.proofs.SumLines.{same_text-true, same_text-refl, keeps, sum_in-push}
+use Rattle.release_file.proofs.SumLines.{bytes_eq-true, bytes_eq-refl, keeps, sum_in-push, entries_above, entries_above-more, AreFine, none_bad}
 
 -- ---- sums by path
 
-same_sum-true : (a b : Sum) → same_sum a b ≡ true → a ≡ b
+pub same_sum-true : (a b : Sum) → same_sum a b ≡ true → a ≡ b
 same_sum-true a b h =
-    let parts = and_parts (a.size == b.size) (same_text a.sha.0 b.sha.0) h in
+    let parts = and_parts (a.size == b.size) (bytes_eq a.sha.0 b.sha.0) h in
     let size : a.size ≡ b.size = grind (arith, nat_tests) in
-    let sha = same_text-true a.sha.0 b.sha.0 parts.1 in
+    let sha = bytes_eq-true a.sha.0 b.sha.0 parts.1 in
     ap (λ n. record { size = n; sha = a.sha }) size ∙ ap (λ bytes. record { size = b.size; sha = record { 0 = bytes } }) sha
 
+pub same_sum-refl : (a : Sum) → same_sum a a ≡ true
+same_sum-refl a = rw (bytes_eq-refl a.sha.0) (grind (arith, nat_tests))
+
 -- a filter by another path keeps the sum of this one
-sum_in-filter : (first : Listed) (path : List ℕ) (files : List Listed) → same_text first.path path ≡ false → sum_in (filter (keeps first) files) path ≡ sum_in files path
+sum_in-filter : (first : Listed) (path : List ℕ) (files : List Listed) → bytes_eq first.path path ≡ false → sum_in (filter (keeps first) files) path ≡ sum_in files path
 sum_in-filter first path [] other = refl
 sum_in-filter first path (file ∷ files) other =
-    elim (cases_Bool (same_text first.path file.path)) [
+    elim (cases_Bool (bytes_eq first.path file.path)) [
       | inl is ↦
-          let same = same_text-true first.path file.path is in
-          let skipped : same_text file.path path ≡ false = ap (λ p. same_text p path) (sym same) ∙ other in
+          let same = bytes_eq-true first.path file.path is in
+          let skipped : bytes_eq file.path path ≡ false = ap (λ p. bytes_eq p path) (sym same) ∙ other in
           rw (is, skipped) (sum_in-filter first path files other)
-      | inr isnt ↦ rw isnt (ap (λ o. if same_text file.path path then Some file.sum else o) (sum_in-filter first path files other))
+      | inr isnt ↦ rw isnt (ap (λ o. if bytes_eq file.path path then Some file.sum else o) (sum_in-filter first path files other))
     ]
 
 -- leaving out repeated paths keeps the sum of each
 sum_in-firsts : (entries : List Listed) (path : List ℕ) → sum_in (firsts entries) path ≡ sum_in entries path
 sum_in-firsts [] path = refl
 sum_in-firsts (entry ∷ entries) path =
-    elim (cases_Bool (same_text entry.path path)) [
+    elim (cases_Bool (bytes_eq entry.path path)) [
       | inl is ↦ rw is refl
       | inr isnt ↦
           let kept = sum_in-filter entry path (firsts entries) isnt in
@@ -55,12 +56,12 @@ sum_in-firsts (entry ∷ entries) path =
     ]
 
 -- a path's sum is that of an entry
-sum_in-Contains : (entries : List Listed) (path : List ℕ) (sum : Sum) → sum_in entries path ≡ Some sum → Contains entries (record { path = path; sum = sum })
+pub sum_in-Contains : (entries : List Listed) (path : List ℕ) (sum : Sum) → sum_in entries path ≡ Some sum → Contains entries (record { path = path; sum = sum })
 sum_in-Contains [] path sum h = absurd (cc)
 sum_in-Contains (entry ∷ entries) path sum h =
-    elim (cases_Bool (same_text entry.path path)) [
+    elim (cases_Bool (bytes_eq entry.path path)) [
       | inl is ↦
-          let same : entry.path ≡ path = same_text-true entry.path path is in
+          let same : entry.path ≡ path = bytes_eq-true entry.path path is in
           let found : Some entry.sum ≡ Some sum = rw is at h in
           let sum_is : entry.sum ≡ sum = cc in
           subst (λ e. Contains (entry ∷ entries) e) (ap (λ p. record { path = p; sum = entry.sum }) same ∙ ap (λ s. record { path = path; sum = s }) sum_is) (Contains-append_left (entry ∷ []) entries entry (Contains-push [] entry))
@@ -75,7 +76,7 @@ pub record IsConsistent (entries : List Listed) : Type 0 where
   pub one : (path : List ℕ) (sum : Sum) → Contains entries (record { path = path; sum = sum }) → sum_in entries path ≡ Some sum
 
 agreed : (old : Option Sum) (entry : Listed) → agrees old entry.sum ≡ true → sum_beside old entry entry.path ≡ Some entry.sum
-agreed None entry h = rw same_text-refl refl
+agreed None entry h = rw bytes_eq-refl refl
 agreed (Some sum) entry h = ap (λ s. Some s) (same_sum-true sum entry.sum h)
 
 consistent-push : (above : List Listed) (entry : Listed) → IsConsistent above → agrees (sum_in above entry.path) entry.sum ≡ true → IsConsistent (above ++ entry ∷ [])
@@ -88,34 +89,33 @@ consistent-push above entry h agree = record {
       (Contains-push_cases above entry (record { path = path; sum = sum }) among);
 }
 
--- a line that may stand there
-follows : (above : List Listed) (at : ℕ) (lines : List (List ℕ)) (read : Option Listed) → IsConsistent above → (if may_follow above read then first_bad (above ++ option_to_list read) (line_below at) lines else Some at) ≡ None → IsConsistent (above ++ option_to_list read) × (first_bad (above ++ option_to_list read) (line_below at) lines ≡ None)
-follows above at lines None h none = absurd (cc)
-follows above at lines (Some entry) h none =
-    elim (cases_Bool (agrees (sum_in above entry.path) entry.sum)) [
-      | inl is ↦ (consistent-push above entry h is, rw is at none)
-      | inr isnt ↦ let bad : Some at ≡ None = rw isnt at none in absurd (cc)
-    ]
-
-append-read : (above entries : List Listed) (read : Option Listed) → (above ++ option_to_list read) ++ entries ≡ above ++ cons_option read entries
-append-read above entries None = ap (λ t. t ++ entries) (append-nil above)
-append-read above entries (Some entry) = append_assoc above (entry ∷ []) entries
-
--- so it is of lines that may all stand
-consistent-lines : (above : List Listed) (at : ℕ) (lines : List (List ℕ)) → IsConsistent above → first_bad above at lines ≡ None → IsConsistent (above ++ filter_map listed_of_line lines)
-consistent-lines above at [] h none = subst IsConsistent (sym (append-nil above)) h
-consistent-lines above at (line ∷ lines) h none =
-    let next = follows above at lines (listed_of_line line) h none in
-    subst IsConsistent (append-read above (filter_map listed_of_line lines) (listed_of_line line)) (consistent-lines (above ++ option_to_list (listed_of_line line)) (line_below at) lines next.0 next.1)
+-- a line that may stand below entries
+follows : (above : List Listed) (read : Option Listed) → IsConsistent above → may_follow above read ≡ true → IsConsistent (above ++ option_to_list read)
+follows above None h may = absurd (false≢true may)
+follows above (Some entry) h may = consistent-push above entry h may
 
 consistent-nil : IsConsistent []
 consistent-nil = record { one = λ path sum among. absurd (omega (arith, among.1)) }
 
+-- so it is of lines none of which is bad
+pub consistent-above : (lines : List (List ℕ)) (count : ℕ) → count ≤ length lines → AreFine lines count → IsConsistent (entries_above lines count)
+consistent-above lines zero within fine = consistent-nil
+consistent-above lines (suc count) within fine =
+    let less : count < length lines = omega (arith, within) in
+    let may : may_follow (entries_above lines count) (listed_of_line (get_or lines count [])) ≡ true = not-false _ (fine count (omega arith)) in
+    let before = consistent-above lines count (omega (arith, within)) (λ place below. fine place (omega (arith, below))) in
+    let more = follows (entries_above lines count) (listed_of_line (get_or lines count [])) before may in
+    let next : count + 1 ≡ suc count = omega arith in
+    subst IsConsistent (sym (entries_above-more lines count [] less) ∙ ap (entries_above lines) next) more
+
+pub consistent : (lines : List (List ℕ)) → first_bad lines ≡ None → IsConsistent (entries_in lines)
+consistent lines none = subst (λ ls. IsConsistent (entries_in ls)) (take_all (length lines) lines (omega arith)) (consistent-above lines (length lines) (omega arith) (none_bad lines none))
+
 -- ---- no path stands twice
 
-apart : (a b : List ℕ) → not (same_text a b) ≡ true → a ≢ b
+apart : (a b : List ℕ) → not (bytes_eq a b) ≡ true → a ≢ b
 apart a b h e =
-    let same : same_text a b ≡ true = subst (λ t. same_text a t ≡ true) e (same_text-refl a) in
+    let same : bytes_eq a b ≡ true = subst (λ t. bytes_eq a t ≡ true) e (bytes_eq-refl a) in
     false≢true (rw same at h)
 
 distinct-firsts : (entries : List Listed) → AllPairs (λ a b. a.path ≢ b.path) (firsts entries)
@@ -126,33 +126,33 @@ distinct-firsts (entry ∷ entries) =
 -- ---- what a Release that is read lists
 
 pub record IsListing (lines : List (List ℕ)) (files : List Listed) : Type 0 where
-  pub given : (path : List ℕ) (sum : Sum) → (sum_in files path ≡ Some sum) ↔ Contains (filter_map listed_of_line lines) (record { path = path; sum = sum })
+  pub given : (path : List ℕ) (sum : Sum) → (sum_in files path ≡ Some sum) ↔ Contains (entries_in lines) (record { path = path; sum = sum })
   pub distinct : AllPairs (λ a b. a.path ≢ b.path) files
 
-listing : (lines : List (List ℕ)) (at : ℕ) → first_bad [] at lines ≡ None → IsListing lines (firsts (filter_map listed_of_line lines))
-listing lines at none =
-    let entries = filter_map listed_of_line lines in
-    let consistent = consistent-lines [] at lines consistent-nil none in
+listing : (lines : List (List ℕ)) → first_bad lines ≡ None → IsListing lines (firsts (entries_in lines))
+listing lines none =
+    let entries = entries_in lines in
+    let one = (consistent lines none).one in
     record {
       given = λ path sum.
-          ((λ found. sum_in-Contains entries path sum (sym (sum_in-firsts entries path) ∙ found)), (λ among. sum_in-firsts entries path ∙ consistent.one path sum among));
+          ((λ found. sum_in-Contains entries path sum (sym (sum_in-firsts entries path) ∙ found)), (λ among. sum_in-firsts entries path ∙ one path sum among));
       distinct = distinct-firsts entries;
     }
 
 listing-lines : (at : ℕ) (lines : List (List ℕ)) (files : List Listed) → files_of_lines at lines ≡ Ok files → IsListing lines files
 unfolding files_of_lines
-listing-lines at lines files e = by (first_bad [] at lines) refl e
+listing-lines at lines files e = by (first_bad lines) refl e
   where
-    by : (bad : Option ℕ) → first_bad [] at lines ≡ bad → refused_at bad (firsts (filter_map listed_of_line lines)) ≡ Ok files → IsListing lines files
-    by None none same = let files_are : firsts (filter_map listed_of_line lines) ≡ files = cc in subst (IsListing lines) files_are (listing lines at none)
-    by (Some line) some same = absurd (cc)
+    by : (bad : Option ℕ) → first_bad lines ≡ bad → refused_at at bad (firsts (entries_in lines)) ≡ Ok files → IsListing lines files
+    by None none same = let files_are : firsts (entries_in lines) ≡ files = cc in subst (IsListing lines) files_are (listing lines none)
+    by (Some place) some bad = absurd (cc)
 
 listing-field : (lines : List (List ℕ)) (at : ℕ) (files : List Listed) → files_of_field lines at ≡ Ok files → IsListing (drop 1 lines) files
 unfolding files_of_field
 listing-field [] at files e = absurd (cc)
 listing-field (first ∷ lines) at files e =
     elim (cases_Bool (length first == 0)) [
-      | inl is ↦ listing-lines (line_below at) lines files (rw is at e)
+      | inl is ↦ listing-lines (at + 1) lines files (rw is at e)
       | inr isnt ↦ let bad : Err (BadSums at) ≡ Ok files = rw isnt at e in absurd (cc)
     ]
 
@@ -172,26 +172,34 @@ listing-fields fields =
     bind-IfOk (until_of (field_named fields (codes "Valid-Until"))) _ _ (λ until _.
     bind-IfOk (files_of (field_named fields (codes "SHA256"))) _ _ (λ files e. listing-files (field_named fields (codes "SHA256")) files e)))
 
-listing-text : (text : Result (List Paragraph) TextError) → IfOk (release_of_text text) (λ release. IsListing (sum_lines_of text) release.files)
+listing-paragraphs : (paragraphs : Result (List Paragraph) TextError) → IfOk (release_of_text paragraphs) (λ release. IsListing (later_lines (sums_of_paragraphs paragraphs)) release.files)
 unfolding release_of_paragraphs
-listing-text (Err e) = tt
-listing-text (Ok []) = tt
-listing-text (Ok (paragraph ∷ [])) = listing-fields paragraph.fields
-listing-text (Ok (paragraph ∷ next ∷ more)) = tt
+listing-paragraphs (Err e) = tt
+listing-paragraphs (Ok []) = tt
+listing-paragraphs (Ok (paragraph ∷ [])) = listing-fields paragraph.fields
+listing-paragraphs (Ok (paragraph ∷ next ∷ more)) = tt
 
-listing-bytes : (bytes : List ℕ) → IfOk (release_of bytes) (λ release. IsListing (sum_lines bytes) release.files)
-unfolding release_of sum_lines
-listing-bytes bytes = listing-text (paragraphs_of bytes false)
+listing-text : (text : Result (List ℕ) ReleaseError) → IfOk (text >>= release_in) (λ release. IsListing (later_lines (sums_of_text text)) release.files)
+unfolding release_in
+listing-text (Ok text) = listing-paragraphs (paragraphs_of text false)
+listing-text (Err refusal) = tt
 
-pub listing-read : (bytes : List ℕ) (r : Result Release ReleaseError) → (r ≡ Err NoMemory) ⊎ (r ≡ release_of bytes) → IfOk r (λ release. IsListing (sum_lines bytes) release.files)
-listing-read bytes r (inl e) = subst (λ r. IfOk r (λ release. IsListing (sum_lines bytes) release.files)) (sym e) tt
-listing-read bytes r (inr e) = subst (λ r. IfOk r (λ release. IsListing (sum_lines bytes) release.files)) (sym e) (listing-bytes bytes)
+listing-bytes : (bytes : List ℕ) → IfOk (release_of bytes) (λ release. IsListing (later_lines (sums_field bytes)) release.files)
+unfolding release_of sums_field
+listing-bytes bytes = listing-text (text_within bytes)
 
-pub listed-read : (bytes : List ℕ) (r : Result Release ReleaseError) → IfOk r (λ release. IsListing (sum_lines bytes) release.files) → IfOk r (λ release. (path : List ℕ) (sum : Sum) → (listed_sum release path ≡ Some sum) ↔ Contains (entries_of bytes) (record { path = path; sum = sum }))
+abbrev pub Lists : List ℕ → Result Release ReleaseError → Type 0
+Lists bytes r = IfOk r (λ release. IsListing (later_lines (sums_field bytes)) release.files)
+
+pub listing-read : (bytes : List ℕ) (r : Result Release ReleaseError) → (r ≡ Err NoMemory) ⊎ (r ≡ release_of bytes) → Lists bytes r
+listing-read bytes r (inl e) = subst (Lists bytes) (sym e) tt
+listing-read bytes r (inr e) = subst (Lists bytes) (sym e) (listing-bytes bytes)
+
+pub listed-read : (bytes : List ℕ) (r : Result Release ReleaseError) → Lists bytes r → IfOk r (λ release. (path : List ℕ) (sum : Sum) → (listed_sum release path ≡ Some sum) ↔ Contains (entries_of bytes) (record { path = path; sum = sum }))
 unfolding listed_sum
 listed-read bytes (Ok release) h = h.given
 listed-read bytes (Err e) h = tt
 
-pub distinct-read : (bytes : List ℕ) (r : Result Release ReleaseError) → IfOk r (λ release. IsListing (sum_lines bytes) release.files) → IfOk r (λ release. AllPairs (λ a b. a.path ≢ b.path) release.files)
+pub distinct-read : (bytes : List ℕ) (r : Result Release ReleaseError) → Lists bytes r → IfOk r (λ release. AllPairs (λ a b. a.path ≢ b.path) release.files)
 distinct-read bytes (Ok release) h = h.distinct
 distinct-read bytes (Err e) h = tt

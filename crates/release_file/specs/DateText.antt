@@ -1,9 +1,8 @@
 -- The text of a date in a Release (Debian repository format, "Date, Valid-Until"; RFC 5322, section 3.3):
 -- `[WORD, ]D MON YYYY hh:mm:ss ZONE`, with one space between each two of these.
-use Rattle.std.specs.Prelude.{ℕ, ◌+◌, ◌*◌, ◌==◌, ◌&&◌, nat_le, nat_eq, Bool, false, if◌then◌else◌, List, [], ◌∷◌, length, codes, Option, Some, None, option_and_then, ℤ, pos, ◌+ℤ◌, ◌*ℤ◌}
+use Rattle.std.specs.Prelude.{ℕ, ◌+◌, ◌*◌, ◌==◌, ◌&&◌, nat_le, bytes_eq, Bool, false, if◌then◌else◌, List, [], ◌∷◌, length, codes, Option, Some, None, option_and_then, ℤ, pos, ◌+ℤ◌, ◌*ℤ◌}
 use Rattle.std.specs.List.{slice_split, list_all, list_any}
 use Rattle.std.specs.Char.{is_ascii_digit, is_ascii_alphabetic}
-use Rattle.std.specs.Cmp.Lexicographic.{pointwise}
 use Rattle.std.specs.Str.Parse.{digits_value}
 use Rattle.jiff.specs.Words.{days_in_month}
 use Rattle.jiff_core.specs.Calendar.{days_from_civil}
@@ -15,9 +14,6 @@ o >>= f = option_and_then f o
 -- the parts between such bytes, each of which separates two parts
 abbrev pub parts_at : ℕ → List ℕ → List (List ℕ)
 parts_at byte text = slice_split (λ b. b == byte) text
-
-abbrev pub same_text : List ℕ → List ℕ → Bool
-same_text a b = pointwise nat_eq a b
 
 -- three letters and a comma: a day of the week, which isn't compared
 abbrev pub is_weekday : List ℕ → Bool
@@ -37,7 +33,7 @@ number_of least most text =
 -- the place of a name among names that are counted from n
 abbrev pub place_from : ℕ → List (List ℕ) → List ℕ → Option ℕ
 place_from n [] text = None
-place_from n (name ∷ names) text = if same_text text name then Some n else place_from (n + 1) names text
+place_from n (name ∷ names) text = if bytes_eq text name then Some n else place_from (n + 1) names text
 
 -- the month of a name, from 1
 unfoldable pub month_of : List ℕ → Option ℕ
@@ -47,7 +43,7 @@ month_of text =
 -- the names of the one zone that is taken
 unfoldable pub is_zone : List ℕ → Bool
 is_zone text =
-    list_any (same_text text) (codes "UTC" ∷ codes "GMT" ∷ codes "Z" ∷ codes "+0000" ∷ codes "-0000" ∷ [])
+    list_any (bytes_eq text) (codes "UTC" ∷ codes "GMT" ∷ codes "Z" ∷ codes "+0000" ∷ codes "-0000" ∷ [])
 
 -- the beginning of a day that is there, in seconds since 1970-01-01 00:00:00, by the proleptic Gregorian calendar
 unfoldable pub day_of : ℕ → ℕ → ℕ → Option ℤ

@@ -1,17 +1,19 @@
 -- Release files (Debian repository format, "Release" files): what the bytes of one say, or why they are refused.
-use Rattle.std.specs.Prelude.{ℕ, ◌+◌, ◌-◌, ◌^◌, ◌==◌, ◌&&◌, min, not, Bool, true, false, if◌then◌else◌, List, [], ◌∷◌, ◌++◌, length, codes, filter, Option, Some, None, ok_or, option_to_list, Result, Ok, Err, ℤ}
-use Rattle.std.specs.List.{filter_map, join_with_byte}
+use Rattle.std.specs.Prelude.{ℕ, ◌+◌, ◌==◌, ◌&&◌, bytes_eq, not, Bool, true, false, if◌then◌else◌, List, [], ◌∷◌, length, take, get_or, codes, filter, find, Option, Some, None, ok_or, Result, Ok, Err, ℤ}
+use Rattle.std.specs.List.{filter_map, join_with_byte, range_with_len}
 use Rattle.std.specs.Result.{result_ok}
 use Rattle.std.specs.Str.{str_eq_ignore_ascii_case}
 use Rattle.acq_base.specs.Sum.{sum_of_texts}
 use Rattle.acq_base.specs.Words.{words, is_blank}
 use Rattle.acq_base.specs.declared.sum.Sum.{Sum}
+use Rattle.clear_text.specs.Unframed.{unframed}
+use Rattle.clear_text.specs.declared.error.FrameError.{FrameError}
 use Rattle.deb822_text.specs.Control.{paragraphs_of, field_named}
 use Rattle.deb822_text.specs.declared.error.TextError.{TextError}
 use Rattle.deb822_text.specs.declared.paragraph.Field.{Field}
 use Rattle.deb822_text.specs.declared.paragraph.Paragraph.{Paragraph}
-use Rattle.release_file.specs.DateText.{date_of_text, same_text}
-use Rattle.release_file.specs.Refused.{refusal_of_text}
+use Rattle.release_file.specs.DateText.{date_of_text}
+use Rattle.release_file.specs.Refused.{refusal_of_text, refusal_of_frame}
 use Rattle.release_file.specs.declared.error.ReleaseError.{ReleaseError}
 use Rattle.release_file.specs.declared.error.ReleaseError.TheVariants.{NotOne, NoDate, BadDate, NoSums, BadSums}
 use Rattle.release_file.specs.declared.release.Head.{Head}
@@ -83,12 +85,12 @@ unfoldable pub listed_of_line : List ℕ → Option Listed
 listed_of_line line = listed_of_words (words is_blank line)
 
 abbrev pub same_sum : Sum → Sum → Bool
-same_sum a b = (a.size == b.size) && same_text a.sha.0 b.sha.0
+same_sum a b = (a.size == b.size) && bytes_eq a.sha.0 b.sha.0
 
 -- the sum of the first entry that has this path
 abbrev pub sum_in : List Listed → List ℕ → Option Sum
 sum_in [] path = None
-sum_in (entry ∷ entries) path = if same_text entry.path path then Some entry.sum else sum_in entries path
+sum_in (entry ∷ entries) path = if bytes_eq entry.path path then Some entry.sum else sum_in entries path
 
 -- a path may have this sum, beside the one that it has already
 abbrev pub agrees : Option Sum → Sum → Bool
@@ -100,33 +102,35 @@ abbrev pub may_follow : List Listed → Option Listed → Bool
 may_follow above None = false
 may_follow above (Some entry) = agrees (sum_in above entry.path) entry.sum
 
--- the number of the line below, which stands still at the greatest u64
-abbrev pub line_below : ℕ → ℕ
-line_below at = min (at + 1) (2 ^ 64 - 1)
+-- what sum lines say, line by line
+abbrev pub entries_in : List (List ℕ) → List Listed
+entries_in lines = filter_map listed_of_line lines
 
--- the number of the first line that may not stand below the entries above it; the lines are numbered from `at`
-abbrev pub first_bad : List Listed → ℕ → List (List ℕ) → Option ℕ
-first_bad above at [] = None
-first_bad above at (line ∷ lines) =
-    if may_follow above (listed_of_line line) then first_bad (above ++ option_to_list (listed_of_line line)) (line_below at) lines else Some at
+-- the line at a place may not stand below those above it
+abbrev pub is_bad_at : List (List ℕ) → ℕ → Bool
+is_bad_at lines place = not (may_follow (entries_in (take place lines)) (listed_of_line (get_or lines place [])))
+
+-- the place of the first line that may not stand where it does
+unfoldable pub first_bad : List (List ℕ) → Option ℕ
+first_bad lines = find (is_bad_at lines) (range_with_len 0 (length lines))
 
 -- the entries without those whose path an earlier one has
 abbrev pub firsts : List Listed → List Listed
 firsts [] = []
-firsts (entry ∷ entries) = entry ∷ filter (λ other. not (same_text entry.path other.path)) (firsts entries)
+firsts (entry ∷ entries) = entry ∷ filter (λ other. not (bytes_eq entry.path other.path)) (firsts entries)
 
-abbrev pub refused_at : {X : Type 0} → Option ℕ → X → Result X ReleaseError
-refused_at None value = Ok value
-refused_at (Some at) value = Err (BadSums at)
+abbrev pub refused_at : {X : Type 0} → ℕ → Option ℕ → X → Result X ReleaseError
+refused_at at None value = Ok value
+refused_at at (Some place) value = Err (BadSums (at + place))
 
 -- the files that these sum lines list, numbered from `at`
 unfoldable pub files_of_lines : ℕ → List (List ℕ) → Result (List Listed) ReleaseError
-files_of_lines at lines = refused_at (first_bad [] at lines) (firsts (filter_map listed_of_line lines))
+files_of_lines at lines = refused_at at (first_bad lines) (firsts (entries_in lines))
 
 -- the first line of the field is empty, and each further one is a sum line
 unfoldable pub files_of_field : List (List ℕ) → ℕ → Result (List Listed) ReleaseError
 files_of_field [] at = Err (BadSums at)
-files_of_field (first ∷ lines) at = if length first == 0 then files_of_lines (line_below at) lines else Err (BadSums at)
+files_of_field (first ∷ lines) at = if length first == 0 then files_of_lines (at + 1) lines else Err (BadSums at)
 
 -- SHA256 must be there
 unfoldable pub files_of : Option Field → Result (List Listed) ReleaseError
@@ -157,9 +161,24 @@ abbrev pub release_of_text : Result (List Paragraph) TextError → Result Releas
 release_of_text (Ok paragraphs) = release_of_paragraphs paragraphs
 release_of_text (Err refusal) = Err (refusal_of_text refusal)
 
--- the Release that the bytes are, or the first refusal that holds
+-- the Release that a text without a frame is, or the first refusal that holds
+unfoldable pub release_in : List ℕ → Result Release ReleaseError
+release_in text = release_of_text (paragraphs_of text false)
+
+abbrev pub text_or : List ℕ → Result (Option (List ℕ)) FrameError → Result (List ℕ) ReleaseError
+text_or bytes (Ok None) = Ok bytes
+text_or bytes (Ok (Some text)) = Ok text
+text_or bytes (Err refusal) = Err (refusal_of_frame refusal)
+
+-- the text of a Release: what its frame holds, or all of it where it begins none
+unfoldable pub text_within : List ℕ → Result (List ℕ) ReleaseError
+text_within bytes = text_or bytes (unframed bytes)
+
+-- the Release that the bytes are, with a frame or without, or the first refusal that holds
 unfoldable pub release_of : List ℕ → Result Release ReleaseError
-release_of bytes = release_of_text (paragraphs_of bytes false)
+release_of bytes = do
+  text ← text_within bytes
+  release_in text
 
 -- ---- looking up
 

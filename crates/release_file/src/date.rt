@@ -1,12 +1,12 @@
+//! Dates, read from texts. It touches nothing and takes no memory.
+
 ghost use Rattle.std.specs.Prelude.{◌≡◌, ◌≢◌, ℕ, ◌<◌, ◌≤◌, ◌^◌, ◌∷◌, [], pos, slice_get, take, All, MatchOption, IfSome, IfNone};
-ghost use Rattle.std.specs.Char.{is_ascii_digit};
 ghost use Rattle.std.specs.Int.{IsInRange};
-ghost use Rattle.std.specs.List.{list_all};
 ghost use Rattle.jiff.specs.Words.{IsWithin};
 ghost use Rattle.release_file.specs.DateText.{parts_at, is_weekday, number_of, month_of, is_zone, day_of, day_of_texts, clock_of, clock_of_texts, clock_of_parts, moment_of, moment_of_parts, date_of_text};
 
+use acq_base::read_digits;
 use jiff::civil::Date;
-use std::str;
 
 /// The moment that a date text names, in seconds since 1970-01-01 00:00:00 UTC, if it is one (RFC 5322, section 3.3).
 #[tactic(auto, unfolding(crate::specs::DateText::date_of_text))]
@@ -111,20 +111,10 @@ fn number(text: &[u8], least: usize, most: usize) -> Option<u16>
     ensures value { result ≡ number_of least most text.now }
     ensures bound { IfSome result (λ n. n < 10 ^ most) }
 {
-    if text.len() < least || text.len() > most || !are_digits(text) {
+    if text.len() < least || text.len() > most {
         return None;
     }
-    match str::from_utf8(text) {
-        Ok(digits) => digits.parse::<u16>().ok(),
-        Err(_) => None,
-    }
-}
-
-/// Whether every byte is a decimal digit. `parse` alone would also take a sign.
-fn are_digits(text: &[u8]) -> bool
-    ensures { result ≡ list_all is_ascii_digit text.now }
-{
-    text.iter().all(|c| c.is_ascii_digit())
+    u16::try_from(read_digits(text)?).ok()
 }
 
 /// The number of the month with this name, from 1.

@@ -1,14 +1,19 @@
+//! Why bytes are no Release. It touches nothing and takes no memory.
+
 use acq_base::{NoMemory as OutOfMemory, Refusal};
+use clear_text::FrameError;
 use deb822_text::TextError;
 use std::error::Error;
 use std::fmt;
 
-/// Why bytes are no Release. Lines are counted from 1.
+/// Why bytes are no Release. Lines are counted from 1, within the text of a frame from the text's first line on.
 ///
-/// Where several hold, the first of them in this order is named: the control text's three, then `NotOne`, `NoDate`,
+/// Where several hold, the first of them in this order is named: `BadFrame`, the control text's three, then `NotOne`, `NoDate`,
 /// `BadDate` of Date and then of Valid-Until, `NoSums`, and `BadSums` of the first such line.
 #[derive(Clone, Copy, Debug, PartialEq, Eq)]
 pub enum ReleaseError {
+    /// The bytes begin a frame, and this line of them can't stand where it does, or 0 where they end too early.
+    BadFrame(u64),
     /// The line is no separator, no continuation and no field (Debian Policy, section 5.1).
     BadField(u64),
     /// The line names a field that its paragraph already has, ASCII case aside.
@@ -32,6 +37,7 @@ pub enum ReleaseError {
 impl fmt::Display for ReleaseError {
     fn fmt<W: fmt::Write>(&self, f: &mut fmt::Formatter<W>) -> fmt::Result {
         match self {
+            ReleaseError::BadFrame(line) => write!(f, "{}", FrameError::BadFrame(*line)),
             ReleaseError::BadField(line) => write!(f, "line {line} is no field"),
             ReleaseError::Twice(line) => write!(f, "line {line} names a field again"),
             ReleaseError::Loose(line) => write!(f, "line {line} continues no field"),
@@ -61,6 +67,20 @@ impl From<OutOfMemory> for ReleaseError {
     }
 }
 
+impl From<FrameError> for ReleaseError {
+    ghost use Rattle.std.specs.Prelude.{◌≡◌};
+    ghost use Rattle.release_file.specs.Refused.{refusal_of_frame};
+
+    ghost from_gives = { λ error refusal. refusal ≡ refusal_of_frame error };
+
+    fn from(error: FrameError) -> ReleaseError {
+        match error {
+            FrameError::BadFrame(line) => ReleaseError::BadFrame(line),
+            FrameError::NoMemory => ReleaseError::NoMemory,
+        }
+    }
+}
+
 impl From<TextError> for ReleaseError {
     ghost use Rattle.std.specs.Prelude.{◌≡◌};
     ghost use Rattle.release_file.specs.Refused.{refusal_of_text};
@@ -86,6 +106,7 @@ impl Refusal for ReleaseError {
 
     fn number(&self) -> u32 {
         match self {
+            ReleaseError::BadFrame(_) => 33,
             ReleaseError::BadField(_) => 3,
             ReleaseError::Twice(_) => 4,
             ReleaseError::Loose(_) => 5,
@@ -100,7 +121,8 @@ impl Refusal for ReleaseError {
 
     fn line(&self) -> u64 {
         match self {
-            ReleaseError::BadField(line)
+            ReleaseError::BadFrame(line)
+            | ReleaseError::BadField(line)
             | ReleaseError::Twice(line)
             | ReleaseError::Loose(line)
             | ReleaseError::BadDate(line)

@@ -1,4 +1,8 @@
-ghost use Rattle.std.specs.Prelude.{◌≡◌, ◌↔◌, IsOk};
+//! Dates of a Release, judged at a moment. It touches nothing and takes no memory.
+
+ghost use Rattle.std.specs.Prelude.{◌≡◌, ◌↔◌, Option, ℤ, Ok, IsOk};
+ghost use Rattle.acq_base.specs.declared.settings.Dates.{Dates};
+ghost use Rattle.release_file.specs.declared.release.Release.{Release};
 ghost use Rattle.release_file.specs.Dates.{IsAdmissible, judged, judged_end, judged_date, judged_age, at_least, at_most, end_of_validity as valid_until};
 
 use crate::Release;
@@ -68,6 +72,13 @@ pub fn judge_dates(
 {
     judge(release, installed, dates, now)
 }
+
+/// What the definition of a judgement refuses is exactly what isn't admissible, for every Release and moment.
+#[tactic(auto, using(crate::proofs::Judged::judged_ok))]
+pub fn judged_is_admissible()
+    ensures { (release : Release) (installed : Option ℤ) (dates : Dates) (now : ℤ)
+        → (judged release installed dates now ≡ Ok tt) ↔ IsAdmissible release installed dates now }
+{}
 
 /// The first of the three refusals that holds.
 #[tactic(auto, unfolding(crate::specs::Dates::judged))]

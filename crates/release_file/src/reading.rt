@@ -1,23 +1,34 @@
+//! Releases, read from bytes. It may take memory, and touches nothing else.
+
 ghost use Rattle.std.specs.Prelude.{◌≡◌, ◌≢◌, ◌⊎◌, ◌↔◌, ℕ, List, ◌∷◌, ◌++◌, Some, Err, IfOk, OnOk, Contains, AllPairs, option_copied};
 ghost use Rattle.std.specs.List.{join_with_byte};
 ghost use Rattle.acq_base.specs.declared.sum.Sum.{Sum};
-ghost use Rattle.release_file.specs.Listing.{entries_of};
-ghost use Rattle.release_file.specs.Release.{release_of, listed_sum, release_of_paragraphs, release_of_fields, date_of, date_of_lines, until_of, by_hash_of, is_yes, head_of, text_of};
+ghost use Rattle.release_file.specs.Listing.{entries_of, later_lines, sums_field};
+ghost use Rattle.release_file.specs.Places.{ArePlaced, AreAllPlaced};
+ghost use Rattle.release_file.specs.SumFaults.{AreAllowed, HasBadSums};
+ghost use Rattle.release_file.specs.Release.{release_of, release_in, listed_sum, release_of_paragraphs, release_of_fields, date_of, date_of_lines, until_of, by_hash_of, is_yes, head_of, text_of};
 
 use crate::date::read_date;
 use crate::sums::read_files;
 use crate::{Head, Release, ReleaseError};
 use acq_base::{NoMemory, Text, TryCopy};
+use clear_text::unframe;
 use deb822_text::{Field, Paragraph, find, read};
 use std::alloc::Global;
 
 /// Reads a Release file (Debian repository format, "Release" files).
 ///
-/// It is one paragraph of control text without comments. The fields Date and SHA256 must be there; Valid-Until,
+/// Bytes whose first line begins the frame of a signed text (RFC 9580, section 7) are read within the frame; the
+/// signature isn't judged. A Release is one paragraph of control text without comments. The fields Date and SHA256 must be there; Valid-Until,
 /// Acquire-By-Hash, Origin, Label, Suite and Codename may be; all others are read over. Of several refusals the first
 /// in the order of [`ReleaseError`] is answered, unless memory runs out.
+#[tactic(auto, using(crate::proofs::SumFaults::sum_faults))]
 pub fn read_release(alloc: Global, bytes: &[u8]) -> Result<Release, ReleaseError>
     ensures value { (result ≡ Err ReleaseError.NoMemory) ⊎ (result ≡ release_of bytes.now) }
+    // Of a Release that is read, each sum line is allowed below those above it.
+    ensures allowed { OnOk result (AreAllowed (later_lines (sums_field bytes.now))) }
+    // BadSums names the first line that no reading allows.
+    ensures refused { (at : ℕ) → result ≡ Err (ReleaseError.BadSums at) → HasBadSums (sums_field bytes.now) at }
     // A path is listed with a sum exactly where a sum line says so.
     ensures listed { IfOk result (λ release. (path : List ℕ) (sum : Sum) → (listed_sum release path ≡ Some sum)
         ↔ Contains (entries_of bytes.now) (record { path = path; sum = sum })) }
@@ -27,18 +38,30 @@ pub fn read_release(alloc: Global, bytes: &[u8]) -> Result<Release, ReleaseError
     release_from(alloc, bytes)
 }
 
-/// The Release that the bytes are.
-#[tactic(auto, unfolding(crate::specs::Release::release_of))]
+/// The Release that the bytes are, with a frame or without.
+#[tactic(auto, unfolding(crate::specs::Release::release_of, crate::specs::Release::text_within))]
 fn release_from(alloc: Global, bytes: &[u8]) -> Result<Release, ReleaseError>
     ensures { (result ≡ Err ReleaseError.NoMemory) ⊎ (result ≡ release_of bytes.now) }
 {
-    let paragraphs = read(alloc, bytes, false)?;
+    match unframe(alloc, bytes)? {
+        Some(text) => from_text(alloc, text.as_slice()),
+        None => from_text(alloc, bytes),
+    }
+}
+
+/// The Release that a text without a frame is.
+#[tactic(auto, using(crate::proofs::Places::places), unfolding(crate::specs::Release::release_in))]
+fn from_text(alloc: Global, text: &[u8]) -> Result<Release, ReleaseError>
+    ensures { (result ≡ Err ReleaseError.NoMemory) ⊎ (result ≡ release_in text.now) }
+{
+    let paragraphs = read(alloc, text, false)?;
     only_paragraph(alloc, paragraphs.as_slice())
 }
 
 /// The Release that these paragraphs are, which are to be one.
 #[tactic(auto, unfolding(crate::specs::Release::release_of_paragraphs))]
 fn only_paragraph(alloc: Global, paragraphs: &[Paragraph]) -> Result<Release, ReleaseError>
+    requires { AreAllPlaced paragraphs.now }
     ensures { (result ≡ Err ReleaseError.NoMemory) ⊎ (result ≡ release_of_paragraphs paragraphs.now) }
 {
     match paragraphs {
@@ -48,8 +71,9 @@ fn only_paragraph(alloc: Global, paragraphs: &[Paragraph]) -> Result<Release, Re
 }
 
 /// The Release that a paragraph is.
-#[tactic(auto, unfolding(crate::specs::Release::release_of_fields))]
+#[tactic(auto, using(crate::proofs::Places::places), unfolding(crate::specs::Release::release_of_fields))]
 fn from_paragraph(alloc: Global, paragraph: &Paragraph) -> Result<Release, ReleaseError>
+    requires { ArePlaced paragraph.now.fields }
     ensures { (result ≡ Err ReleaseError.NoMemory) ⊎ (result ≡ release_of_fields paragraph.now.fields) }
 {
     let date = release_date(find(paragraph, b"Date"))?;

@@ -1,11 +1,13 @@
-ghost use Rattle.std.specs.Prelude.{◌≡◌, ◌⊎◌, ℕ, List, Err, IfOk, OnOk, option_copied};
+//! Sum lines, read into files. It may take memory, and touches nothing else.
+
+ghost use Rattle.std.specs.Prelude.{◌≡◌, ◌⊎◌, ◌+◌, ◌<◌, ◌^◌, ℕ, List, Err, IfOk, IfSome, OnOk, length, bytes_eq, option_copied};
 ghost use Rattle.std.specs.BTreeMap.{get};
 ghost use Rattle.std.specs.Cmp.Lexicographic.{slice_cmp};
 ghost use Rattle.std.specs.Ordering.{nat_cmp};
 ghost use Rattle.std.specs.Result.{result_ok};
 ghost use Rattle.acq_base.specs.Sum.{sum_of_texts};
-ghost use Rattle.release_file.specs.DateText.{same_text};
 ghost use Rattle.release_file.specs.Entries.{with_entry, sum_beside};
+ghost use Rattle.release_file.specs.Places.{IsPlaced};
 ghost use Rattle.release_file.specs.Release.{files_of, files_of_field, files_of_lines, listed_of_line, listed_as, listed_sum, sum_in, agrees};
 
 use crate::{Listed, Release, ReleaseError};
@@ -36,7 +38,7 @@ fn find_sum<'a>(files: &'a [Listed], path: &[u8]) -> Option<&'a Sum>
 
 /// Whether the file has this path.
 fn is_at(listed: &Listed, path: &[u8]) -> bool
-    ensures { result ≡ same_text listed.now.path path.now }
+    ensures { result ≡ bytes_eq listed.now.path path.now }
 {
     listed.path.as_bytes() == path
 }
@@ -44,6 +46,7 @@ fn is_at(listed: &Listed, path: &[u8]) -> bool
 /// The files that the field SHA256 lists, which must be there.
 #[tactic(auto, unfolding(crate::specs::Release::files_of))]
 pub(crate) fn read_files(alloc: Global, field: Option<&Field>) -> Result<Row<Listed>, ReleaseError>
+    requires { IfSome (option_copied field) IsPlaced }
     ensures { (result ≡ Err ReleaseError.NoMemory) ⊎ (result ≡ files_of (option_copied field.entry)) }
 {
     match field {
@@ -55,10 +58,11 @@ pub(crate) fn read_files(alloc: Global, field: Option<&Field>) -> Result<Row<Lis
 /// The files that the lines of a field list, the first of which is to be empty. The field stands at the line `at`.
 #[tactic(auto, unfolding(crate::specs::Release::files_of_field))]
 fn field_files(alloc: Global, lines: &[Text], at: u64) -> Result<Row<Listed>, ReleaseError>
+    requires { at + length lines.now < 2 ^ 64 }
     ensures { (result ≡ Err ReleaseError.NoMemory) ⊎ (result ≡ files_of_field lines.now at) }
 {
     match lines {
-        [first, rest @ ..] if first.is_empty() => line_files(alloc, rest, at.saturating_add(1)),
+        [first, rest @ ..] if first.is_empty() => line_files(alloc, rest, at + 1),
         _ => Err(ReleaseError::BadSums(at)),
     }
 }
@@ -66,6 +70,7 @@ fn field_files(alloc: Global, lines: &[Text], at: u64) -> Result<Row<Listed>, Re
 /// The files that sum lines list, numbered from `at`. A map of the sums finds a path that stands twice.
 #[tactic(auto, unfolding(crate::specs::Release::files_of_lines))]
 fn line_files(alloc: Global, lines: &[Text], at: u64) -> Result<Row<Listed>, ReleaseError>
+    requires { at + length lines.now < 2 ^ 64 }
     ensures { (result ≡ Err ReleaseError.NoMemory) ⊎ (result ≡ files_of_lines at lines.now) }
 {
     let mut files = Row::new(alloc);
@@ -78,7 +83,7 @@ fn line_files(alloc: Global, lines: &[Text], at: u64) -> Result<Row<Listed>, Rel
         if !add_file(alloc, &mut files, &mut sums, listed)? {
             return Err(ReleaseError::BadSums(at));
         }
-        at = at.saturating_add(1);
+        at += 1;
     }
     Ok(files)
 }

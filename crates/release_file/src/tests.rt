@@ -1,3 +1,5 @@
+mod changed;
 mod dates;
+mod framed;
 mod judged;
 mod read;

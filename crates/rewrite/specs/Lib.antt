@@ -1,1 +1,2 @@
+-- What the program's one function answers.
 pub mod Again

@@ -7,7 +7,7 @@
 ghost use Rattle.rewrite.specs.Again.{IsAnswer};
 
 use acq_base::Bytes;
-use deb822_text::{TextError, read, writable, write};
+use deb822_text::{TextError, can_write, read, write};
 use std::alloc::Global;
 use std::io::{self, Write};
 use std::process::ExitCode;
@@ -50,14 +50,14 @@ fn main(rt: HostRuntime) -> io::Result<ExitCode> {
     }
 }
 
-/// The written form of the paragraphs that a text is read as. Its time grows with the square of the number of fields of
-/// one paragraph, as that of `writable` does.
+/// The written form of the paragraphs that a text is read as.
 fn rewritten(alloc: Global, text: &[u8]) -> Result<Bytes, Refused>
     ensures { IsAnswer text.now result }
 {
     let paragraphs = read(alloc, text, true).map_err(Refused::Text)?;
-    if !writable(&paragraphs) {
-        return Err(Refused::Unwritable);
+    match can_write(alloc, &paragraphs) {
+        Ok(true) => write(alloc, &paragraphs).map_err(|_| Refused::Text(TextError::NoMemory)),
+        Ok(false) => Err(Refused::Unwritable),
+        Err(_) => Err(Refused::Text(TextError::NoMemory)),
     }
-    write(alloc, &paragraphs).map_err(|_| Refused::Text(TextError::NoMemory))
 }

@@ -19,7 +19,7 @@ use Rattle.update_program.specs.Words.{source_of_words}
 use Rattle.update_program.specs.Request.{IsRequest}
 use Rattle.update_program.proofs.RequestLemmas.{request_of_words}
 use Rattle.update_program.specs.Run.{Outside, ForRun, ForFirst, IsRun, IsUpdate, IsUpdateBy, EndsInOneWay, Completes, Said, FollowsMirror, IsWholeSet, LeavesWholeSet, is_status, seen, seen_with, disk_line, memory_line}
-use Rattle.update_program.proofs.WholeLemmas.{SoundOutcome, ends_as-sound}
+use Rattle.update_program.proofs.WholeLemmas.{AdmitsJudged, SoundOutcome, ends_as-sound}
 use Rattle.update_program.proofs.MirrorLemmas.{ends_as-by_mirror}
 
 -- an outcome's status is 0 or 100
@@ -182,25 +182,25 @@ outcome-whole before after source target installed now (Older date) n left whole
 outcome-whole before after source target installed now (Kept cause) n left whole = inl left
 
 -- a run that came to its outcome left the files alone or a whole set
-run-whole : (before after : Outside) (source : Source) (target : Target) (now : ℤ) (outcome : Outcome)
+run-whole : AdmitsJudged → (before after : Outside) (source : Source) (target : Target) (now : ℤ) (outcome : Outcome)
     → source.release_name.0 ≢ target.name.0 → IsTrue before.tells → IsRun before after source target now outcome → LeavesWholeSet before.files after.files source target now
-run-whole before after source target now outcome n tells run =
+run-whole law before after source target now outcome n tells run =
     rw (← run.obtained.as_read tells) (outcome-whole before after source target (installed_date run.obtained.installed) now outcome n (run.left tells)
-    (ends_as-sound before.method_faults after.method_faults before.world source target (installed_date run.obtained.installed) now outcome run.obtained.ended))
+    (ends_as-sound law before.method_faults after.method_faults before.world source target (installed_date run.obtained.installed) now outcome run.obtained.ended))
 
-dry-whole : (before after : Outside) (source : Source) (target : Target) (now : ℤ)
+dry-whole : AdmitsJudged → (before after : Outside) (source : Source) (target : Target) (now : ℤ)
     → source.release_name.0 ≢ target.name.0 → IsTrue before.tells → (IsTrue before.tells → after.files ≡ before.files) ⊎ ((outcome : Outcome) × IsRun before after source target now outcome)
     → LeavesWholeSet before.files after.files source target now
-dry-whole before after source target now n tells (inl same) = inl (same tells)
-dry-whole before after source target now n tells (inr ran) = run-whole before after source target now ran.0 n tells ran.1
+dry-whole law before after source target now n tells (inl same) = inl (same tells)
+dry-whole law before after source target now n tells (inr ran) = run-whole law before after source target now ran.0 n tells ran.1
 
 -- whatever the mirror serves, a run leaves the files alone or a whole set, unless the disk failed
-pub update-whole : (before after : Outside) (source : Source) (target : Target) (now : ℤ) (result : ℕ)
+pub update-whole : AdmitsJudged → (before after : Outside) (source : Source) (target : Target) (now : ℤ) (result : ℕ)
     → EndsInOneWay before after source target now result → source.release_name.0 ≢ target.name.0 → IsTrue before.tells
     → Rose before.disk_faults after.disk_faults ⊎ LeavesWholeSet before.files after.files source target now
-update-whole before after source target now result (inl h) n tells = inr (run-whole before after source target now h.outcome n tells h.run)
-update-whole before after source target now result (inr (inl h)) n tells = inl h.rose
-update-whole before after source target now result (inr (inr h)) n tells = inr (dry-whole before after source target now n tells h.left)
+update-whole law before after source target now result (inl h) n tells = inr (run-whole law before after source target now h.outcome n tells h.run)
+update-whole law before after source target now result (inr (inl h)) n tells = inl h.rose
+update-whole law before after source target now result (inr (inr h)) n tells = inr (dry-whole law before after source target now n tells h.left)
 
 -- a request's list has another name than its Release
 first_is_other : (source : Source) → IsRequest source → (target : Target) → slice_get source.targets 0 ≡ Some target → target.name.0 ≢ source.release_name.0

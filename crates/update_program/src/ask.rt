@@ -1,3 +1,5 @@
+//! One file, asked of a method.
+
 ghost use Rattle.std.specs.Prelude.{◌≡◌, ◌≤◌, IfOk, Option};
 ghost use Rattle.acq_base.specs.Uri.{IsSound};
 ghost use Rattle.update_program.specs.Outcome.{release_job, list_job, release_end as ended_release, list_end as ended_list};

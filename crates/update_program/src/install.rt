@@ -1,3 +1,5 @@
+//! A new set, put in place of the former one. It touches the disk alone.
+
 ghost use Rattle.std.specs.Prelude.{◌≡◌, ◌≢◌, ℕ, ◌≤◌, List, Option, IsTrue, OnOk, OnErr};
 ghost use Rattle.acq_outside.specs.Count.{Rose};
 ghost use Rattle.acq_outside.specs.Disk.{IsName};

@@ -1,3 +1,5 @@
+//! One source, asked, judged and installed.
+
 ghost use Rattle.std.specs.Prelude.{OnOk, ◌≡◌, ◌≤◌, IsTrue, IfOk, IsErrOf};
 ghost use Rattle.acq_base.specs.Uri.{IsSound};
 ghost use Rattle.acq_outside.specs.Count.{Rose};

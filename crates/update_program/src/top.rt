@@ -1,3 +1,5 @@
+//! The top call.
+
 ghost use Rattle.std.specs.Prelude.{◌≡◌, ◌≢◌, ◌≤◌, ◌⊎◌, None, Some, drop, map, vec_len, string_bytes, IsTrue, IfSome, IfNone};
 ghost use Rattle.acq_base.specs.Uri.{IsSound};
 ghost use Rattle.acq_outside.specs.Count.{Rose};
@@ -13,6 +15,7 @@ use crate::update::{say, update_source};
 use crate::words::read_words;
 use acq_base::{NoMemory, Source, Target};
 use acq_outside::{Clock, Disk, Etc, Method, Sink};
+use release_file::judged_is_admissible;
 use std::alloc::Global;
 
 /// Updates a source that the words name from the first method's mirror, and tells what became of it.
@@ -191,5 +194,6 @@ pub fn update_call<R: AllocGlobal, E: Etc, D: Disk, M: Method + Send + 'static, 
     ensures others { ForRun (source_of_words (map string_bytes words.now)) (C.last clock.new) (λ source target now. IsTrue (D.tells disk.old) → ChangesOnlyNames source target (D.files disk.old) (D.files disk.new)) }
 {
     let _ = etc;
+    judged_is_admissible();
     attempt(rt.alloc(), words, disk, methods, clock, out)
 }

@@ -28,4 +28,4 @@ loop-line-preserved c =
     let loop = c.loop-line in
     let step = c.in_ok-add_file.ensures in
     let some : Some c.in-Some.listed ≡ listed_of_line c.line-item.result = sym c.in-Some.is ∙ c.in_ok-listed.ensures ∙ ap listed_of_line c.as_bytes.ensures in
-    rw c.saturating_add-at.ensures (goes_on c.args.at c.args.lines.now loop.line-index loop.at loop.files c.add_file.new.files (get (slice_cmp nat_cmp) loop.sums) (get (slice_cmp nat_cmp) c.add_file.new.sums) c.line-item.result c.in-Some.listed loop.invariant c.loop-line-test.true c.line-item.is some (sym c.if-not-branch.false ∙ step.agrees) step.files step.sums)
+    (goes_on c.args.at c.args.lines.now loop.line-index loop.at loop.files c.add_file.new.files (get (slice_cmp nat_cmp) loop.sums) (get (slice_cmp nat_cmp) c.add_file.new.sums) c.line-item.result c.in-Some.listed loop.invariant c.loop-line-test.true c.line-item.is some (sym c.if-not-branch.false ∙ step.agrees) step.files step.sums)

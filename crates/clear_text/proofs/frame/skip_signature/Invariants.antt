@@ -1,0 +1,12 @@
+use Rattle.std.proofs.Common.{◌≡◌, ◌+◌, length}
+use Rattle.clear_text.specs.Lines.{IsCounted}
+use Rattle.clear_text.specs.Unframed.{in_signature}
+use Rattle.clear_text.proofs.frame.skip_signature.Given as goal
+
+abbrev pub invariant-loop-line : goal.invariant-loop-line
+invariant-loop-line l =
+    IsCounted l.lines.above l.lines.lines
+    × (in_signature (l.lines.above + 1) l.lines.lines ≡ in_signature (l.initial.lines.above + 1) l.initial.lines.lines)
+
+abbrev pub decreases-loop-line : goal.decreases-loop-line
+decreases-loop-line l = length l.lines.lines

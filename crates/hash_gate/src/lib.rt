@@ -1,0 +1,15 @@
+//! Whether a file that comes in pieces is the one that a sum names, and the sum of such a file.
+//!
+//! Neither value takes memory, and neither answer depends on how the bytes were cut: contracts speak of all pieces
+//! together.
+#![tactic(auto)]
+
+pub use gate::Gate;
+pub use total::Total;
+pub use verdict::Verdict;
+
+mod gate;
+#[cfg(test)]
+mod tests;
+mod total;
+mod verdict;

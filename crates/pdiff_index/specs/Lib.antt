@@ -1,0 +1,4 @@
+pub mod Refused
+pub mod Sums
+pub mod Index
+pub mod Chain

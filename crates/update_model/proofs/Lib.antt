@@ -1,0 +1,17 @@
+pub mod Sums
+pub mod Heads
+pub mod Routes
+pub mod Mirrors
+pub mod Fronts
+pub mod Counts
+pub mod Obtained
+pub mod Sets
+pub mod Sources
+pub mod Nexts
+pub mod Carried
+pub mod Existence
+-- worked examples
+pub mod Sample
+pub mod ListExamples
+pub mod PatchExamples
+pub mod SourceExamples

@@ -1,0 +1,54 @@
+//! Why a source keeps its set.
+
+use acq_base::{Sum, Text};
+use hash_gate::Verdict;
+use release_file::{Head, HeadField};
+
+/// Why a source keeps its former set of lists. A path is the list's below the Release's folder, or `Release`.
+#[derive(Debug, PartialEq, Drop)]
+pub enum Cause {
+    /// There is no Release; the HTTP status of the refusal.
+    NoRelease(u16),
+    /// The file was moved too often, to no URI of this profile, or from http to a file.
+    Redirects(Text),
+    /// The Release's bytes are refused, with the number and the line of the refusal.
+    BadRelease {
+        number: u32,
+        line: u64,
+    },
+    /// The Release was valid until this moment, in seconds since 1970-01-01 00:00:00 UTC.
+    Expired(i128),
+    /// The Release has this date, in seconds since 1970-01-01 00:00:00 UTC, which is too far ahead of the moment.
+    Future(i64),
+    /// The Release has more bytes than this.
+    TooBig(u64),
+    /// There is no such list; the HTTP status of the refusal.
+    Missing {
+        path: Text,
+        status: u16,
+    },
+    /// The list that came isn't the one that the Release names.
+    Differs {
+        path: Text,
+        wanted: Sum,
+        got: Verdict,
+    },
+    /// The peer broke its protocol at this byte of its answer.
+    Garbled {
+        path: Text,
+        at: u64,
+    },
+    /// A method failed once more than an ask may be repeated. The lane and the counts are those of the last fault.
+    Method {
+        path: Text,
+        lane: u32,
+        before: u64,
+        after: u64,
+    },
+    /// The Release says something else of itself than the installed one, in a field that may not change.
+    Changed {
+        old: Head,
+        new: Head,
+        field: HeadField,
+    },
+}

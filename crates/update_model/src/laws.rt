@@ -1,0 +1,75 @@
+//! What holds of the definitions of `specs/`, whatever mirrors hold and methods answer.
+
+ghost use Rattle.update_model.specs.Carried.{DeedsLeadToNext, NextIsThere};
+ghost use Rattle.update_model.specs.Laws as law;
+
+use release_file::judged_is_admissible;
+
+/// A route that agrees with a mirror and in which each ask is answered ends as what is obtained from that mirror; over
+/// each mirror there is such a route.
+pub fn routes_end_as_obtained()
+    ensures lists { law.ListsEndAsObtained }
+    ensures releases { law.ReleasesEndAsObtained }
+    ensures given { law.MirrorsGiveRoutes }
+{}
+
+/// Whatever is answered, with faults and moves in any order, the entries so far are the front of a route, and what is
+/// asked is the next of it.
+pub fn runs_stand_in_routes()
+    ensures { law.RunsStandInRoutes }
+{}
+
+/// A route has few entries in the log, whatever is answered, and so have those of a whole source.
+pub fn routes_ask_little()
+    ensures lists { law.ListsAskLittle }
+    ensures releases { law.ReleasesAskLittle }
+    ensures sources { law.SourcesAskLittle }
+{}
+
+/// The file that a list comes to is the one that the Release names. It has one exactly where the installed file, the
+/// patched one, the resumed one or one that is reached is that; patches and partial files do no harm.
+pub fn obtained_files_fit()
+    ensures only { law.ObtainedFilesFit }
+    ensures each { law.FilesAreObtained }
+    ensures patches { law.PatchesOnlyHelp }
+    ensures parts { law.PartsOnlyHelp }
+{}
+
+/// A new set comes exactly from an admissible Release each of whose lists has a file, and over a mirror these files are
+/// the ones that the Release names.
+pub fn new_sets_are_admissible()
+    ensures exactly { law.SetsAreAdmissible }
+    ensures fit { law.NewSetsFit }
+{
+    judged_is_admissible();
+}
+
+/// Routes of a source that agree with a mirror, and in which each ask is answered, come to its new set, or to why there
+/// is none. What another mirror has elsewhere makes no difference.
+pub fn routes_make_new_sets()
+    ensures made { law.RoutesMakeNewSets }
+    ensures enough { law.RoutesAreEnough }
+{}
+
+/// What a run leaves is determined, bytes of equal sums aside. Where clean-up is on and no source keeps its set for a
+/// cause, no name of no source is left; a source without a new set keeps its former files.
+pub fn nexts_are_alike()
+    ensures alike { law.NextsAreAlike }
+    ensures clean { law.NextsAreClean }
+    ensures kept { law.NextsKeep }
+{}
+
+/// The test whether a set is there already tells just that.
+pub fn held_sets_are_found()
+    ensures { law.HeldSetsAreFound }
+{}
+
+/// What is done for the sources of a plan, in any order, and the clean-up behind it leave what is next.
+pub fn deeds_lead_to_next()
+    ensures { DeedsLeadToNext }
+{}
+
+/// A sound plan has a directory that is next, whatever the mirror holds and whatever is installed.
+pub fn next_is_there()
+    ensures { NextIsThere }
+{}
