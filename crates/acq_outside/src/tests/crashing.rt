@@ -8,7 +8,8 @@ use std::test::Fail;
 /// A call of a disk. Files have names of one letter.
 #[derive(Clone, Copy)]
 enum Call {
-    Write(u8, u64, &'static [u8]),
+    /// One byte.
+    Write(u8, u64, u8),
     Cut(u8, u64),
     Sync(u8),
     Rename(u8, u8),
@@ -19,7 +20,7 @@ enum Call {
 /// Does a call, where its conditions hold.
 fn make<D: Disk>(disk: &mut D, call: Call) -> Result<(), Fault> {
     match call {
-        Call::Write(name, at, bytes) => write(disk, &[name], at, bytes),
+        Call::Write(name, at, byte) => write(disk, &[name], at, &[byte]),
         Call::Cut(name, len) => cut(disk, &[name], len),
         Call::Sync(name) => sync(disk, &[name]),
         Call::Rename(from, to) => rename(disk, &[from], &[to]),
@@ -121,80 +122,85 @@ fn choice(alloc: Global, bits: u16, width: u16) -> Result<Row<u8>, NoMemory>
     Ok(row)
 }
 
-/// How many of these images the choices of so many bits leave, where they leave no other.
-fn left(alloc: Global, width: u16, calls: &[Call], images: &[&[u8]]) -> Result<usize, Fail>
+/// How many of these images, which `|` separates, the choices of so many bits leave, where they leave no other.
+fn left(alloc: Global, width: u16, calls: &[Call], images: &[u8]) -> Result<usize, Fail>
     requires { width ≤ 12 }
 {
-    let mut found = vec![in alloc; 0u8; images.len()]?;
+    let mut found = Vec::new(alloc);
     for bits in 0..(1u16 << width) {
         let mut disk = disk_after(alloc, calls)?.crashed(&choice(alloc, bits, width)?)?;
         let text = shown(alloc, &mut disk)?;
-        match images.iter().position(|image| *image == text.as_slice()) {
-            Some(at) if at < found.len() => found[at] = 1,
-            _ => return Err(Fail::from("an image that isn't listed")),
+        if !is_listed(images, text.as_slice()) {
+            return Err(Fail::from("an image that isn't listed"));
         }
+        found.push(Text::from(text))?;
     }
-    Ok(found.iter().filter(|one| **one == 1).count())
+    found.sort_unstable();
+    found.dedup();
+    Ok(found.len())
+}
+
+fn is_listed(images: &[u8], text: &[u8]) -> bool {
+    images
+        .split(|byte| *byte == b'|')
+        .any(|image| image == text)
 }
 
 const MADE: [Call; 3] = [
     Call::Cut(b'b', 0),
-    Call::Write(b'b', 0, b"n"),
+    Call::Write(b'b', 0, b'n'),
     Call::Rename(b'b', b'a'),
 ];
 
 #[test]
 fn a_crash_leaves_just_the_images_that_are_listed(rt: HostRuntime) -> Result<(), Fail> {
     let alloc = rt.alloc();
-    let write = Call::Write(b'a', 0, b"X");
+    let write = Call::Write(b'a', 0, b'X');
     // How many bytes of a choice a crash reads at most, the calls, and what it may leave.
-    let table: [(u16, &[Call], &[&[u8]]); 14] = [
-        (6, &[], &[b"a=old;"]),
+    let table: [(u16, &[Call], &[u8]); 14] = [
+        (6, &[], b"a=old;"),
         // The byte that is written may be any until the file is synced.
-        (6, &[write], &[b"a=\0ld;", b"a=\x01ld;"]),
-        (6, &[write, Call::Sync(b'a')], &[b"a=Xld;"]),
+        (6, &[write], b"a=\0ld;|a=\x01ld;"),
+        (6, &[write, Call::Sync(b'a')], b"a=Xld;"),
         // One behind the end may be there or not.
         (
             8,
-            &[Call::Write(b'a', 3, b"Y")],
-            &[b"a=old;", b"a=old\0;", b"a=old\x01;"],
+            &[Call::Write(b'a', 3, b'Y')],
+            b"a=old;|a=old\0;|a=old\x01;",
         ),
         // A cut may be undone, and what is written over it may stand before the old tail.
-        (6, &[Call::Cut(b'a', 1)], &[b"a=o;", b"a=ol;", b"a=old;"]),
+        (6, &[Call::Cut(b'a', 1)], b"a=o;|a=ol;|a=old;"),
         (
             6,
-            &[Call::Cut(b'a', 1), Call::Write(b'a', 1, b"Z")],
-            &[b"a=o;", b"a=o\0;", b"a=o\x01;", b"a=o\0d;", b"a=o\x01d;"],
+            &[Call::Cut(b'a', 1), Call::Write(b'a', 1, b'Z')],
+            b"a=o;|a=o\0;|a=o\x01;|a=o\0d;|a=o\x01d;",
         ),
-        (6, &[Call::Cut(b'a', 0), Call::Sync(b'a')], &[b"a=;"]),
+        (6, &[Call::Cut(b'a', 0), Call::Sync(b'a')], b"a=;"),
         // Changes of names happen in any part, in order. What is moved without having been made isn't there.
-        (7, &[Call::Cut(b'b', 0)], &[b"a=old;", b"a=old;b=;"]),
+        (7, &[Call::Cut(b'b', 0)], b"a=old;|a=old;b=;"),
         (
             10,
             &[MADE[0], MADE[1], Call::Sync(b'b'), MADE[2]],
-            &[b"a=old;", b"a=old;b=n;", b"a=n;"],
+            b"a=old;|a=old;b=n;|a=n;",
         ),
         (
             8,
             &[MADE[0], MADE[1], MADE[2], Call::SyncNames],
-            &[b"a=;", b"a=\0;", b"a=\x01;"],
+            b"a=;|a=\0;|a=\x01;",
         ),
-        (7, &[Call::Remove(b'a')], &[b"a=old;", b""]),
-        (6, &[Call::Remove(b'a'), Call::SyncNames], &[b""]),
+        (7, &[Call::Remove(b'a')], b"a=old;|"),
+        (6, &[Call::Remove(b'a'), Call::SyncNames], b""),
         (
             8,
             &[Call::Rename(b'a', b'b'), Call::Rename(b'b', b'c')],
-            &[b"a=old;", b"b=old;", b"c=old;"],
+            b"a=old;|b=old;|c=old;",
         ),
-        (
-            8,
-            &[Call::Remove(b'a'), Call::Cut(b'a', 0)],
-            &[b"a=old;", b"", b"a=;"],
-        ),
+        (8, &[Call::Remove(b'a'), Call::Cut(b'a', 0)], b"a=old;||a=;"),
     ];
     for (width, calls, images) in table {
         assert!(rt; width <= 12);
-        assert_eq!(rt; left(alloc, width, calls, images)?, images.len());
+        let listed = images.split(|byte| *byte == b'|').count();
+        assert_eq!(rt; left(alloc, width, calls, images)?, listed);
     }
     Ok(())
 }
@@ -202,7 +208,7 @@ fn a_crash_leaves_just_the_images_that_are_listed(rt: HostRuntime) -> Result<(),
 #[test]
 fn a_crashed_disk_has_nothing_pending_and_is_fresh(rt: HostRuntime) -> Result<(), Fail> {
     let alloc = rt.alloc();
-    let calls = [MADE[0], Call::Write(b'a', 0, b"X")];
+    let calls = [MADE[0], Call::Write(b'a', 0, b'X')];
     let none = choice(alloc, 0, 12)?;
     let all = choice(alloc, 4095, 12)?;
     let once = disk_after(alloc, &calls)?.with_fuse(0).crashed(&none)?;
