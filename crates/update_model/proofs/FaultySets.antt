@@ -1,18 +1,15 @@
 -- What a source comes to where methods may have failed.
-use Rattle.std.proofs.Common.{◌≡◌, ℕ, ℤ, List, [], ◌∷◌, map, Option, Result, Ok, Err, refl, sym, ap, ap₂, ◌∙◌, subst}
+use Rattle.std.proofs.Common.{◌≡◌, ℕ, List, [], ◌∷◌, map, Ok, refl, sym, ap, ap₂, ◌∙◌}
 use Rattle.std.specs.List.{AllByRecursion as Each}
 use Rattle.acq_base.specs.Mirror.{World}
-use Rattle.acq_base.specs.declared.plan.Source.{Source}
-use Rattle.acq_base.specs.declared.settings.Settings.{Settings}
-use Rattle.release_file.specs.declared.changing.Change.{Change}
 use Rattle.update_model.specs.Faults.{IsListed, AreRoutes, AreAgreeing, SetsAreAsListed, SetsMadeAreNew}
 use Rattle.update_model.specs.Laws.{by_sum, IsHad, ListEnd}
-use Rattle.update_model.specs.Outcomes.{Admitted, Directory, Parts, all_had, admitted, bytes_of, obtained, wanted_by}
+use Rattle.update_model.specs.Outcomes.{Directory, Parts, all_had, admitted, bytes_of, obtained, wanted_by}
 use Rattle.update_model.specs.Releases.{obtain_release}
-use Rattle.update_model.specs.Trails.{Trail}
 use Rattle.update_model.specs.declared.end.End.{End}
 use Rattle.update_model.specs.declared.end.End.TheVariants.{Got, Stands, Ended}
-use Rattle.update_model.proofs.Faults.{lists-listed, lists-had, releases-had}
+use Rattle.update_model.proofs.Ends.{lists-listed}
+use Rattle.update_model.proofs.Faults.{lists-had, releases-had}
 use Rattle.update_model.proofs.Sets.{Judges, passed, done-same, all-ok, sets-admissible}
 use Rattle.update_model.proofs.Sources.{ends-make}
 

@@ -2,6 +2,7 @@ pub mod Sums
 pub mod Heads
 pub mod Routes
 pub mod Mirrors
+pub mod Ends
 pub mod Faults
 pub mod Fronts
 pub mod Counts
@@ -9,6 +10,7 @@ pub mod Obtained
 pub mod Sets
 pub mod Sources
 pub mod FaultySets
+pub mod PatchUris
 pub mod Nexts
 pub mod Carried
 pub mod Existence

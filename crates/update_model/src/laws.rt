@@ -1,5 +1,7 @@
 //! What holds of the definitions of `specs/`, whatever mirrors hold and methods answer.
 
+ghost use Rattle.std.specs.Prelude.{codes, IsTrue};
+ghost use Rattle.pdiff_index.specs.Index.{is_name};
 ghost use Rattle.update_model.specs.Carried.{DeedsLeadToNext, NextIsThere};
 ghost use Rattle.update_model.specs.Faults as fault;
 ghost use Rattle.update_model.specs.Laws as law;
@@ -25,6 +27,13 @@ pub fn routes_ask_little()
     ensures lists { law.ListsAskLittle }
     ensures releases { law.ReleasesAskLittle }
     ensures sources { law.SourcesAskLittle }
+{}
+
+/// A list's patch Index, and each patch that it may name, lies at a sound URI where the list does.
+pub fn patches_lie_at_sound_uris()
+    ensures sound { law.PatchUrisAreSound }
+    ensures short { law.PatchUrisAreShort }
+    ensures index { IsTrue (is_name (codes "Index")) }
 {}
 
 /// The file that a list comes to is the one that the Release names. It has one exactly where the installed file, the

@@ -1,4 +1,4 @@
-use Rattle.update_model.proofs.Faults.{lists-listed, releases-served}
+use Rattle.update_model.proofs.Ends.{lists-listed, releases-served}
 use Rattle.update_model.proofs.FaultySets.{sets-listed}
 use Rattle.update_model.proofs.laws.routes_end_as_listed.Goals as goal
 
