@@ -1,3 +1,5 @@
+//! Files beside another. It may take memory, and touches nothing else.
+
 ghost use Rattle.std.specs.Prelude.{◌≡◌, ◌≤◌, IfOk, List, ℕ, length};
 ghost use Rattle.acq_base.specs.Uri.{IsSound, list_name};
 ghost use Rattle.by_hash.specs.Beside as spec;

@@ -1,3 +1,5 @@
+//! Where a list is asked for. It may take memory, and touches nothing else.
+
 ghost use Rattle.std.specs.Prelude.{◌≡◌, ◌≤◌, All, IfOk, IfSome, length};
 ghost use Rattle.acq_base.specs.Uri.{IsSound, list_name};
 ghost use Rattle.by_hash.specs.Beside.{IsShortName};

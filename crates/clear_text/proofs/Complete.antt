@@ -1,11 +1,11 @@
 -- The text within every frame is answered.
-use Rattle.std.proofs.Common.{◌≡◌, ◌⊎◌, ℕ, ◌+◌, true, false, List, [], ◌∷◌, ◌++◌, ◌&&◌, Option, Some, Ok, inl, inr, refl, sym, ap, ◌∙◌, append_assoc}
+use Rattle.std.proofs.Common.{◌≡◌, ℕ, ◌+◌, true, false, List, [], ◌∷◌, ◌++◌, Some, Ok, inl, inr, refl, sym, ap, ◌∙◌, append_assoc}
 use Rattle.std.specs.Prelude.{bytes_eq}
 use Rattle.std.specs.List.{list_any, list_all}
 use Rattle.std.proofs.lemmas.Bool.{or_parts, and_parts, false≢true}
 use Rattle.acq_base.specs.Words.{is_blank}
 use Rattle.clear_text.specs.Frame.{signature_line, end_line, begins_with, is_dash, is_header, IsEscape, AreEscapes, IsFrame, ended}
-use Rattle.clear_text.specs.Unframed.{is_empty, unescaped, with_line, with_text_line, behind_frame, in_signature, in_text, in_headers, unframed_lines}
+use Rattle.clear_text.specs.Unframed.{is_empty, unescaped, behind_frame, in_signature, in_text, in_headers, unframed_lines}
 
 blank_behind : (behind : List (List ℕ)) (at : ℕ) → list_all (list_all is_blank) behind ≡ true → behind_frame at behind ≡ Ok []
 blank_behind [] at blank = refl

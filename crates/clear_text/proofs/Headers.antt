@@ -1,6 +1,6 @@
 -- A header is a line with a sound name before its first colon.
-use Rattle.std.proofs.Common.{◌≡◌, ℕ, zero, suc, ◌+◌, ◌<◌, ◌≤◌, Bool, true, false, cond, not, List, [], ◌∷◌, length, take, slice_index, Option, Some, None, ◌||◌, refl, sym, ap, ◌∙◌, arith}
-use Rattle.std.specs.List.{list_any, position_or_len, before_first}
+use Rattle.std.proofs.Common.{◌≡◌, ℕ, zero, suc, ◌+◌, true, false, List, [], ◌∷◌, take, Some, None, refl, ap, ◌∙◌, arith}
+use Rattle.std.specs.List.{list_any, position_or_len}
 use Rattle.std.proofs.lemmas.Bool.{false_from_ne_true}
 use Rattle.bstr.specs.Find.{IsFirstByte, is_byte}
 use Rattle.clear_text.specs.Frame.{is_colon, is_name, is_header}

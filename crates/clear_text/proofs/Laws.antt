@@ -1,19 +1,19 @@
 -- The laws of frames, for what is answered of a text.
-use Rattle.std.proofs.Common.{◌≡◌, ◌≢◌, ◌⊎◌, ℕ, suc, ◌+◌, Bool, true, false, not, List, [], ◌∷◌, ◌++◌, ◌&&◌, length, Option, Some, None, Result, Ok, Err, IfOk, IfErr, inl, inr, refl, sym, ap, subst, ◌∙◌, append_assoc, arith}
+use Rattle.std.proofs.Common.{◌≡◌, ◌≢◌, ◌⊎◌, ℕ, true, false, not, List, [], ◌∷◌, ◌++◌, Option, Some, None, Result, Ok, Err, IfOk, IfErr, inl, inr, refl, sym, ap, subst, ◌∙◌, append_assoc, arith}
 use Rattle.std.specs.Prelude.{bytes_eq}
 use Rattle.std.specs.List.{list_any, list_all}
 use Rattle.std.specs.Cmp.Lexicographic.{bytes_decides}
 use Rattle.std.specs.Str.Lines.{lines as text_lines, strip_carriage_return}
 use Rattle.std.proofs.lemmas.Bool.{cases_Bool, and_parts, not-true, false≢true}
 use Rattle.clear_text.specs.Frame.{begin_line, is_line, IsFrame, ended}
-use Rattle.clear_text.specs.Refused.{CanBegin, EndsEarly, IsFirstBad, IsRefused, IsPlain, Tells}
+use Rattle.clear_text.specs.Refused.{CanBegin, IsRefused, Tells}
 use Rattle.clear_text.specs.Unframed.{in_headers, framed, unframed_lines, unframed}
 use Rattle.clear_text.specs.declared.error.FrameError.{FrameError}
-use Rattle.clear_text.specs.declared.error.FrameError.TheVariants.{BadFrame, NoMemory}
+use Rattle.clear_text.specs.declared.error.FrameError.TheVariants.{NoMemory}
 use Rattle.clear_text.proofs.Complete.{complete}
 use Rattle.clear_text.proofs.Lines.{is_feed, lines_feed}
 use Rattle.clear_text.proofs.Sound.{equal, sound}
-use Rattle.clear_text.proofs.Stops.{Stops, GoesOn, IsRefusedAt, headers_stop}
+use Rattle.clear_text.proofs.Stops.{Stops, GoesOn, headers_stop}
 
 -- ---- what is told of lines
 

@@ -1,5 +1,5 @@
 -- What is answered is the text within a frame.
-use Rattle.std.proofs.Common.{◌≡◌, ◌⊎◌, ℕ, ◌+◌, nat_eq, Bool, true, false, List, [], ◌∷◌, ◌++◌, ◌&&◌, Option, Some, None, Result, Ok, Err, inl, inr, refl, sym, ap, ◌∙◌, append_assoc, arith}
+use Rattle.std.proofs.Common.{◌≡◌, ℕ, ◌+◌, nat_eq, Bool, true, false, List, [], ◌∷◌, ◌++◌, ◌&&◌, Option, Some, None, Result, Ok, Err, inl, inr, refl, sym, ap, ◌∙◌, append_assoc, arith}
 use Rattle.std.specs.Prelude.{bytes_eq}
 use Rattle.std.specs.List.{list_any, list_all}
 use Rattle.std.specs.Cmp.Lexicographic.{bytes_decides}
@@ -120,15 +120,17 @@ empty_is : (line : List ℕ) → is_empty line ≡ true → line ≡ []
 empty_is [] e = refl
 empty_is (c ∷ line) e = absurd cc
 
+one_header : (line : List ℕ) (lines : List (List ℕ)) (bytes : List ℕ) → is_header line ≡ true → IsHeaded lines bytes → IsHeaded (line ∷ lines) bytes
+one_header line lines bytes is rest =
+    record { headers = line ∷ rest.headers; more = rest.more; split = ap (λ ls. line ∷ ls) rest.split; headed = and_of (is_header line) (list_all is_header rest.headers) is rest.headed; text = rest.text }
+
 headed_of : (lines : List (List ℕ)) (at : ℕ) (bytes : List ℕ) → in_headers at lines ≡ Ok bytes → IsHeaded lines bytes
 headed_of [] at bytes e = absurd cc
 headed_of (line ∷ lines) at bytes e =
     elim (cases_Bool (is_empty line)) [
       | inl none ↦ record { headers = []; more = lines; split = ap (λ l. l ∷ lines) (empty_is line none); headed = refl; text = text_of lines (at + 1) bytes (rw none at e) }
       | inr some ↦ elim (cases_Bool (is_header line)) [
-        | inl is ↦
-            let rest = headed_of lines (at + 1) bytes (rw (some, is) at e) in
-            record { headers = line ∷ rest.headers; more = rest.more; split = ap (λ ls. line ∷ ls) rest.split; headed = and_of (is_header line) (list_all is_header rest.headers) is rest.headed; text = rest.text }
+        | inl is ↦ one_header line lines bytes is (headed_of lines (at + 1) bytes (rw (some, is) at e))
         | inr isnt ↦ absurd (let bad = rw (some, isnt) at e in cc)
       ]
     ]
@@ -142,8 +144,7 @@ sound lines bytes e =
     let body = head.text in
     let tail = body.signed in
     let inner : body.more ≡ tail.signature ++ end_line ∷ tail.behind = tail.split in
-    let within : head.more ≡ body.escaped ++ signature_line ∷ (tail.signature ++ end_line ∷ tail.behind) = body.split ∙ ap (λ ls. body.escaped ++ signature_line ∷ ls) inner in
-    (
+    let within : head.more ≡ body.escaped ++ signature_line ∷ (tail.signature ++ end_line ∷ tail.behind) = body.split ∙ ap (λ ls. body.escaped ++ signature_line ∷ ls) inner in (
       body.text,
       record {
         headers = head.headers;

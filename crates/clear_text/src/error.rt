@@ -1,3 +1,5 @@
+//! Why a text is no frame. It touches nothing and takes no memory.
+
 use acq_base::{NoMemory as OutOfMemory, Refusal};
 use std::error::Error;
 use std::fmt;
@@ -15,7 +17,10 @@ impl fmt::Display for FrameError {
     fn fmt<W: fmt::Write>(&self, f: &mut fmt::Formatter<W>) -> fmt::Result {
         match self {
             FrameError::BadFrame(0) => f.write_str("the signed text ends too early"),
-            FrameError::BadFrame(line) => write!(f, "line {line} can't stand there in a signed text"),
+            FrameError::BadFrame(line) => write!(
+                f,
+                "line {line} can't stand there in a signed text"
+            ),
             FrameError::NoMemory => f.write_str("out of memory"),
         }
     }

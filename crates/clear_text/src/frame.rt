@@ -1,3 +1,5 @@
+//! The frame, taken off. It may take memory, and touches nothing else.
+
 ghost use Rattle.std.specs.Prelude.{◌≡◌, ◌⊎◌, ◌++◌, ◌∷◌, [], ◌+◌, ℕ, true, List, Some, None, Ok, Err, IfOk, IfErr, OnOk, MatchResult, option_map};
 ghost use Rattle.std.specs.Str.Lines.{lines as text_lines};
 ghost use Rattle.std.specs.List.{list_all};

@@ -1,3 +1,5 @@
+//! Header lines of a frame. It touches nothing and takes no memory.
+
 ghost use Rattle.std.specs.Prelude.{◌≡◌};
 ghost use Rattle.std.specs.List.{list_all};
 ghost use Rattle.clear_text.specs.Frame.{is_header as header, is_name as name_of_header, is_name_character, may_begin_name};

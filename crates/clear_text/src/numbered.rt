@@ -1,3 +1,5 @@
+//! Lines with their numbers. It touches nothing and takes no memory.
+
 ghost use Rattle.std.specs.Prelude.{◌≡◌, ◌+◌, ◌<◌, ◌^◌, [], ◌∷◌, length, MatchOption};
 ghost use Rattle.std.specs.Str.Lines.{lines as text_lines};
 ghost use Rattle.clear_text.specs.Lines.{IsCounted};

@@ -1,10 +1,8 @@
 -- Going line by line: what the rest of a scan is after a line, where it stops, and at its end.
-use Rattle.std.proofs.Common.{◌≡◌, ◌∙◌, ℕ, ◌+◌, ◌⊎◌, List, [], ◌∷◌, length, Result, Ok, Err, inl, inr, refl, sym, ap}
+use Rattle.std.proofs.Common.{◌≡◌, ◌∙◌, ℕ, ◌+◌, ◌⊎◌, List, ◌∷◌, length, Result, Ok, Err, inl, inr, sym, ap}
 use Rattle.std.proofs.lemmas.List.{nil_from_length}
 use Rattle.ed_apply.specs.Edits.{file_lines}
 use Rattle.ed_apply.specs.Grammar.{State, without_feed, on_line, at_end, and_then, scanned}
-use Rattle.ed_apply.specs.declared.reading.Phase.{Phase}
-use Rattle.ed_apply.specs.declared.script.Hunk.{Hunk}
 use Rattle.ed_apply.specs.declared.script.Script.{Script}
 use Rattle.ed_apply.specs.declared.error.ScriptError.{ScriptError}
 use Rattle.ed_apply.specs.declared.error.ScriptError.TheVariants.{NoMemory}

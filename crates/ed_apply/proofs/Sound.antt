@@ -1,12 +1,11 @@
 -- The scripts that are read are sound: each step keeps the hunks so far sound, the open one included.
-use Rattle.std.proofs.Common.{◌≡◌, ◌∙◌, ◌⊎◌, ℕ, zero, suc, ◌+◌, ◌-◌, ◌<◌, ◌≤◌, ◌==◌, ◌&&◌, nat_le, Bool, true, false, List, [], ◌∷◌, ◌++◌, length, take, codes, Option, Some, None, Result, Ok, Err, inl, inr, refl, sym, ap, subst, append_assoc, arith}
-use Rattle.std.specs.Prelude.{All, IfOk, if◌then◌else◌, bytes_eq, slice_get, slice_index}
+use Rattle.std.proofs.Common.{◌≡◌, ◌∙◌, ◌⊎◌, ℕ, suc, ◌+◌, ◌-◌, ◌≤◌, ◌==◌, ◌&&◌, nat_le, Bool, true, false, List, [], ◌∷◌, ◌++◌, length, take, codes, Option, Some, None, Result, Ok, Err, inl, inr, refl, sym, ap, subst, append_assoc, arith}
+use Rattle.std.specs.Prelude.{All, IfOk, bytes_eq, slice_get, slice_index}
 use Rattle.std.proofs.lemmas.Bool.{cases_Bool}
 use Rattle.std.proofs.lemmas.Bool.Decides.{nat_tests}
-use Rattle.std.proofs.lemmas.List.{drop_all}
-use Rattle.std.proofs.lemmas.List.Elements.{All-push, All-pop, All-nil, All-cons, All-append}
+use Rattle.std.proofs.lemmas.List.Elements.{All-push, All-pop, All-nil}
 use Rattle.ed_apply.specs.Edits.{IsWholeLines, IsSoundHunk, GoesDown, IsSound}
-use Rattle.ed_apply.specs.Grammar.{State, line_number, added, changed, range_of, lettered, command_of, goes_down, last_of, hunk_of, begun, after_command, on_command, with_line, with_dot, on_text, on_line, at_end, and_then, scanned, script_of, start, without_feed}
+use Rattle.ed_apply.specs.Grammar.{State, line_number, added, changed, range_of, lettered, command_of, goes_down, last_of, hunk_of, begun, after_command, on_command, with_dot, on_text, on_line, at_end, and_then, scanned, script_of, start, without_feed}
 use Rattle.ed_apply.specs.Edits.{file_lines}
 use Rattle.ed_apply.specs.declared.command.Command.{Command}
 use Rattle.ed_apply.specs.declared.reading.Phase.{Phase}

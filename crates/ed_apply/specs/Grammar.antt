@@ -1,6 +1,6 @@
 -- Edit scripts as `diff --ed` writes them (the commands a, c and d of ed, POSIX): what the lines of one say, or the line
 -- at which they are refused.
-use Rattle.std.specs.Prelude.{ℕ, ◌+◌, ◌-◌, ◌==◌, ◌&&◌, nat_le, nat_lt, Bool, true, false, if◌then◌else◌, List, [], ◌∷◌, ◌++◌, length, map, take, drop, codes, bytes_eq, slice_get, slice_index, Option, Some, None, Result, Ok, Err}
+use Rattle.std.specs.Prelude.{ℕ, ◌+◌, ◌-◌, ◌==◌, ◌&&◌, nat_le, Bool, true, false, if◌then◌else◌, List, [], ◌∷◌, ◌++◌, length, take, codes, bytes_eq, slice_get, slice_index, Option, Some, None, Result, Ok, Err}
 use Rattle.std.specs.List.{list_any, before_first, after_first}
 use Rattle.acq_base.specs.Digits.{number_of_digits}
 use Rattle.ed_apply.specs.Edits.{file_lines}

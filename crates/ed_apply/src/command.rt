@@ -1,3 +1,5 @@
+//! The command of a hunk. Nothing here takes memory.
+
 ghost use Rattle.std.specs.Prelude.{◌≡◌};
 ghost use Rattle.ed_apply.specs.Grammar.{both, command_of, lettered, added, changed, range_of, line_number};
 

@@ -1,3 +1,5 @@
+//! The lines of a text. Nothing here takes memory.
+
 ghost use Rattle.std.specs.Prelude.{◌≡◌, ◌==◌, ◌<◌, ◌≤◌, ◌∷◌, length, take, drop};
 ghost use Rattle.std.specs.List.{position_or_len};
 ghost use Rattle.ed_apply.specs.Edits.{file_lines};

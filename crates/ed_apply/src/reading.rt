@@ -1,3 +1,5 @@
+//! Reading a script line by line. It takes memory for the hunks and their texts.
+
 ghost use Rattle.std.specs.Prelude.{◌≡◌, ◌⊎◌, ◌++◌, ◌∷◌, [], Err, IfOk};
 ghost use Rattle.ed_apply.specs.Edits.{IsSound};
 ghost use Rattle.ed_apply.specs.Grammar.{script_of, at_end, on_line, on_text, on_command, goes_down, last_of, with_line, with_dot};

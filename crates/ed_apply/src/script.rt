@@ -1,3 +1,5 @@
+//! A script and its hunks.
+
 use acq_base::{Bytes, NoMemory, Row, TryCopy};
 use std::alloc::Global;
 

@@ -1,3 +1,5 @@
+//! Whether pieces are the wanted file. It touches nothing and takes no memory.
+
 ghost use Rattle.std.specs.Prelude.{◌≡◌, ◌↔◌, ℕ, ◌+◌, List, [], ◌++◌, option_and_then};
 ghost use Rattle.acq_base.specs.Sum.{Fits, sum_of};
 ghost use Rattle.hash_gate.specs.Pieces.{HasTaken, count_within};

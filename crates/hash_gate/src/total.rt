@@ -1,3 +1,5 @@
+//! The sum of pieces. It touches nothing and takes no memory.
+
 ghost use Rattle.std.specs.Prelude.{◌≡◌, ◌+◌, ◌<◌, ◌^◌, ℕ, List, [], ◌++◌, length};
 ghost use Rattle.acq_base.specs.Sum.{sum_of};
 ghost use Rattle.hash_gate.specs.Pieces.{HasSummed, size_so_far};

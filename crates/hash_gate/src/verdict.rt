@@ -1,3 +1,5 @@
+//! What is told of a file beside the wanted sum.
+
 use acq_base::Sha;
 
 /// How a file compares with the sum that it should have: the length counts first, then the digest.

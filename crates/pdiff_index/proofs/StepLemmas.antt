@@ -1,6 +1,6 @@
 -- The lines of a field taken one after another: the steps so far, and those below.
-use Rattle.std.proofs.Common.{◌≡◌, ◌∙◌, ℕ, suc, ◌+◌, ◌<◌, ◌≤◌, Bool, true, false, not, ◌&&◌, List, [], ◌∷◌, ◌++◌, length, take, drop, get_or, drop-cons, Option, Some, None, Result, Ok, Err, refl, sym, ap, arith}
-use Rattle.std.specs.Prelude.{is_some, option_to_list, if◌then◌else◌}
+use Rattle.std.proofs.Common.{◌≡◌, ◌∙◌, ℕ, suc, ◌+◌, ◌<◌, ◌≤◌, Bool, true, false, not, ◌&&◌, List, [], ◌∷◌, ◌++◌, length, drop, get_or, drop-cons, Option, Some, None, Ok, Err, refl, sym, ap, arith}
+use Rattle.std.specs.Prelude.{is_some, option_to_list}
 use Rattle.std.proofs.lemmas.List.{drop_all}
 use Rattle.acq_base.specs.declared.sum.Sum.{Sum}
 use Rattle.pdiff_index.specs.Sums.{sum_beside}
@@ -44,9 +44,9 @@ goes_on once first lines i at steps sum sum' line step h within here some may be
     let taken = below-cons once steps at line (drop (suc i) lines) (ap (may_stand once steps) (sym some) ∙ may_stand-same once steps sum step h.sums ∙ may) in
     record {
       rest =
-        ap (λ k. steps_below once (steps ++ step ∷ []) (line_below at) (drop k lines)) next_place
-        ∙ ap (λ o. steps_below once (steps ++ option_to_list o) (line_below at) (drop (suc i) lines)) some
-        ∙ sym taken ∙ ap (steps_below once steps at) (sym (cut lines i line within here)) ∙ h.rest;
+          ap (λ k. steps_below once (steps ++ step ∷ []) (line_below at) (drop k lines)) next_place
+          ∙ ap (λ o. steps_below once (steps ++ option_to_list o) (line_below at) (drop (suc i) lines)) some
+          ∙ sym taken ∙ ap (steps_below once steps at) (sym (cut lines i line within here)) ∙ h.rest;
       sums = λ is name. beside is name ∙ ap (λ o. sum_beside o step name) (h.sums is name) ∙ sym (sum_named-push steps step name);
     }
 

@@ -1,6 +1,6 @@
 -- Patch Indexes (`PATH.diff/Index` of a Debian repository): what the bytes of one say, or the line at which they are
 -- refused.
-use Rattle.std.specs.Prelude.{ℕ, ◌+◌, ◌-◌, ◌^◌, ◌==◌, ◌&&◌, ◌||◌, nat_le, nat_eq, min, not, Bool, true, false, if◌then◌else◌, List, [], ◌∷◌, ◌++◌, length, codes, bytes_eq, Option, Some, None, option_to_list, is_some, Result, Ok, Err}
+use Rattle.std.specs.Prelude.{ℕ, ◌+◌, ◌-◌, ◌^◌, ◌==◌, ◌&&◌, ◌||◌, nat_le, min, not, Bool, true, false, if◌then◌else◌, List, [], ◌∷◌, ◌++◌, length, codes, bytes_eq, Option, Some, None, option_to_list, is_some, Result, Ok, Err}
 use Rattle.std.specs.List.{list_all, list_any}
 use Rattle.std.specs.Result.{result_ok}
 use Rattle.acq_base.specs.Sum.{sum_of_texts}
@@ -135,10 +135,10 @@ index_of_parts current history patches merged =
 unfoldable pub index_of_fields : List Field → Result Index IndexError
 index_of_fields fields =
     index_of_parts
-      (current_part (field_named fields (codes "SHA256-Current")))
-      (steps_part false (field_named fields (codes "SHA256-History")))
-      (steps_part true (field_named fields (codes "SHA256-Patches")))
-      (merged_of (field_named fields (codes "X-Patch-Precedence")))
+    (current_part (field_named fields (codes "SHA256-Current")))
+    (steps_part false (field_named fields (codes "SHA256-History")))
+    (steps_part true (field_named fields (codes "SHA256-Patches")))
+    (merged_of (field_named fields (codes "X-Patch-Precedence")))
 
 -- there is one paragraph
 unfoldable pub index_of_paragraphs : List Paragraph → Result Index IndexError

@@ -1,3 +1,5 @@
+//! What is answered where bytes are no Index, and where no patches lead to the wanted file.
+
 use acq_base::{NoMemory as OutOfMemory, Refusal, Text};
 use deb822_text::TextError;
 use std::error::Error;

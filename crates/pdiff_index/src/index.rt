@@ -1,3 +1,5 @@
+//! A patch Index, and the steps that it lists.
+
 use acq_base::{NoMemory, Row, Sum, Text, TryCopy};
 use std::alloc::Global;
 

@@ -1,3 +1,5 @@
+//! The patches that lead from an installed file to the wanted one. What takes memory is handed an allocator.
+
 ghost use Rattle.std.specs.Prelude.{◌≡◌, ◌⊎◌, Err, IfOk, option_copied};
 ghost use Rattle.std.specs.List.{sum_by};
 ghost use Rattle.pdiff_index.specs.Chain.{links, links_from, limited, patches_of, entry_on, lines_used, within, are_too_many, are_too_large};

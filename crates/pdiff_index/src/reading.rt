@@ -1,3 +1,5 @@
+//! Reading an Index. What takes memory is handed an allocator.
+
 ghost use Rattle.std.specs.Prelude.{◌≡◌, ◌⊎◌, Err, IfOk, option_copied};
 ghost use Rattle.pdiff_index.specs.Index.{index_of, index_of_paragraphs, index_of_fields, current_part, current_of, current_from, sum_of_line, steps_part, merged_of, are_merged, refused_line, lesser, index_of_parts, completed};
 

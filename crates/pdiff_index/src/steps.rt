@@ -1,3 +1,5 @@
+//! Reading the lines of a history and of a list of patches. What takes memory is handed an allocator.
+
 ghost use Rattle.std.specs.Prelude.{◌≡◌, ◌&&◌, ℕ, List, [], not, is_some, IsTrue, IfOk, OnOk};
 ghost use Rattle.std.specs.BTreeMap.{get};
 ghost use Rattle.std.specs.Cmp.Lexicographic.{slice_cmp};

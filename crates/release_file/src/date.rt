@@ -1,3 +1,5 @@
+//! Dates, read from texts. It touches nothing and takes no memory.
+
 ghost use Rattle.std.specs.Prelude.{◌≡◌, ◌≢◌, ℕ, ◌<◌, ◌≤◌, ◌^◌, ◌∷◌, [], pos, slice_get, take, All, MatchOption, IfSome, IfNone};
 ghost use Rattle.std.specs.Int.{IsInRange};
 ghost use Rattle.jiff.specs.Words.{IsWithin};

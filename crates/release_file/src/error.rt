@@ -1,3 +1,5 @@
+//! Why bytes are no Release. It touches nothing and takes no memory.
+
 use acq_base::{NoMemory as OutOfMemory, Refusal};
 use clear_text::FrameError;
 use deb822_text::TextError;

@@ -1,3 +1,5 @@
+//! Dates of a Release, judged at a moment. It touches nothing and takes no memory.
+
 ghost use Rattle.std.specs.Prelude.{◌≡◌, ◌↔◌, Option, ℤ, Ok, IsOk};
 ghost use Rattle.acq_base.specs.declared.settings.Dates.{Dates};
 ghost use Rattle.release_file.specs.declared.release.Release.{Release};

@@ -1,3 +1,5 @@
+//! Releases, read from bytes. It may take memory, and touches nothing else.
+
 ghost use Rattle.std.specs.Prelude.{◌≡◌, ◌≢◌, ◌⊎◌, ◌↔◌, ℕ, List, ◌∷◌, ◌++◌, Some, Err, IfOk, OnOk, Contains, AllPairs, option_copied};
 ghost use Rattle.std.specs.List.{join_with_byte};
 ghost use Rattle.acq_base.specs.declared.sum.Sum.{Sum};

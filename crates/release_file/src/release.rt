@@ -1,3 +1,5 @@
+//! What a Release says. It may take memory for copies, and touches nothing else.
+
 use acq_base::{Row, Sum, Text};
 
 /// What a Release says of itself. A text of several lines has a line feed between each two.

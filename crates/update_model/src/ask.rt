@@ -1,3 +1,5 @@
+//! What is asked at one URI, and how it ended.
+
 use acq_base::{Bytes, NoMemory, Sum, TryCopy, Uri};
 use std::alloc::Global;
 

@@ -1,3 +1,5 @@
+//! Why a source keeps its set.
+
 use acq_base::{Sum, Text};
 use hash_gate::Verdict;
 use release_file::{Head, HeadField};

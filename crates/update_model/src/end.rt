@@ -1,3 +1,5 @@
+//! What asks come to.
+
 use crate::{Body, Cause};
 
 /// What the asks for a Release or a list come to.

@@ -1,3 +1,5 @@
+//! What the log keeps of asks.
+
 use acq_base::{Sum, Text, Uri};
 
 /// An answer as the log keeps it.

@@ -1,3 +1,5 @@
+//! A list that a Release names.
+
 use acq_base::{ListName, NoMemory, Sum, Text, TryCopy, Uri};
 use std::alloc::Global;
 

@@ -1,3 +1,5 @@
+//! One file, asked of a method.
+
 ghost use Rattle.std.specs.Prelude.{◌≡◌, ◌≤◌, IfOk, Option};
 ghost use Rattle.acq_base.specs.Uri.{IsSound};
 ghost use Rattle.update_program.specs.Outcome.{release_job, list_job, release_end as ended_release, list_end as ended_list};
@@ -56,7 +58,6 @@ fn finish<M: Method>(
     }
 }
 
-#[tactic(auto, using(crate::proofs::HeardLemmas::hearing))]
 fn ask_release<M: Method>(alloc: Global, source: &Source, method: &mut M) -> Result<End, NoMemory>
     requires { IsSound source.now.release }
     ensures count { M.faults method.old ≤ M.faults method.new }
@@ -73,7 +74,6 @@ fn ask_release<M: Method>(alloc: Global, source: &Source, method: &mut M) -> Res
     release_end(alloc, reply)
 }
 
-#[tactic(auto, using(crate::proofs::HeardLemmas::hearing))]
 fn ask_list<M: Method>(
     alloc: Global,
     target: &Target,

@@ -1,3 +1,5 @@
+//! What a source comes to, and why it is kept.
+
 use acq_base::{Bytes, Sha, Sum, Text};
 
 /// How the bytes of a file compare with the sum that names it: the length first, then the digest (FIPS 180-4).

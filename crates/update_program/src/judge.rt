@@ -1,3 +1,5 @@
+//! From replies to an outcome. It may take memory, and touches nothing else.
+
 ghost use Rattle.std.specs.Prelude.{◌≡◌, ◌≢◌, IfOk};
 ghost use Rattle.update_program.specs.Outcome.{verdict_of as compared, release_end as ended_release, list_end as ended_list, served_end as ended_served, stage_of, read_stage as staged, judged_stage as staged_judgement, installed_date as date_of, set_of as made_of, method_cause};
 ghost use Rattle.release_file.specs.Release.{release_of};

@@ -1,3 +1,5 @@
+//! The printed line of a source. It may take memory, and touches nothing else.
+
 ghost use Rattle.std.specs.Prelude.{◌≡◌, ◌++◌, codes, OnOk, IfOk};
 ghost use Rattle.hex.specs.Hex.{encode_lower};
 ghost use Rattle.std.specs.Fmt.{decimal, signed_decimal};

@@ -1,3 +1,5 @@
+//! The words of the program. It may take memory, and touches nothing else.
+
 ghost use Rattle.std.specs.Prelude.{◌≡◌, ◌≤◌, ◌∷◌, [], map, length, IfOk, IfSome, string_bytes};
 ghost use Rattle.std.specs.List.{list_all, position_or_len};
 ghost use Rattle.std.specs.Str.{str_to_ascii_lowercase};

@@ -1,4 +1,4 @@
-use Rattle.std.proofs.Common.{◌≡◌, ◌∙◌, sym, ap}
+use Rattle.std.proofs.Common.{◌∙◌, sym, ap}
 use Rattle.pdiff_index.specs.Sums.{sum_beside}
 use Rattle.pdiff_index.proofs.SumLemmas.{sum_named-more}
 use Rattle.pdiff_index.proofs.sums.sums_by_name.Goals as goal

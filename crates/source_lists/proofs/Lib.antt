@@ -1,0 +1,7 @@
+pub mod Cuts
+pub mod Loops
+pub mod Laws
+pub mod NextWords
+pub mod Replaced
+pub mod Choices
+pub mod ReadLines
