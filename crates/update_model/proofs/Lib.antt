@@ -2,11 +2,15 @@ pub mod Sums
 pub mod Heads
 pub mod Routes
 pub mod Mirrors
+pub mod Ends
+pub mod Faults
 pub mod Fronts
 pub mod Counts
 pub mod Obtained
 pub mod Sets
 pub mod Sources
+pub mod FaultySets
+pub mod PatchUris
 pub mod Nexts
 pub mod Carried
 pub mod Existence

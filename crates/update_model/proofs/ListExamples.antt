@@ -2,6 +2,7 @@
 use Rattle.std.proofs.Common.{◌≡◌, ℕ, List, [], ◌∷◌, true, false, Some, None, refl, codes}
 use Rattle.acq_base.specs.Sum.{sum_of}
 use Rattle.acq_base.specs.declared.sum.Sum.{Sum}
+use Rattle.acq_base.specs.declared.uri.Uri.{Uri}
 use Rattle.by_hash.specs.Candidates.{by_hash_uri}
 use Rattle.hash_gate.specs.declared.verdict.Verdict.TheVariants.{Long, Short}
 use Rattle.hex.specs.Hex.{encode_with}
@@ -16,7 +17,7 @@ use Rattle.update_model.specs.declared.ask.Closed.TheVariants as closed
 use Rattle.update_model.specs.declared.ask.Ending.TheVariants as endings
 use Rattle.update_model.specs.declared.cause.Cause.TheVariants as causes
 use Rattle.update_model.specs.declared.end.End.TheVariants.{Got, Ended}
-use Rattle.update_model.proofs.Sample.{target, source, settings, sum_as, release, list, list_path, list_uri, serves, asks, plain_from, hashed_from}
+use Rattle.update_model.proofs.Sample.{at, target, source, settings, sum_as, release, list, list_path, list_uri, serves, asks, plain_from, hashed_from}
 
 abbrev HasSum : List ℕ → ℕ → List ℕ → Type 0
 HasSum bytes size digest = same_sum (sum_of bytes) (sum_as size digest) ≡ true
@@ -101,6 +102,9 @@ shorter : (digest : List ℕ) → asks (serves (codes "a")) (codes "ab") (target
 unfolding by_hash_uri listed_sum
 shorter digest = refl
 
+abbrev hashed_uri : Uri
+hashed_uri = at (codes "/d/dists/s/main/binary-amd64/by-hash/SHA256/ab")
+
 abbrev heard : Closed → Position
 heard c = record { uri = list_uri; told = record { lane = 0; closed = c } ∷ [] }
 
@@ -141,3 +145,12 @@ retried : (s : Sum) → same_sum s (sum_as 3 (171 ∷ [])) ≡ true
     (Got (Staged s))
 unfolding by_hash_uri listed_sum
 retried s has = (refl, (refl, (refl, (refl, refl))), rw has (refl, refl))
+
+-- where nothing answers under the digest, the list's own URI is asked, and the list is had: faults notwithstanding
+own_uri : (s : Sum) → same_sum s (sum_as 3 (171 ∷ [])) ≡ true
+    → IsRoute 0 (target_walk None 0 (list true (171 ∷ [])))
+    (record { ask = list_ask hashed_uri (list true (171 ∷ [])) 0; positions = record { uri = hashed_uri; told = record { lane = 0; closed = closed.Fault 0 1 } ∷ [] } ∷ []; ending = endings.Dead 0 0 1 }
+    ∷ record { ask = list_ask list_uri (list true (171 ∷ [])) 0; positions = heard (closed.Served (Staged s)) ∷ []; ending = endings.Served (Staged s) } ∷ [])
+    (Got (Staged s))
+unfolding by_hash_uri listed_sum encode_with
+own_uri s has = (refl, (refl, (refl, (refl, refl))), (refl, (refl, (refl, (refl, refl))), rw has (refl, refl)))

@@ -82,7 +82,7 @@ no_moves uri to TooBig e = cc
 no_moves uri to (Garbled at) e = cc
 no_moves uri to (Fault from until) e = cc
 
-abbrev AgreesAt : World → List ℕ → Ask → List Position → Type 0
+abbrev pub AgreesAt : World → List ℕ → Ask → List Position → Type 0
 AgreesAt world part ask = Each (λ p. Each (λ t. Says t.closed (answered part ask (answer_at world p.uri))) p.told)
 
 abbrev AllLive : List Position → Type 0
@@ -323,7 +323,7 @@ index-law world part w other x y file (Some sum) h =
 
 -- ---- a list and a Release
 
-target-law : (world : World) (installed : Option (List ℕ)) (part : List ℕ) (w : Wanted)
+pub target-law : (world : World) (installed : Option (List ℕ)) (part : List ℕ) (w : Wanted)
     → by_sum (over world part (target_walk installed (length part) w)) ≡ by_sum (obtain world installed part w)
 target-law world None part w = resume-law world part w
 target-law world (Some file) part w =
@@ -374,7 +374,7 @@ reach-undead : (left : ℕ) (world : World) (uri : Uri) (max : ℕ) → Undead (
 reach-undead zero world uri max = followed-undead (way zero uri (within max (answer_at world uri))) (λ to. endings.Lost) (way-undead zero uri (within max (answer_at world uri))) (λ to. tt)
 reach-undead (suc left) world uri max = followed-undead (way (suc left) uri (within max (answer_at world uri))) (λ to. reach_by left world to max) (way-undead (suc left) uri (within max (answer_at world uri))) (λ to. reach-undead left world to max)
 
-release-law : (world : World) (source : Source) → over world [] (release_walk source) ≡ obtain_release world source
+pub release-law : (world : World) (source : Source) → over world [] (release_walk source) ≡ obtain_release world source
 release-law world source =
     one (reach world (in_release_uri source) release_limit) (reach-plain 10 world (in_release_uri source) release_limit) (reach-undead 10 world (in_release_uri source) release_limit)
   where

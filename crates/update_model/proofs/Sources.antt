@@ -1,9 +1,12 @@
 -- Routes of a source that agree with a mirror come to its new set.
-use Rattle.std.proofs.Common.{◌≡◌, ℕ, List, [], ◌∷◌, map, Result, Ok, refl, sym, ap, ◌∙◌, subst}
+use Rattle.std.proofs.Common.{◌≡◌, ℕ, ℤ, List, [], ◌∷◌, map, Result, Ok, refl, sym, ap, ◌∙◌, subst}
 use Rattle.std.specs.List.{AllByRecursion as Each}
 use Rattle.acq_base.specs.Mirror.{World}
+use Rattle.acq_base.specs.declared.plan.Source.{Source}
+use Rattle.acq_base.specs.declared.settings.Settings.{Settings}
+use Rattle.release_file.specs.declared.changing.Change.{Change}
 use Rattle.update_model.specs.Laws.{by_sum, IsHad, file_of, IsFileOf, NewSetsFit, ListEnd, AreRoutesOver, RoutesMakeNewSets, RoutesAreEnough}
-use Rattle.update_model.specs.Outcomes.{Admitted, Staying, Directory, Parts, admitted, wanted_by, all_had, outcome, obtained}
+use Rattle.update_model.specs.Outcomes.{Admitted, Staying, Directory, Parts, admitted, wanted_by, all_had, outcome, obtained, new_set}
 use Rattle.update_model.specs.Releases.{obtain_release}
 use Rattle.update_model.specs.declared.wanted.Wanted.{Wanted}
 use Rattle.update_model.specs.declared.end.End.{End}
@@ -28,12 +31,16 @@ ends-by-sum world dir parts retries (l ∷ lists) h =
     ap (λ x. x ∷ map by_sum (map (λ l. l.end) lists)) e
     ∙ ap (λ xs. by_sum (obtained world dir parts l.wanted) ∷ xs) (ends-by-sum world dir parts retries lists h.1)
 
-pub routes-make : RoutesMakeNewSets
-routes-make world dir parts source settings change now retries trails r lists route agrees lives names each =
-    let e : r ≡ obtain_release world source = releases-end world source retries trails r route agrees lives in
+-- ends that are the mirror's by sum make what it has
+pub ends-make : (world : World) (dir : Directory) (parts : Parts) (source : Source) (settings : Settings) (change : Change) (now : ℤ) (r : End) (lists : List ListEnd)
+    → r ≡ obtain_release world source
+    → map (λ l. l.wanted) lists ≡ wanted_by source settings (admitted r (dir source.release_name.0) settings change now)
+    → map by_sum (map (λ l. l.end) lists) ≡ map by_sum (map (obtained world dir parts) (map (λ l. l.wanted) lists))
+    → outcome r (map (λ l. l.end) lists) (dir source.release_name.0) settings change now ≡ new_set world dir parts source settings change now
+ends-make world dir parts source settings change now r lists e names ends =
     let have : List End = map (λ (l : ListEnd). l.end) lists in
     let want : List End = map (obtained world dir parts) (wanted_by source settings (admitted r (dir source.release_name.0) settings change now)) in
-    let f : map by_sum have ≡ map by_sum want = ends-by-sum world dir parts retries lists each ∙ ap (λ ws. map by_sum (map (obtained world dir parts) ws)) names in
+    let f : map by_sum have ≡ map by_sum want = ends ∙ ap (λ ws. map by_sum (map (obtained world dir parts) ws)) names in
     let g : all_had have ≡ all_had want = all-by-sum have ∙ ap all_had f ∙ sym (all-by-sum want) in
     same have want g
     ∙ ap (λ x. outcome x (map (obtained world dir parts) (wanted_by source settings (admitted x (dir source.release_name.0) settings change now))) (dir source.release_name.0) settings change now) e
@@ -41,6 +48,11 @@ routes-make world dir parts source settings change now retries trails r lists ro
     same : (have want : List End) → all_had have ≡ all_had want
         → outcome r have (dir source.release_name.0) settings change now ≡ outcome r want (dir source.release_name.0) settings change now
     same have want g = rw g refl
+
+pub routes-make : RoutesMakeNewSets
+routes-make world dir parts source settings change now retries trails r lists route agrees lives names each =
+    ends-make world dir parts source settings change now r lists (releases-end world source retries trails r route agrees lives) names
+    (ends-by-sum world dir parts retries lists each)
 
 pub routes-enough : RoutesAreEnough
 routes-enough world other dir parts source settings change now retries trails r lists route agrees other_agrees lives names each other_each =

@@ -1,14 +1,16 @@
 -- What the laws of this crate say.
-use Rattle.std.specs.Prelude.{◌≡◌, ◌≤◌, ◌+◌, ◌*◌, ◌↔◌, ℕ, ℤ, List, [], ◌∷◌, ◌++◌, Any, Contains, length, map, true, Option, Some, None, option_and_then, Ok, Err}
+use Rattle.std.specs.Prelude.{◌≡◌, ◌≤◌, ◌+◌, ◌*◌, ◌↔◌, ℕ, ℤ, List, [], ◌∷◌, ◌++◌, Any, Contains, length, map, true, Option, Some, None, option_and_then, Ok, Err, IsTrue}
 use Rattle.std.specs.List.{flat_map, sum_by, AllByRecursion as Each}
 use Rattle.std.specs.Option.{option_map_or}
 use Rattle.acq_base.specs.Mirror.{World}
 use Rattle.acq_base.specs.Plan.{plan_names}
 use Rattle.acq_base.specs.Sum.{Fits}
+use Rattle.acq_base.specs.Uri.{IsSound, list_name, uri_text}
 use Rattle.acq_base.specs.declared.plan.Plan.{Plan}
 use Rattle.acq_base.specs.declared.plan.Source.{Source}
 use Rattle.acq_base.specs.declared.settings.Settings.{Settings}
 use Rattle.acq_base.specs.declared.sum.Sum.{Sum}
+use Rattle.pdiff_index.specs.Index.{is_name}
 use Rattle.release_file.specs.Release.{release_of}
 use Rattle.release_file.specs.declared.changing.Change.{Change}
 use Rattle.update_model.specs.Files.{served, fitting, sum_of_body}
@@ -20,7 +22,7 @@ use Rattle.update_model.specs.Points.{start, run, ran, AsksFirst}
 use Rattle.update_model.specs.Releases.{IsAdmissible, installed_release, obtain_release}
 use Rattle.update_model.specs.Trails.{Told, Trail, Agrees, Lives, entries}
 use Rattle.update_model.specs.Walks.{Walk, IsRoute, target_walk, release_walk}
-use Rattle.update_model.specs.Wanted.{chain}
+use Rattle.update_model.specs.Wanted.{chain, patch_uri}
 use Rattle.update_model.specs.declared.wanted.Wanted.{Wanted}
 use Rattle.update_model.specs.declared.ask.Body.TheVariants.{Bytes, Staged}
 use Rattle.update_model.specs.declared.end.End.{End}
@@ -105,6 +107,20 @@ SourcesAskLittle =
     → IsRoute retries (release_walk source) trails end
     → Each (λ l. (e : End) × IsRoute retries (target_walk l.installed l.part l.wanted) l.trails e) lists
     → length (entries n path trails ++ lists_entries n lists) ≤ 11 * (retries + 1) * (2 + links_of_lists lists)
+
+-- ---- where patches lie
+
+-- the patch Index of a list, and each patch that it may name, lies at a sound URI where that isn't too long
+abbrev pub PatchUrisAreSound : Type 0
+PatchUrisAreSound =
+    (w : Wanted) (name : List ℕ) → IsSound w.uri → IsTrue (is_name name) → length (uri_text (patch_uri w name)) ≤ 16384
+    → IsSound (patch_uri w name)
+
+-- as it isn't where the list is installed under a name of at most 240 bytes
+abbrev pub PatchUrisAreShort : Type 0
+PatchUrisAreShort =
+    (w : Wanted) (name : List ℕ) → length (list_name w.uri) ≤ 240 → IsTrue (is_name name)
+    → length (uri_text (patch_uri w name)) ≤ 16384
 
 -- ---- what is obtained
 

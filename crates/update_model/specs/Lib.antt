@@ -15,3 +15,4 @@ pub mod Mirrored
 pub mod Points
 -- what the laws of this crate say:
 pub mod Laws
+pub mod Faults

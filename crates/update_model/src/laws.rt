@@ -1,6 +1,9 @@
 //! What holds of the definitions of `specs/`, whatever mirrors hold and methods answer.
 
+ghost use Rattle.std.specs.Prelude.{codes, IsTrue};
+ghost use Rattle.pdiff_index.specs.Index.{is_name};
 ghost use Rattle.update_model.specs.Carried.{DeedsLeadToNext, NextIsThere};
+ghost use Rattle.update_model.specs.Faults as fault;
 ghost use Rattle.update_model.specs.Laws as law;
 
 use release_file::judged_is_admissible;
@@ -26,6 +29,13 @@ pub fn routes_ask_little()
     ensures sources { law.SourcesAskLittle }
 {}
 
+/// A list's patch Index, and each patch that it may name, lies at a sound URI where the list does.
+pub fn patches_lie_at_sound_uris()
+    ensures sound { law.PatchUrisAreSound }
+    ensures short { law.PatchUrisAreShort }
+    ensures index { IsTrue (is_name (codes "Index")) }
+{}
+
 /// The file that a list comes to is the one that the Release names. It has one exactly where the installed file, the
 /// patched one, the resumed one or one that is reached is that; patches and partial files do no harm.
 pub fn obtained_files_fit()
@@ -49,6 +59,24 @@ pub fn new_sets_are_admissible()
 pub fn routes_make_new_sets()
     ensures made { law.RoutesMakeNewSets }
     ensures enough { law.RoutesAreEnough }
+{}
+
+/// Whatever is answered, with a mirror behind the answers or without: a list that has a file has the one that the Release
+/// names, a Release is a file that came, and a new set is that of an admissible Release, with all the lists that it names.
+pub fn routes_end_as_listed()
+    ensures lists { fault.ListsEndAsListed }
+    ensures releases { fault.ReleasesEndAsServed }
+    ensures sets { fault.SetsAreAsListed }
+{
+    judged_is_admissible();
+}
+
+/// Faults of methods put nothing else in a file's place: over routes that agree with a mirror, whichever asks were never
+/// answered, a file is the one that is obtained from the mirror, and a new set is the mirror's.
+pub fn faults_change_no_file()
+    ensures lists { fault.ListsHadAreObtained }
+    ensures releases { fault.ReleasesHadAreObtained }
+    ensures sets { fault.SetsMadeAreNew }
 {}
 
 /// What a run leaves is determined, bytes of equal sums aside. Where clean-up is on and no source keeps its set for a
