@@ -11,6 +11,8 @@ pub mod Sets
 pub mod Sources
 pub mod FaultySets
 pub mod PatchUris
+pub mod Names
+pub mod Asks
 pub mod Nexts
 pub mod Carried
 pub mod Existence

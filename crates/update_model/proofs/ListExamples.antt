@@ -8,7 +8,7 @@ use Rattle.hash_gate.specs.declared.verdict.Verdict.TheVariants.{Long, Short}
 use Rattle.hex.specs.Hex.{encode_with}
 use Rattle.release_file.specs.Release.{listed_sum, same_sum}
 use Rattle.update_model.specs.Obtained.{obtain}
-use Rattle.update_model.specs.Trails.{Position}
+use Rattle.update_model.specs.Trails.{Position, Trail, Agrees, Lives}
 use Rattle.update_model.specs.Walks.{IsRoute, target_walk, list_ask}
 use Rattle.update_model.specs.Wanted.{want}
 use Rattle.update_model.specs.declared.ask.Body.TheVariants.{Bytes, Staged}
@@ -146,11 +146,19 @@ retried : (s : Sum) → same_sum s (sum_as 3 (171 ∷ [])) ≡ true
 unfolding by_hash_uri listed_sum
 retried s has = (refl, (refl, (refl, (refl, refl))), rw has (refl, refl))
 
--- where nothing answers under the digest, the list's own URI is asked, and the list is had: faults notwithstanding
-own_uri : (s : Sum) → same_sum s (sum_as 3 (171 ∷ [])) ≡ true
-    → IsRoute 0 (target_walk None 0 (list true (171 ∷ [])))
-    (record { ask = list_ask hashed_uri (list true (171 ∷ [])) 0; positions = record { uri = hashed_uri; told = record { lane = 0; closed = closed.Fault 0 1 } ∷ [] } ∷ []; ending = endings.Dead 0 0 1 }
-    ∷ record { ask = list_ask list_uri (list true (171 ∷ [])) 0; positions = heard (closed.Served (Staged s)) ∷ []; ending = endings.Served (Staged s) } ∷ [])
-    (Got (Staged s))
+-- Where nothing answers under the digest, the list's own URI is asked, and the list is had.
+abbrev own_trails : Sum → List Trail
+own_trails s =
+    record { ask = list_ask hashed_uri (list true (171 ∷ [])) 0; positions = record { uri = hashed_uri; told = record { lane = 0; closed = closed.Fault 0 1 } ∷ [] } ∷ []; ending = endings.Dead 0 0 1 }
+    ∷ record { ask = list_ask list_uri (list true (171 ∷ [])) 0; positions = heard (closed.Served (Staged s)) ∷ []; ending = endings.Served (Staged s) } ∷ []
+
+own_uri : (s : Sum) → same_sum s (sum_as 3 (171 ∷ [])) ≡ true → IsRoute 0 (target_walk None 0 (list true (171 ∷ []))) (own_trails s) (Got (Staged s))
 unfolding by_hash_uri listed_sum encode_with
 own_uri s has = (refl, (refl, (refl, (refl, refl))), (refl, (refl, (refl, (refl, refl))), rw has (refl, refl)))
+
+-- and these trails agree with the mirror, though not every position lives
+own_agrees : Agrees (serves (codes "abc")) [] (own_trails (sum_of (codes "abc")))
+own_agrees = (((tt, tt), tt), (((refl, tt), tt), tt))
+
+own_dead : Lives (own_trails (sum_of (codes "abc"))) → ⊥
+own_dead h = h.0.0

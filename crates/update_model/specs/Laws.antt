@@ -1,5 +1,5 @@
 -- What the laws of this crate say.
-use Rattle.std.specs.Prelude.{◌≡◌, ◌≤◌, ◌+◌, ◌*◌, ◌↔◌, ℕ, ℤ, List, [], ◌∷◌, ◌++◌, Any, Contains, length, map, true, Option, Some, None, option_and_then, Ok, Err, IsTrue}
+use Rattle.std.specs.Prelude.{◌≡◌, ◌≤◌, ◌+◌, ◌*◌, ◌↔◌, ℕ, ℤ, List, [], ◌∷◌, ◌++◌, Any, Contains, length, map, true, Option, Some, None, option_and_then, Ok, Err, IsTrue, IfSome}
 use Rattle.std.specs.List.{flat_map, sum_by, AllByRecursion as Each}
 use Rattle.std.specs.Option.{option_map_or}
 use Rattle.acq_base.specs.Mirror.{World}
@@ -108,7 +108,7 @@ SourcesAskLittle =
     → Each (λ l. (e : End) × IsRoute retries (target_walk l.installed l.part l.wanted) l.trails e) lists
     → length (entries n path trails ++ lists_entries n lists) ≤ 11 * (retries + 1) * (2 + links_of_lists lists)
 
--- ---- where patches lie
+-- ---- where lists and patches lie
 
 -- the patch Index of a list, and each patch that it may name, lies at a sound URI where that isn't too long
 abbrev pub PatchUrisAreSound : Type 0
@@ -121,6 +121,14 @@ abbrev pub PatchUrisAreShort : Type 0
 PatchUrisAreShort =
     (w : Wanted) (name : List ℕ) → length (list_name w.uri) ≤ 240 → IsTrue (is_name name)
     → length (uri_text (patch_uri w name)) ≤ 16384
+
+-- So each ask for a list is for a sound URI, whatever was answered before it and whatever an Index names, where the list's
+-- own URI and the one under its digest are sound and its name is short.
+abbrev pub AsksAreSound : Type 0
+AsksAreSound =
+    (installed : Option (List ℕ)) (part : ℕ) (w : Wanted) (retries : ℕ) (trails : List Trail) (end : End)
+    → IsSound w.uri → IfSome w.hashed IsSound → length (list_name w.uri) ≤ 240
+    → IsRoute retries (target_walk installed part w) trails end → Each (λ t. IsSound t.ask.uri) trails
 
 -- ---- what is obtained
 

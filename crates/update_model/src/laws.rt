@@ -29,11 +29,13 @@ pub fn routes_ask_little()
     ensures sources { law.SourcesAskLittle }
 {}
 
-/// A list's patch Index, and each patch that it may name, lies at a sound URI where the list does.
+/// A list's patch Index, and each patch that it may name, lies at a sound URI where the list does. So each ask for a
+/// list is for a sound URI, whatever is answered.
 pub fn patches_lie_at_sound_uris()
     ensures sound { law.PatchUrisAreSound }
     ensures short { law.PatchUrisAreShort }
     ensures index { IsTrue (is_name (codes "Index")) }
+    ensures asks { law.AsksAreSound }
 {}
 
 /// The file that a list comes to is the one that the Release names. It has one exactly where the installed file, the
@@ -61,8 +63,9 @@ pub fn routes_make_new_sets()
     ensures enough { law.RoutesAreEnough }
 {}
 
-/// Whatever is answered, with a mirror behind the answers or without: a list that has a file has the one that the Release
-/// names, a Release is a file that came, and a new set is that of an admissible Release, with all the lists that it names.
+/// Whatever is answered, with a mirror behind the answers or without: a list that has a file has the one that is
+/// listed, a Release is a file that came, and a new set is that of an admissible Release, with each list as this one
+/// names it.
 pub fn routes_end_as_listed()
     ensures lists { fault.ListsEndAsListed }
     ensures releases { fault.ReleasesEndAsServed }
@@ -71,8 +74,8 @@ pub fn routes_end_as_listed()
     judged_is_admissible();
 }
 
-/// Faults of methods put nothing else in a file's place: over routes that agree with a mirror, whichever asks were never
-/// answered, a file is the one that is obtained from the mirror, and a new set is the mirror's.
+/// Faults of methods put nothing else in a file's place: over routes that agree with a mirror, whichever asks were
+/// never answered, a file is the one that is obtained from the mirror, and a new set is the mirror's.
 pub fn faults_change_no_file()
     ensures lists { fault.ListsHadAreObtained }
     ensures releases { fault.ReleasesHadAreObtained }

@@ -1,4 +1,5 @@
 use Rattle.std.proofs.Common.{refl}
+use Rattle.update_model.proofs.Asks.{asks-sound}
 use Rattle.update_model.proofs.PatchUris.{patches-sound, patches-short}
 use Rattle.update_model.proofs.laws.patches_lie_at_sound_uris.Goals as goal
 
@@ -10,3 +11,6 @@ returns-clause-short c = patches-short
 
 pub returns-clause-index : goal.returns-clause-index
 returns-clause-index c = refl
+
+pub returns-clause-asks : goal.returns-clause-asks
+returns-clause-asks c = asks-sound
