@@ -42,11 +42,12 @@ pub fn check_partial(rt: &impl Files, alloc: Global, folder: &str) -> io::Result
     check_folder(&fs::symlink_metadata(rt, path.as_str())?)
 }
 
-/// Makes the changes of names in the folder and in `partial` lasting.
+/// Makes the changes of names in the folder and in `partial` lasting: the folder's first, so that a crash between the two
+/// never takes a file that moved out of `partial` from both.
 pub fn sync_names(rt: &impl Files<File = File>, alloc: Global, folder: &str) -> io::Result<()> {
     check_partial(rt, alloc, folder)?;
-    sync_folder(rt, partial_path(alloc, folder)?.as_str())?;
-    sync_folder(rt, folder)
+    sync_folder(rt, folder)?;
+    sync_folder(rt, partial_path(alloc, folder)?.as_str())
 }
 
 /// What is at a path, `None` where nothing is. No link is followed.

@@ -157,7 +157,7 @@ fn a_crash_leaves_just_the_images_that_are_listed(rt: HostRuntime) -> Result<(),
     let alloc = rt.alloc();
     let write = Call::Write(b'a', 0, b'X');
     // How many bytes of a choice a crash reads at most, the calls, and what it may leave.
-    let table: [(u16, &[Call], &[u8]); 14] = [
+    let table: [(u16, &[Call], &[u8]); 19] = [
         (6, &[], b"a=old;"),
         // The byte that is written may be any until the file is synced.
         (6, &[write], b"a=\0ld;|a=\x01ld;"),
@@ -196,6 +196,34 @@ fn a_crash_leaves_just_the_images_that_are_listed(rt: HostRuntime) -> Result<(),
             b"a=old;|b=old;|c=old;",
         ),
         (8, &[Call::Remove(b'a'), Call::Cut(b'a', 0)], b"a=old;||a=;"),
+        // The later of two may be done without the earlier.
+        (
+            8,
+            &[Call::Cut(b'b', 0), Call::Remove(b'a')],
+            b"a=old;|a=old;b=;||b=;",
+        ),
+        (
+            8,
+            &[Call::Rename(b'a', b'b'), Call::Cut(b'a', 0)],
+            b"a=old;|b=old;|a=;|a=;b=old;",
+        ),
+        // What isn't there is neither moved nor removed nor synced, and a sync of one file is none of another.
+        (
+            7,
+            &[Call::Rename(b'a', b'b'), Call::Remove(b'a')],
+            b"a=old;|b=old;",
+        ),
+        (
+            6,
+            &[Call::Cut(b'a', 1), Call::Sync(b'b')],
+            b"a=o;|a=ol;|a=old;",
+        ),
+        // A cut that takes nothing keeps what the file may still lose.
+        (
+            8,
+            &[Call::Write(b'a', 3, b'Y'), Call::Cut(b'a', 4)],
+            b"a=old;|a=old\0;|a=old\x01;",
+        ),
     ];
     for (width, calls, images) in table {
         assert!(rt; width <= 12);
