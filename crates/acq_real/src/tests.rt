@@ -1,6 +1,8 @@
 use crate::{RealClock, RealDisk, RealSink};
 use acq_base::{NoMemory, Row, Text};
-use acq_outside::{Clock, Disk, Fault, HoldError, OutError, Sink, is_name, read_whole, write_whole};
+use acq_outside::{
+    Clock, Disk, Fault, HoldError, OutError, Sink, is_name, read_whole, write_whole,
+};
 use std::alloc::Global;
 use std::os::unix::fs::symlink;
 use std::test::Fail;

@@ -94,7 +94,10 @@ fn keeps_a_source_whose_release_is_garbled(rt: HostRuntime) -> Result<(), Fail> 
         &mut out,
     );
     assert_eq!(rt; status, Status(100));
-    assert_eq!(rt; out.written().as_slice(), b"Keep http://m.example/d/ s later\n".as_slice());
+    assert_eq!(rt;
+        out.written().as_slice(),
+        b"Keep http://m.example/d/ s later\n".as_slice()
+    );
     Ok(())
 }
 
