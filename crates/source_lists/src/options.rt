@@ -69,20 +69,20 @@ fn with_choice(options: Options, choice: Choice) -> Options
         pdiffs,
     } = options;
     match choice {
-        Choice::Archs(archs) => Options {
-            archs: Some(archs),
+        Choice::Archs(said) => Options {
+            archs: Some(said),
             by_hash,
             pdiffs,
         },
-        Choice::Hashes(by_hash) => Options {
+        Choice::Hashes(said) => Options {
             archs,
-            by_hash: Some(by_hash),
+            by_hash: Some(said),
             pdiffs,
         },
-        Choice::Patches(pdiffs) => Options {
+        Choice::Patches(said) => Options {
             archs,
             by_hash,
-            pdiffs: Some(pdiffs),
+            pdiffs: Some(said),
         },
         Choice::Nothing => Options {
             archs,
