@@ -1,0 +1,5 @@
+mod Grouping
+mod Vectors
+mod GroupLemmas
+mod Clashes
+mod Refused

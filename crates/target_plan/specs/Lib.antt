@@ -1,0 +1,6 @@
+pub mod Refusals
+pub mod Groups
+pub mod Offers
+pub mod Drafts
+pub mod Seen
+pub mod Planning
