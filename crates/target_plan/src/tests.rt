@@ -22,7 +22,7 @@ type Line = (
 );
 
 /// Entries, and the names of each source's Release and lists, `h_` for `m_`, or the number of the refusal.
-static PLANS: [(&[Line], &str); 21] = [
+static PLANS: [(&[Line], &str); 22] = [
     (&[], ""),
     (
         &[("deb", "/d/", "s", "main", "")],
@@ -115,7 +115,7 @@ static PLANS: [(&[Line], &str); 21] = [
             ("deb", "/d/", "s", "main", ""),
             ("deb", "/d/", "t", "aaaaaaaaaaaaaaaaaaaaaaaaaaaaaaaaaaaaaaaaaaaaaaaaaaaaaaaaaaaaaaaaaaaaaaaaaaaaaaaaaaaaaaaaaaaaaaaaaaaaaaaaaaaaaaaaaaaaaaaaaaaaaaaaaaaaaaaaaaaaaaaaaaaaaaaaaaaaaaaaaaaaaaaaaaaaaaaaaaaaaaaaaaaaaaaaaaaaaaaaaaaaaaaaaaaaaaaaaaaaaaaaaaaa", ""),
         ],
-        "36 263",
+        "36 262",
     ),
     (
         &[
