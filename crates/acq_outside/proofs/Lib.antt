@@ -5,3 +5,10 @@ pub mod Torn
 pub mod Worlds
 pub mod SampleUri
 pub mod Named
+pub mod Trace
+pub mod Crashes
+pub mod Choices
+pub mod Cells
+pub mod NameMap
+pub mod Replaying
+pub mod Images

@@ -1,10 +1,14 @@
+-- Cited by public clauses: what a reader has to believe of the outside.
 pub mod Count
 pub mod Refusals
 pub mod Etc
 pub mod Disk
+pub mod Crash
+pub mod Moments
+pub mod Choice
 pub mod Mirror
 pub mod Sink
-pub mod Whole
+-- Cited by public clauses of the objects in memory alone.
 pub mod Failing
 pub mod FixedClock
 pub mod MemSink
@@ -12,3 +16,11 @@ pub mod MapMethod
 pub mod MemEtc
 pub mod History
 pub mod MemDisk
+-- The laws of the disk that may crash: what its trait asks each disk to show, and the proofs for the one in memory.
+pub mod Outcomes
+pub mod NamesApart
+pub mod Traces
+-- Cited by this crate's own functions and proofs alone.
+pub mod Held
+pub mod Whole
+pub mod Replay

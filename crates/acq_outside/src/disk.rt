@@ -1,14 +1,19 @@
-ghost use Rattle.std.specs.Prelude.{◌≡◌, ℕ, ◌<◌, ◌≤◌, ◌^◌, [], Bool, All, IsTrue, length, Option, IfOk, OnOk, OnErr, IsErrOf, IfSome, IsSomeAnd, option_map, unwrap_or};
+//! The lists folder, as the rest of the program asks for it.
+ghost use Rattle.std.specs.Prelude.{◌≡◌, ℕ, ◌<◌, ◌≤◌, ◌^◌, [], Bool, All, List, IsTrue, length, Option, IfOk, OnOk, OnErr, IsErrOf, IfSome, IsSomeAnd, option_map, unwrap_or};
 ghost use Rattle.acq_outside.specs.Count.{Rose};
+ghost use Rattle.acq_outside.specs.Crash.{State, Goes, AllSound, IsShown};
 ghost use Rattle.acq_outside.specs.Disk.{Files, IsName, IsNames, IsRead, IsTornWrite, IsTornCut, IsDoneOrNot, after_write, after_cut, after_rename, after_remove};
 
-use crate::{Fault, OutError};
+use crate::change::Change;
+use crate::{Fault, HoldError, OutError};
 use acq_base::{Row, Text};
 use std::alloc::Global;
 
 /// The lists folder. A name is UTF-8 of 1 to 255 bytes; one that begins with `partial/` lies in the folder of that name.
 ///
-/// What a call does to the files is said where the disk tells them: a real disk doesn't.
+/// What a call does to the files is said where the disk tells them: a real disk doesn't. Beside what reads give, `step`
+/// says what the call leaves to a crash: a changing call that is done adds a state, and a crash within it leaves what it
+/// may leave before the call or after it.
 pub trait Disk: Drop {
     /// How often it failed.
     ghost faults: { Self → ℕ };
@@ -19,11 +24,37 @@ pub trait Disk: Drop {
     /// Its files as reads give them.
     ghost files: { Self → Files };
 
+    /// The states that it has had, the newest first: what a crash may leave at each moment. A disk that doesn't tell has
+    /// none. Their number is the disk's clock.
+    ghost trace: { Self → List State };
+
+    /// How often another process was found to hold it.
+    ghost held: { Self → ℕ };
+
+    /// Keeps every other process that asks for it from this disk, as long as the disk lives. `Held` comes only where
+    /// another process holds it.
+    fn hold(&mut self) -> Result<(), HoldError>
+        ensures count { faults self.old ≤ faults self.new }
+        ensures fault { IsErrOf result HoldError.Fault → Rose (faults self.old) (faults self.new) }
+        ensures quiet { OnOk result (faults self.new ≡ faults self.old) }
+        ensures quiet_held { IsErrOf result HoldError.Held → faults self.new ≡ faults self.old }
+        ensures held_count { held self.old ≤ held self.new }
+        ensures held { IsErrOf result HoldError.Held → Rose (held self.old) (held self.new) }
+        ensures free { OnOk result (held self.new ≡ held self.old) }
+        ensures free_fault { IsErrOf result HoldError.Fault → held self.new ≡ held self.old }
+        ensures telling { tells self.new ≡ tells self.old }
+        ensures same { files self.new ≡ files self.old }
+        ensures still { trace self.new ≡ trace self.old };
+
     /// All names, each once and sorted by bytes: fewer than 2^31, and `NoMemory` where there are more.
     fn names(&mut self, alloc: Global) -> Result<Row<Text>, OutError>
         ensures count { faults self.old ≤ faults self.new }
         ensures fault { IsErrOf result OutError.Fault → Rose (faults self.old) (faults self.new) }
+        ensures quiet { OnOk result (faults self.new ≡ faults self.old) }
+        ensures dry { IsErrOf result OutError.NoMemory → faults self.new ≡ faults self.old }
+        ensures held { held self.new ≡ held self.old }
         ensures telling { tells self.new ≡ tells self.old }
+        ensures still { trace self.new ≡ trace self.old }
         ensures same { files self.new ≡ files self.old }
         ensures few { IfOk result (λ names. length names < 2 ^ 31) }
         ensures named { IfOk result (λ names. All IsName names) }
@@ -34,7 +65,10 @@ pub trait Disk: Drop {
         requires { IsName name.now }
         ensures count { faults self.old ≤ faults self.new }
         ensures fault { OnErr result (Rose (faults self.old) (faults self.new)) }
+        ensures quiet { OnOk result (faults self.new ≡ faults self.old) }
+        ensures held { held self.new ≡ held self.old }
         ensures telling { tells self.new ≡ tells self.old }
+        ensures still { trace self.new ≡ trace self.old }
         ensures same { files self.new ≡ files self.old }
         ensures told { IsTrue (tells self.old) → IfOk result (λ size. size ≡ option_map length (files self.old name.now)) };
 
@@ -44,7 +78,10 @@ pub trait Disk: Drop {
         requires { IsName name.now }
         ensures count { faults self.old ≤ faults self.new }
         ensures fault { OnErr result (Rose (faults self.old) (faults self.new)) }
+        ensures quiet { OnOk result (faults self.new ≡ faults self.old) }
+        ensures held { held self.new ≡ held self.old }
         ensures telling { tells self.new ≡ tells self.old }
+        ensures still { trace self.new ≡ trace self.old }
         ensures same { files self.new ≡ files self.old }
         ensures within { IfOk result (λ n. n ≤ length out.old) }
         ensures told { IsTrue (tells self.old) → IfOk result (λ n. IsRead (files self.old name.now) at n out.old out.new) };
@@ -55,7 +92,10 @@ pub trait Disk: Drop {
         requires there { IsTrue (tells self.old) → IsSomeAnd (files self.old name.now) (λ content. at ≤ length content) }
         ensures count { faults self.old ≤ faults self.new }
         ensures fault { OnErr result (Rose (faults self.old) (faults self.new)) }
+        ensures quiet { OnOk result (faults self.new ≡ faults self.old) }
+        ensures held { held self.new ≡ held self.old }
         ensures telling { tells self.new ≡ tells self.old }
+        ensures step { Goes (Change.Write name.now at bytes.now) (trace self.old) (trace self.new) result }
         ensures ok { IsTrue (tells self.old) → OnOk result (files self.new ≡ after_write (files self.old) name.now at bytes.now) }
         ensures err { IsTrue (tells self.old) → OnErr result (IsTornWrite (files self.old) (files self.new) name.now at (length bytes.now)) };
 
@@ -65,7 +105,10 @@ pub trait Disk: Drop {
         requires within { IsTrue (tells self.old) → len ≤ length (unwrap_or (files self.old name.now) []) }
         ensures count { faults self.old ≤ faults self.new }
         ensures fault { OnErr result (Rose (faults self.old) (faults self.new)) }
+        ensures quiet { OnOk result (faults self.new ≡ faults self.old) }
+        ensures held { held self.new ≡ held self.old }
         ensures telling { tells self.new ≡ tells self.old }
+        ensures step { Goes (Change.Cut name.now len) (trace self.old) (trace self.new) result }
         ensures ok { IsTrue (tells self.old) → OnOk result (files self.new ≡ after_cut (files self.old) name.now len) }
         ensures err { IsTrue (tells self.old) → OnErr result (IsTornCut (files self.old) (files self.new) name.now len) };
 
@@ -74,7 +117,10 @@ pub trait Disk: Drop {
         requires { IsName name.now }
         ensures count { faults self.old ≤ faults self.new }
         ensures fault { OnErr result (Rose (faults self.old) (faults self.new)) }
+        ensures quiet { OnOk result (faults self.new ≡ faults self.old) }
+        ensures held { held self.new ≡ held self.old }
         ensures telling { tells self.new ≡ tells self.old }
+        ensures step { Goes (Change.Sync name.now) (trace self.old) (trace self.new) result }
         ensures same { files self.new ≡ files self.old };
 
     /// Moves a file to another name, in place of what is there. It changes nothing where `from` is absent.
@@ -83,7 +129,10 @@ pub trait Disk: Drop {
         requires to { IsName to.now }
         ensures count { faults self.old ≤ faults self.new }
         ensures fault { OnErr result (Rose (faults self.old) (faults self.new)) }
+        ensures quiet { OnOk result (faults self.new ≡ faults self.old) }
+        ensures held { held self.new ≡ held self.old }
         ensures telling { tells self.new ≡ tells self.old }
+        ensures step { Goes (Change.Rename from.now to.now) (trace self.old) (trace self.new) result }
         ensures ok { IsTrue (tells self.old) → OnOk result (files self.new ≡ after_rename (files self.old) from.now to.now) }
         ensures err { IsTrue (tells self.old) → OnErr result (IsDoneOrNot (files self.old) (files self.new) (after_rename (files self.old) from.now to.now)) };
 
@@ -92,7 +141,10 @@ pub trait Disk: Drop {
         requires { IsName name.now }
         ensures count { faults self.old ≤ faults self.new }
         ensures fault { OnErr result (Rose (faults self.old) (faults self.new)) }
+        ensures quiet { OnOk result (faults self.new ≡ faults self.old) }
+        ensures held { held self.new ≡ held self.old }
         ensures telling { tells self.new ≡ tells self.old }
+        ensures step { Goes (Change.Remove name.now) (trace self.old) (trace self.new) result }
         ensures ok { IsTrue (tells self.old) → OnOk result (files self.new ≡ after_remove (files self.old) name.now) }
         ensures err { IsTrue (tells self.old) → OnErr result (IsDoneOrNot (files self.old) (files self.new) (after_remove (files self.old) name.now)) };
 
@@ -100,6 +152,15 @@ pub trait Disk: Drop {
     fn sync_names(&mut self) -> Result<(), Fault>
         ensures count { faults self.old ≤ faults self.new }
         ensures fault { OnErr result (Rose (faults self.old) (faults self.new)) }
+        ensures quiet { OnOk result (faults self.new ≡ faults self.old) }
+        ensures held { held self.new ≡ held self.old }
         ensures telling { tells self.new ≡ tells self.old }
+        ensures step { Goes Change.SyncNames (trace self.old) (trace self.new) result }
         ensures same { files self.new ≡ files self.old };
+
+    /// Each state that it has had is sound.
+    ghost sound: { (disk : Self) → AllSound (trace disk) };
+
+    /// It tells its files just where it tells its states, and they are what reads give at the newest.
+    ghost shown: { (disk : Self) → IsShown (tells disk) (files disk) (trace disk) };
 }

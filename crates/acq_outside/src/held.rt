@@ -1,7 +1,8 @@
 //! The files of a disk in memory as a sorted map, and what each change does to them.
 ghost use Rattle.std.specs.Prelude.{◌≡◌, ◌≤◌, length, take, None, Some, IfOk, OnOk, OnErr};
 ghost use Rattle.acq_outside.specs.Disk.{IsNames, IsRead, spliced, with_file, after_write, after_cut, after_rename};
-ghost use Rattle.acq_outside.specs.History.{start_files, files_in, after_change};
+ghost use Rattle.acq_outside.specs.History.{start_files, after_change};
+ghost use Rattle.acq_outside.specs.Held.{files_in};
 
 use crate::change::Change;
 use acq_base::{Bytes, NoMemory, Row, Text, TryCopy};
@@ -116,7 +117,7 @@ fn remove_in(held: &mut Held, name: &Text)
 }
 
 /// The content with bytes written at a place within it or at its end.
-fn spliced(alloc: Global, content: &[u8], at: u64, bytes: &[u8]) -> Result<Bytes, NoMemory>
+pub fn spliced(alloc: Global, content: &[u8], at: u64, bytes: &[u8]) -> Result<Bytes, NoMemory>
     ensures { IfOk result (λ new. new ≡ spliced content.now at bytes.now) }
 {
     let start = (at as usize).min(content.len());

@@ -4,10 +4,12 @@
 //! do, the clauses speak of it; of a real one they say that a fault comes only where the object's count of faults rose.
 #![tactic(auto)]
 
+pub use change::Change;
 pub use clock::Clock;
+pub use crash::{choices_leave, crash_leaves, syncs_last, torn_is_done};
 pub use disk::Disk;
 pub use etc::{Etc, MOST_READ, Place};
-pub use fault::{Fault, OutError};
+pub use fault::{Fault, HoldError, OutError};
 pub use fixed_clock::FixedClock;
 pub use map_method::MapMethod;
 pub use mem_disk::MemDisk;
@@ -16,10 +18,13 @@ pub use mem_sink::MemSink;
 pub use method::Method;
 pub use name::is_name;
 pub use sink::Sink;
+pub use state::{FileState, NameChange};
 pub use whole::{read_whole, write_whole};
 
 mod change;
+mod choice;
 mod clock;
+mod crash;
 mod disk;
 mod etc;
 mod failing;
@@ -27,14 +32,18 @@ mod fault;
 mod fixed_clock;
 mod held;
 mod history;
+mod image;
 mod map_method;
 mod mem_disk;
 mod mem_etc;
 mod mem_sink;
 mod method;
 mod name;
+mod name_map;
+mod replay;
 mod sink;
 mod start;
+mod state;
 #[cfg(test)]
 mod tests;
 mod whole;

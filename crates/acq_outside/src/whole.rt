@@ -1,3 +1,4 @@
+//! A file of any disk, written or read as a whole by the calls of its trait alone.
 ghost use Rattle.std.specs.Prelude.{◌≡◌, ◌≢◌, ℕ, ◌+◌, ◌<◌, ◌≤◌, ◌^◌, List, [], length, Some, IfOk, OnOk, OnErr, IsErrOf, IsTrue, unwrap_or};
 ghost use Rattle.acq_outside.specs.Count.{Rose};
 ghost use Rattle.acq_outside.specs.Disk.{IsName, with_file};
@@ -20,6 +21,8 @@ pub fn write_whole<D: Disk>(disk: &mut D, name: &[u8], bytes: &[u8]) -> Result<(
     requires { IsName name.now }
     ensures count { D.faults disk.old ≤ D.faults disk.new }
     ensures fault { OnErr result (Rose (D.faults disk.old) (D.faults disk.new)) }
+    ensures quiet { OnOk result (D.faults disk.new ≡ D.faults disk.old) }
+    ensures held { D.held disk.new ≡ D.held disk.old }
     ensures telling { D.tells disk.new ≡ D.tells disk.old }
     ensures ok { IsTrue (D.tells disk.old) → OnOk result (D.files disk.new ≡ with_file (D.files disk.old) name.now (Some bytes.now)) }
     ensures others { IsTrue (D.tells disk.old) → (other : List ℕ) → other ≢ name.now → D.files disk.new other ≡ D.files disk.old other }
@@ -44,8 +47,12 @@ pub fn read_whole<D: Disk>(
     requires { IsName name.now }
     ensures count { D.faults disk.old ≤ D.faults disk.new }
     ensures fault { IsErrOf result OutError.Fault → Rose (D.faults disk.old) (D.faults disk.new) }
+    ensures quiet { OnOk result (D.faults disk.new ≡ D.faults disk.old) }
+    ensures dry { IsErrOf result OutError.NoMemory → D.faults disk.new ≡ D.faults disk.old }
+    ensures held { D.held disk.new ≡ D.held disk.old }
     ensures telling { D.tells disk.new ≡ D.tells disk.old }
     ensures same { D.files disk.new ≡ D.files disk.old }
+    ensures still { D.trace disk.new ≡ D.trace disk.old }
     ensures told { IsTrue (D.tells disk.old) → IfOk result (λ file. file ≡ D.files disk.old name.now) }
 {
     if disk.size(name)?.is_none() {
@@ -59,8 +66,12 @@ fn read_pieces<D: Disk>(alloc: Global, disk: &mut D, name: &[u8]) -> Result<Byte
     requires { IsName name.now }
     ensures count { D.faults disk.old ≤ D.faults disk.new }
     ensures fault { IsErrOf result OutError.Fault → Rose (D.faults disk.old) (D.faults disk.new) }
+    ensures quiet { OnOk result (D.faults disk.new ≡ D.faults disk.old) }
+    ensures dry { IsErrOf result OutError.NoMemory → D.faults disk.new ≡ D.faults disk.old }
+    ensures held { D.held disk.new ≡ D.held disk.old }
     ensures telling { D.tells disk.new ≡ D.tells disk.old }
     ensures same { D.files disk.new ≡ D.files disk.old }
+    ensures still { D.trace disk.new ≡ D.trace disk.old }
     ensures told { IsTrue (D.tells disk.old) → IfOk result (λ bytes. bytes ≡ unwrap_or (D.files disk.old name.now) []) }
 {
     let mut piece = vec![in alloc; 0u8; PIECE]?;
@@ -78,8 +89,12 @@ fn read_through<D: Disk>(
     requires room { 1 ≤ length piece.old }
     ensures count { D.faults disk.old ≤ D.faults disk.new }
     ensures fault { IsErrOf result OutError.Fault → Rose (D.faults disk.old) (D.faults disk.new) }
+    ensures quiet { OnOk result (D.faults disk.new ≡ D.faults disk.old) }
+    ensures dry { IsErrOf result OutError.NoMemory → D.faults disk.new ≡ D.faults disk.old }
+    ensures held { D.held disk.new ≡ D.held disk.old }
     ensures telling { D.tells disk.new ≡ D.tells disk.old }
     ensures same { D.files disk.new ≡ D.files disk.old }
+    ensures still { D.trace disk.new ≡ D.trace disk.old }
     ensures told { IsTrue (D.tells disk.old) → IfOk result (λ bytes. bytes ≡ unwrap_or (D.files disk.old name.now) []) }
 {
     let mut content = Vec::new(alloc);
@@ -103,8 +118,12 @@ fn read_piece<D: Disk>(
     requires room { 1 ≤ length piece.old }
     ensures count { D.faults disk.old ≤ D.faults disk.new }
     ensures fault { IsErrOf result OutError.Fault → Rose (D.faults disk.old) (D.faults disk.new) }
+    ensures quiet { OnOk result (D.faults disk.new ≡ D.faults disk.old) }
+    ensures dry { IsErrOf result OutError.NoMemory → D.faults disk.new ≡ D.faults disk.old }
+    ensures held { D.held disk.new ≡ D.held disk.old }
     ensures telling { D.tells disk.new ≡ D.tells disk.old }
     ensures same { D.files disk.new ≡ D.files disk.old }
+    ensures still { D.trace disk.new ≡ D.trace disk.old }
     ensures small { length content.old.items < 2 ^ 64 }
     ensures longer { IfOk result (λ n. length content.new.items ≡ length content.old.items + n) }
     ensures told { IsTrue (D.tells disk.old) → IfOk result (λ n. GrowsTo (unwrap_or (D.files disk.old name.now) []) n content.old.items content.new.items) }

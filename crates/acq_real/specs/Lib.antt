@@ -1,4 +1,8 @@
+-- Cited by public clauses.
 pub mod Folder
+pub mod Listing
 pub mod RealClock
 pub mod RealDisk
+-- Cited by this crate's own functions alone, but for what RealSink shows.
+pub mod Answer
 pub mod RealSink

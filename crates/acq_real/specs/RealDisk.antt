@@ -5,11 +5,16 @@ use Rattle.acq_real.specs.declared.disk.RealDisk.{RealDisk}
 abbrev pub faults_of : {R : Type 0} → RealDisk R → ℕ
 faults_of disk = disk.faults
 
+-- how often another process was found to hold it
+abbrev pub times_held : {R : Type 0} → RealDisk R → ℕ
+times_held disk = disk.times_held
+
 -- the path of the folder that it works below
 abbrev pub folder_of : {R : Type 0} → RealDisk R → List ℕ
 folder_of disk = string_bytes disk.folder
 
--- the same folder, and no fault more
+-- the same folder, no fault more, and not found held once more
 pub record IsSame {R : Type 0} (before after : RealDisk R) : Type 0 where
   pub faults : faults_of after ≡ faults_of before
+  pub held : times_held after ≡ times_held before
   pub folder : folder_of after ≡ folder_of before

@@ -1,8 +1,10 @@
+//! The system's clock.
 ghost use Rattle.std.specs.Prelude.{◌≡◌, None, Some};
 
+use crate::answer::seconds;
 use acq_outside::Clock;
 use std::rt;
-use std::time::{SystemTime, UNIX_EPOCH};
+use std::time::SystemTime;
 
 /// The system's clock.
 #[derive(Drop)]
@@ -34,21 +36,11 @@ impl<R: rt::Clock + Drop> Clock for RealClock<R> {
 
     ghost last = { λ clock. clock.last };
 
+    // Where the system gives no time, the moment is 0.
     fn moment(&mut self) -> i64 {
-        let moment = seconds(&self.rt);
+        let moment = seconds(SystemTime::now(&self.rt));
         self.given = self.given.saturating_add(1);
         self.last = Some(moment);
         moment
-    }
-}
-
-/// The seconds since 1970 began. Where the system gives no time, or an earlier one, it is 0.
-fn seconds(rt: &impl rt::Clock) -> i64 {
-    let Ok(now) = SystemTime::now(rt) else {
-        return 0;
-    };
-    match now.duration_since(UNIX_EPOCH) {
-        Ok(since) => i64::try_from(since.as_secs()).unwrap_or(i64::MAX),
-        Err(_) => 0,
     }
 }

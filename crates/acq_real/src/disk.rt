@@ -1,30 +1,42 @@
-ghost use Rattle.std.specs.Prelude.{◌≡◌, ◌≤◌, ◌<◌, ◌^◌, ◌↔◌, length, All, None, false, string_bytes, IsTrue, IfOk, IsErr, OnOk, OnErr, IsErrOf, MatchResult};
+//! A folder of the operating system as a disk.
+ghost use Rattle.std.specs.Prelude.{◌≡◌, ◌≤◌, ◌<◌, ◌^◌, [], length, All, AllPairs, None, true, false, string_bytes, IfOk, IsErr, OnOk, OnErr, IsErrOf, MatchResult};
+ghost use Rattle.std.proofs.Common.{refl};
+ghost use Rattle.std.specs.Ordering.{nat_cmp};
+ghost use Rattle.std.specs.declared.cmp.Ordering.TheVariants.{Less};
+ghost use Rattle.std.specs.Cmp.Lexicographic.{slice_cmp};
 ghost use Rattle.acq_outside.specs.Count.{Rose};
 ghost use Rattle.acq_outside.specs.Disk.{IsName};
 ghost use Rattle.acq_real.specs.Folder.{IsInside, IsPathInside};
 ghost use Rattle.acq_real.specs.RealDisk.{IsSame, faults_of, folder_of};
 
 use crate::folder;
-use acq_base::{NoMemory, Row, Text, TryCopy};
-use acq_outside::{Disk, Fault, OutError, is_name};
+use crate::listing::{Entry, list};
+use crate::path::{PARTIAL, path_of};
+use acq_base::{Row, Text};
+use acq_outside::{Disk, Fault, HoldError, OutError};
 use std::alloc::{AllocError, Global};
-use std::collections::BTreeSet;
 use std::fs::File;
 use std::io;
 use std::io::ErrorKind;
 use std::rt::Files;
 
-/// More names than `names` gives.
-const MOST_NAMES: usize = 2_147_483_648;
+/// The file whose lock holds the folder. It is made where it is missing, and never removed.
+const LOCK: &[u8] = b"lock";
 
-/// A folder of the operating system. It works below that folder alone, and on plain files alone: any other name, and
-/// a folder or a link in place of a file, is a fault.
+/// A folder of the operating system. It works below that folder alone, and on plain files alone: any other name is a
+/// fault, and so is a folder or a link in place of a file, or in place of `partial` anything but a folder.
+///
+/// What stands at a path is looked up first and used by a further call of the system. Another process that puts a link
+/// in its place between the two is found out where the file is opened, but not where `partial` is replaced: so nobody
+/// else may be allowed to change the folder.
 #[derive(Drop)]
 pub struct RealDisk<R: Drop> {
     rt: R,
     folder: String,
     is_made: bool,
     faults: u64,
+    times_held: u64,
+    lock: Option<File>,
 }
 
 impl<R: Files<File = File> + AllocGlobal + Clone + Drop> RealDisk<R> {
@@ -39,6 +51,8 @@ impl<R: Files<File = File> + AllocGlobal + Clone + Drop> RealDisk<R> {
             folder: String::from_str(alloc, folder)?,
             is_made: false,
             faults: 0,
+            times_held: 0,
+            lock: None,
         })
     }
 
@@ -52,8 +66,10 @@ impl<R: Files<File = File> + AllocGlobal + Clone + Drop> RealDisk<R> {
     /// The answer of the system, an error of it as a fault that is counted.
     fn counted<T: Drop>(&mut self, done: io::Result<T>) -> Result<T, Fault>
         ensures count { self.old.faults ≤ self.new.faults }
+        ensures held { self.new.times_held ≡ self.old.times_held }
         ensures folder { folder_of self.new ≡ folder_of self.old }
         ensures fault { OnErr result (Rose self.old.faults self.new.faults) }
+        ensures quiet { OnOk result (self.new.faults ≡ self.old.faults) }
         ensures answer { MatchResult result (λ value. done ≡ Ok value) (λ _. IsErr done) }
     {
         match done {
@@ -71,11 +87,16 @@ impl<R: Files<File = File> + AllocGlobal + Clone + Drop> RealDisk<R> {
         ensures inside { IfOk result (λ path. IsPathInside (folder_of self.old) name.now (string_bytes path)) }
     {
         self.make()?;
-        folder::path_of(self.rt.alloc(), self.folder.as_str(), name)
+        if name.starts_with(PARTIAL) {
+            folder::check_partial(&self.rt, self.rt.alloc(), self.folder.as_str())?;
+        }
+        path_of(self.rt.alloc(), self.folder.as_str(), name)
     }
 
+    /// Makes the folders, unless that is done. After an error it is still to be done.
     fn make(&mut self) -> io::Result<()>
-        ensures { IsSame self.old self.new }
+        ensures same { IsSame self.old self.new }
+        ensures made { MatchResult result (λ _. self.new.is_made ≡ true) (λ _. self.new.is_made ≡ self.old.is_made) }
     {
         if !self.is_made {
             folder::make_folders(&self.rt, self.rt.alloc(), self.folder.as_str())?;
@@ -84,11 +105,23 @@ impl<R: Files<File = File> + AllocGlobal + Clone + Drop> RealDisk<R> {
         Ok(())
     }
 
-    fn list(&mut self, alloc: Global) -> io::Result<BTreeSet<Text>>
+    /// Locks the file `lock`, and answers whether no other process has it locked.
+    fn lock_folder(&mut self) -> io::Result<bool>
+        ensures { IsSame self.old self.new }
+    {
+        if self.lock.is_some() {
+            return Ok(true);
+        }
+        let path = self.path(LOCK)?;
+        self.lock = folder::lock(&self.rt, path.as_str())?;
+        Ok(self.lock.is_some())
+    }
+
+    fn entries(&mut self, alloc: Global) -> io::Result<Vec<Entry>>
         ensures { IsSame self.old self.new }
     {
         self.make()?;
-        folder::names(&self.rt, alloc, self.folder.as_str())
+        folder::entries(&self.rt, alloc, self.folder.as_str())
     }
 
     fn size_of(&mut self, name: &[u8]) -> io::Result<Option<u64>>
@@ -164,19 +197,50 @@ impl<R: Files<File = File> + AllocGlobal + Clone + Drop> Disk for RealDisk<R> {
 
     ghost files = { λ _ _. None };
 
+    ghost trace = { λ _. [] };
+
+    ghost held = { λ disk. disk.times_held };
+
+    ghost sound = { λ _. tt };
+
+    ghost shown = { λ _. refl };
+
     // Beside what the trait says: a name that may lead out of the folder is a fault, no such name is listed, and the
     // folder stays.
+
+    fn hold(&mut self) -> Result<(), HoldError>
+        ensures count { self.old.faults ≤ self.new.faults }
+        ensures fault { IsErrOf result HoldError.Fault → Rose self.old.faults self.new.faults }
+        ensures quiet { OnOk result (self.new.faults ≡ self.old.faults) }
+        ensures quiet_held { IsErrOf result HoldError.Held → self.new.faults ≡ self.old.faults }
+        ensures held_count { self.old.times_held ≤ self.new.times_held }
+        ensures held { IsErrOf result HoldError.Held → Rose self.old.times_held self.new.times_held }
+        ensures free { OnOk result (self.new.times_held ≡ self.old.times_held) }
+        ensures free_fault { IsErrOf result HoldError.Fault → self.new.times_held ≡ self.old.times_held }
+        ensures folder { folder_of self.new ≡ folder_of self.old }
+    {
+        let locked = self.lock_folder();
+        if self.counted(locked)? {
+            return Ok(());
+        }
+        self.times_held = self.times_held.saturating_add(1);
+        Err(HoldError::Held)
+    }
 
     fn names(&mut self, alloc: Global) -> Result<Row<Text>, OutError>
         ensures count { self.old.faults ≤ self.new.faults }
         ensures fault { IsErrOf result OutError.Fault → Rose self.old.faults self.new.faults }
+        ensures quiet { OnOk result (self.new.faults ≡ self.old.faults) }
+        ensures dry { IsErrOf result OutError.NoMemory → self.new.faults ≡ self.old.faults }
         ensures few { IfOk result (λ names. length names < 2 ^ 31) }
         ensures named { IfOk result (λ names. All IsName names) }
         ensures inside { IfOk result (λ names. All IsInside names) }
+        ensures sorted { IfOk result (AllPairs (λ a b. slice_cmp nat_cmp a b ≡ Less)) }
+        ensures held { self.new.times_held ≡ self.old.times_held }
         ensures folder { folder_of self.new ≡ folder_of self.old }
     {
-        match self.list(alloc) {
-            Ok(names) => Ok(row_of(alloc, &names)?),
+        match self.entries(alloc) {
+            Ok(entries) => Ok(list(alloc, entries.as_slice())?),
             Err(error) if error.kind() == ErrorKind::OutOfMemory => Err(OutError::NoMemory),
             Err(_) => {
                 self.faults = self.faults.saturating_add(1);
@@ -188,7 +252,9 @@ impl<R: Files<File = File> + AllocGlobal + Clone + Drop> Disk for RealDisk<R> {
     fn size(&mut self, name: &[u8]) -> Result<Option<u64>, Fault>
         ensures count { self.old.faults ≤ self.new.faults }
         ensures fault { OnErr result (Rose self.old.faults self.new.faults) }
+        ensures quiet { OnOk result (self.new.faults ≡ self.old.faults) }
         ensures inside { OnOk result (IsInside name.now) }
+        ensures held { self.new.times_held ≡ self.old.times_held }
         ensures folder { folder_of self.new ≡ folder_of self.old }
     {
         let size = self.size_of(name);
@@ -198,8 +264,10 @@ impl<R: Files<File = File> + AllocGlobal + Clone + Drop> Disk for RealDisk<R> {
     fn read_at(&mut self, name: &[u8], at: u64, out: &mut [u8]) -> Result<usize, Fault>
         ensures count { self.old.faults ≤ self.new.faults }
         ensures fault { OnErr result (Rose self.old.faults self.new.faults) }
+        ensures quiet { OnOk result (self.new.faults ≡ self.old.faults) }
         ensures within { IfOk result (λ n. n ≤ length out.old) }
         ensures inside { OnOk result (IsInside name.now) }
+        ensures held { self.new.times_held ≡ self.old.times_held }
         ensures folder { folder_of self.new ≡ folder_of self.old }
     {
         let read = self.read(name, at, out);
@@ -209,7 +277,9 @@ impl<R: Files<File = File> + AllocGlobal + Clone + Drop> Disk for RealDisk<R> {
     fn write_at(&mut self, name: &[u8], at: u64, bytes: &[u8]) -> Result<(), Fault>
         ensures count { self.old.faults ≤ self.new.faults }
         ensures fault { OnErr result (Rose self.old.faults self.new.faults) }
+        ensures quiet { OnOk result (self.new.faults ≡ self.old.faults) }
         ensures inside { OnOk result (IsInside name.now) }
+        ensures held { self.new.times_held ≡ self.old.times_held }
         ensures folder { folder_of self.new ≡ folder_of self.old }
     {
         let written = self.write(name, at, bytes);
@@ -219,7 +289,9 @@ impl<R: Files<File = File> + AllocGlobal + Clone + Drop> Disk for RealDisk<R> {
     fn cut(&mut self, name: &[u8], len: u64) -> Result<(), Fault>
         ensures count { self.old.faults ≤ self.new.faults }
         ensures fault { OnErr result (Rose self.old.faults self.new.faults) }
+        ensures quiet { OnOk result (self.new.faults ≡ self.old.faults) }
         ensures inside { OnOk result (IsInside name.now) }
+        ensures held { self.new.times_held ≡ self.old.times_held }
         ensures folder { folder_of self.new ≡ folder_of self.old }
     {
         let cut = self.shorten(name, len);
@@ -229,7 +301,9 @@ impl<R: Files<File = File> + AllocGlobal + Clone + Drop> Disk for RealDisk<R> {
     fn sync(&mut self, name: &[u8]) -> Result<(), Fault>
         ensures count { self.old.faults ≤ self.new.faults }
         ensures fault { OnErr result (Rose self.old.faults self.new.faults) }
+        ensures quiet { OnOk result (self.new.faults ≡ self.old.faults) }
         ensures inside { OnOk result (IsInside name.now) }
+        ensures held { self.new.times_held ≡ self.old.times_held }
         ensures folder { folder_of self.new ≡ folder_of self.old }
     {
         let synced = self.sync_one(name);
@@ -239,7 +313,9 @@ impl<R: Files<File = File> + AllocGlobal + Clone + Drop> Disk for RealDisk<R> {
     fn rename(&mut self, from: &[u8], to: &[u8]) -> Result<(), Fault>
         ensures count { self.old.faults ≤ self.new.faults }
         ensures fault { OnErr result (Rose self.old.faults self.new.faults) }
+        ensures quiet { OnOk result (self.new.faults ≡ self.old.faults) }
         ensures inside { OnOk result (IsInside from.now × IsInside to.now) }
+        ensures held { self.new.times_held ≡ self.old.times_held }
         ensures folder { folder_of self.new ≡ folder_of self.old }
     {
         let moved = self.move_one(from, to);
@@ -249,7 +325,9 @@ impl<R: Files<File = File> + AllocGlobal + Clone + Drop> Disk for RealDisk<R> {
     fn remove(&mut self, name: &[u8]) -> Result<(), Fault>
         ensures count { self.old.faults ≤ self.new.faults }
         ensures fault { OnErr result (Rose self.old.faults self.new.faults) }
+        ensures quiet { OnOk result (self.new.faults ≡ self.old.faults) }
         ensures inside { OnOk result (IsInside name.now) }
+        ensures held { self.new.times_held ≡ self.old.times_held }
         ensures folder { folder_of self.new ≡ folder_of self.old }
     {
         let removed = self.remove_one(name);
@@ -259,34 +337,11 @@ impl<R: Files<File = File> + AllocGlobal + Clone + Drop> Disk for RealDisk<R> {
     fn sync_names(&mut self) -> Result<(), Fault>
         ensures count { self.old.faults ≤ self.new.faults }
         ensures fault { OnErr result (Rose self.old.faults self.new.faults) }
+        ensures quiet { OnOk result (self.new.faults ≡ self.old.faults) }
+        ensures held { self.new.times_held ≡ self.old.times_held }
         ensures folder { folder_of self.new ≡ folder_of self.old }
     {
         let synced = self.sync_all();
         self.counted(synced)
     }
-}
-
-/// The names that the other calls take, as a row, and `NoMemory` where there are too many.
-fn row_of(alloc: Global, names: &BTreeSet<Text>) -> Result<Row<Text>, NoMemory>
-    ensures few { IfOk result (λ row. length row < 2 ^ 31) }
-    ensures named { IfOk result (λ row. All IsName row) }
-    ensures inside { IfOk result (λ row. All IsInside row) }
-{
-    let mut row = Row::new(alloc);
-    for name in names {
-        if is_taken(name.as_bytes()) {
-            row.push(name.copy(alloc)?)?;
-        }
-    }
-    if row.len() >= MOST_NAMES {
-        return Err(NoMemory);
-    }
-    Ok(row)
-}
-
-/// Whether the calls of a real disk take a name.
-fn is_taken(name: &[u8]) -> bool
-    ensures { IsTrue result ↔ (IsName name.now × IsInside name.now) }
-{
-    is_name(name) && folder::is_inside(name)
 }

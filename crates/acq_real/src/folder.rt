@@ -1,27 +1,21 @@
-//! What a disk does with files below its folder, each with a few calls of the system.
-ghost use Rattle.std.specs.Prelude.{◌≡◌, ◌≤◌, ◌⊎◌, ◌↔◌, [], length, codes, Contains, string_bytes, IfOk, IfErr, IsTrue, IsUtf8};
-ghost use Rattle.std.specs.IoError.{error_kind};
-ghost use Rattle.acq_real.specs.Folder.{IsInside, IsSegment, IsPathInside};
+//! What a disk does with files below its folder, each with a few calls of the system. It touches that folder alone.
+ghost use Rattle.std.specs.Prelude.{◌≤◌, length, IfOk};
 
+use crate::answer::{check_folder, plain_length, unless};
+use crate::listing::Entry;
+use crate::path::PARTIAL;
 use acq_base::Text;
-use std::alloc::{AllocError, Global};
-use std::collections::BTreeSet;
-use std::fs::{File, OpenOptions};
+use std::alloc::Global;
+use std::fs::{File, Metadata, OpenOptions, TryLockError};
 use std::io::ErrorKind;
-use std::os::unix::fs::FileExt;
+use std::os::unix::fs::{FileExt, MetadataExt};
 use std::rt::Files;
 use std::{fs, io};
 
-/// The folder of lists on their way, as it stands before their names.
-const PARTIAL: &[u8] = b"partial/";
-
 /// Makes a folder, and answers whether it was missing.
 fn make_folder(rt: &impl Files, path: &str) -> io::Result<bool> {
-    match fs::create_dir(rt, path) {
-        Ok(()) => Ok(true),
-        Err(error) if error.kind() == ErrorKind::AlreadyExists => Ok(false),
-        Err(error) => Err(error),
-    }
+    let made = unless(ErrorKind::AlreadyExists, fs::create_dir(rt, path))?;
+    Ok(made.is_some())
 }
 
 /// Makes the changes of names in a folder lasting.
@@ -29,72 +23,80 @@ fn sync_folder(rt: &impl Files<File = File>, path: &str) -> io::Result<()> {
     File::open(rt, path)?.sync_all()
 }
 
+fn partial_path(alloc: Global, folder: &str) -> io::Result<String> {
+    Ok(format!(in alloc; "{folder}/partial")?)
+}
+
 /// Makes the folder where its parent is there, and `partial` in it.
 pub fn make_folders(rt: &impl Files<File = File>, alloc: Global, folder: &str) -> io::Result<()> {
     if make_folder(rt, folder)? {
         sync_folder(rt, format!(in alloc; "{folder}/..")?.as_str())?;
     }
-    make_folder(rt, format!(in alloc; "{folder}/partial")?.as_str())?;
+    make_folder(rt, partial_path(alloc, folder)?.as_str())?;
     Ok(())
+}
+
+/// Anything but a folder as `partial` is an error. A link to a folder leads out of the disk's own.
+pub fn check_partial(rt: &impl Files, alloc: Global, folder: &str) -> io::Result<()> {
+    let path = partial_path(alloc, folder)?;
+    check_folder(&fs::symlink_metadata(rt, path.as_str())?)
 }
 
 /// Makes the changes of names in the folder and in `partial` lasting.
 pub fn sync_names(rt: &impl Files<File = File>, alloc: Global, folder: &str) -> io::Result<()> {
-    sync_folder(rt, format!(in alloc; "{folder}/partial")?.as_str())?;
+    check_partial(rt, alloc, folder)?;
+    sync_folder(rt, partial_path(alloc, folder)?.as_str())?;
     sync_folder(rt, folder)
 }
 
-/// The path of a file of this name. A name that may lead out of the folder is refused, and one that isn't UTF-8.
-pub fn path_of(alloc: Global, folder: &str, name: &[u8]) -> io::Result<String>
-    ensures inside { IfOk result (λ path. IsPathInside folder.now name.now (string_bytes path)) }
-    ensures refused { IfErr result (λ error. (error_kind error ≡ ErrorKind.OutOfMemory) ⊎ ((error_kind error ≡ ErrorKind.InvalidFilename) × ¬ (IsUtf8 name.now × IsInside name.now))) }
-{
-    match str::from_utf8(name) {
-        Ok(text) if is_inside(name) => Ok(format!(in alloc; "{folder}/{text}")?),
-        _ => Err(io::Error::from(ErrorKind::InvalidFilename)),
+/// What is at a path, `None` where nothing is. No link is followed.
+fn find(rt: &impl Files, path: &str) -> io::Result<Option<Metadata>> {
+    unless(ErrorKind::NotFound, fs::symlink_metadata(rt, path))
+}
+
+/// The plain file at a path, `None` where nothing is. Anything else there is an error.
+fn find_plain(rt: &impl Files, path: &str) -> io::Result<Option<Metadata>> {
+    let found = find(rt, path)?;
+    if let Some(found) = &found {
+        plain_length(found)?;
     }
-}
-
-/// Whether a name is one segment, or one behind `partial/`.
-pub fn is_inside(name: &[u8]) -> bool
-    ensures { IsTrue result ↔ IsInside name.now }
-{
-    match name.strip_prefix(PARTIAL) {
-        Some(file) => is_segment(file),
-        None => name != "partial".as_bytes() && is_segment(name),
-    }
-}
-
-/// Whether a name leads neither up nor further down.
-fn is_segment(name: &[u8]) -> bool
-    ensures { IsTrue result ↔ IsSegment name.now }
-{
-    !is_same_or_up(name) && !has(name, b'/') && !has(name, b'\0')
-}
-
-/// Whether a name stands for the folder in which it is looked up, or for the one above.
-fn is_same_or_up(name: &[u8]) -> bool
-    ensures { IsTrue result ↔ (name.now ≡ []) ⊎ (name.now ≡ codes ".") ⊎ (name.now ≡ codes "..") }
-{
-    matches!(name, b"" | b"." | b"..")
-}
-
-/// Whether a byte stands in a name.
-#[tactic(auto, using(crate::proofs::Segments::has_decides))]
-fn has(name: &[u8], byte: u8) -> bool
-    ensures { IsTrue result ↔ Contains name.now byte }
-{
-    name.contains(&byte)
+    Ok(found)
 }
 
 /// The length of a plain file, `None` where nothing has the path. Anything else there is an error.
 pub fn length(rt: &impl Files, path: &str) -> io::Result<Option<u64>> {
-    match fs::symlink_metadata(rt, path) {
-        Ok(found) if found.is_file() => Ok(Some(found.len())),
-        Ok(_) => Err(io::Error::from(ErrorKind::InvalidFilename)),
-        Err(error) if error.kind() == ErrorKind::NotFound => Ok(None),
-        Err(error) => Err(error),
+    match find(rt, path)? {
+        Some(found) => Ok(Some(plain_length(&found)?)),
+        None => Ok(None),
     }
+}
+
+/// Opens the file that was found at a path. Where the path leads to another one by now, as by a link, it is an error.
+fn open_found(
+    rt: &impl Files<File = File>,
+    how: &OpenOptions,
+    path: &str,
+    found: &Metadata,
+) -> io::Result<File> {
+    let file = how.open(rt, path)?;
+    let opened = file.metadata()?;
+    if opened.dev() == found.dev() && opened.ino() == found.ino() {
+        Ok(file)
+    } else {
+        Err(io::Error::from(ErrorKind::InvalidFilename))
+    }
+}
+
+fn open_to_read(rt: &impl Files<File = File>, path: &str, found: &Metadata) -> io::Result<File> {
+    let mut how = OpenOptions::new();
+    how.read(true);
+    open_found(rt, &how, path, found)
+}
+
+fn open_to_write(rt: &impl Files<File = File>, path: &str, found: &Metadata) -> io::Result<File> {
+    let mut how = OpenOptions::new();
+    how.write(true);
+    open_found(rt, &how, path, found)
 }
 
 /// Reads bytes of a file into the front of `out` and answers how many.
@@ -106,8 +108,8 @@ pub fn read_at(
 ) -> io::Result<usize>
     ensures { IfOk result (λ n. n ≤ length out.old) }
 {
-    match length(rt, path)? {
-        Some(len) if at < len => read_some(&File::open(rt, path)?, at, out),
+    match find_plain(rt, path)? {
+        Some(found) if at < found.len() => read_some(&open_to_read(rt, path, &found)?, at, out),
         _ => Ok(0),
     }
 }
@@ -117,9 +119,8 @@ fn read_some(file: &File, at: u64, out: &mut [u8]) -> io::Result<usize>
     ensures { IfOk result (λ n. n ≤ length out.old) }
 {
     for _ in 0..u64::MAX {
-        match file.read_at(out, at) {
-            Err(error) if error.kind() == ErrorKind::Interrupted => {}
-            read => return read,
+        if let Some(n) = unless(ErrorKind::Interrupted, file.read_at(out, at))? {
+            return Ok(n);
         }
     }
     Err(io::Error::from(ErrorKind::Interrupted))
@@ -127,37 +128,32 @@ fn read_some(file: &File, at: u64, out: &mut [u8]) -> io::Result<usize>
 
 /// Writes bytes within a file or at its end.
 pub fn write_at(rt: &impl Files<File = File>, path: &str, at: u64, bytes: &[u8]) -> io::Result<()> {
-    if length(rt, path)?.is_none() {
-        return Err(io::Error::from(ErrorKind::NotFound));
+    match find_plain(rt, path)? {
+        Some(found) => open_to_write(rt, path, &found)?.write_all_at(bytes, at),
+        None => Err(io::Error::from(ErrorKind::NotFound)),
     }
-    OpenOptions::new()
-        .write(true)
-        .open(rt, path)?
-        .write_all_at(bytes, at)
 }
 
 /// Cuts a file to a length, an absent one being made first.
 pub fn cut(rt: &impl Files<File = File>, path: &str, len: u64) -> io::Result<()> {
-    length(rt, path)?;
-    OpenOptions::new()
-        .write(true)
-        .create(true)
-        .open(rt, path)?
-        .set_len(len)
+    match find_plain(rt, path)? {
+        Some(found) => open_to_write(rt, path, &found)?.set_len(len),
+        None => File::create_new(rt, path)?.set_len(len),
+    }
 }
 
 /// Makes a file's bytes lasting.
 pub fn sync(rt: &impl Files<File = File>, path: &str) -> io::Result<()> {
-    match length(rt, path)? {
-        Some(_) => File::open(rt, path)?.sync_all(),
+    match find_plain(rt, path)? {
+        Some(found) => open_to_read(rt, path, &found)?.sync_all(),
         None => Ok(()),
     }
 }
 
 /// Moves a file to another path, in place of what is there.
 pub fn rename(rt: &impl Files, from: &str, to: &str) -> io::Result<()> {
-    length(rt, to)?;
-    match length(rt, from)? {
+    find_plain(rt, to)?;
+    match find_plain(rt, from)? {
         Some(_) => fs::rename(rt, from, to),
         None => Ok(()),
     }
@@ -165,64 +161,72 @@ pub fn rename(rt: &impl Files, from: &str, to: &str) -> io::Result<()> {
 
 /// Removes a file. It does nothing where nothing has the path.
 pub fn remove(rt: &impl Files, path: &str) -> io::Result<()> {
-    match length(rt, path)? {
+    match find_plain(rt, path)? {
         Some(_) => fs::remove_file(rt, path),
         None => Ok(()),
     }
 }
 
-/// All names of plain files, in the folder and in `partial`. One that isn't UTF-8 is passed over.
-pub fn names<R: Files<File = File> + AllocGlobal + Clone + Drop>(
+/// Opens the file at a path to write, an absent one being made first.
+fn open_or_make(rt: &impl Files<File = File>, path: &str) -> io::Result<File> {
+    if let Some(made) = unless(ErrorKind::AlreadyExists, File::create_new(rt, path))? {
+        return Ok(made);
+    }
+    match find_plain(rt, path)? {
+        Some(found) => open_to_write(rt, path, &found),
+        None => Err(io::Error::from(ErrorKind::NotFound)),
+    }
+}
+
+/// Locks the file at a path, which is made where it is missing, and answers it, or `None` where another opening of it is
+/// locked. The lock lasts as long as the file stays open.
+pub fn lock(rt: &impl Files<File = File>, path: &str) -> io::Result<Option<File>> {
+    let file = open_or_make(rt, path)?;
+    match file.try_lock() {
+        Ok(()) => Ok(Some(file)),
+        Err(TryLockError::WouldBlock) => Ok(None),
+        Err(TryLockError::Error(error)) => Err(error),
+    }
+}
+
+/// What stands in the folder and in `partial`.
+pub fn entries<R: Files<File = File> + AllocGlobal + Clone + Drop>(
     rt: &R,
     alloc: Global,
     folder: &str,
-) -> io::Result<BTreeSet<Text>> {
-    let mut names = BTreeSet::new(alloc);
-    add_names(rt, alloc, folder, b"", &mut names)?;
-    let partial = format!(in alloc; "{folder}/partial")?;
-    add_names(rt, alloc, partial.as_str(), PARTIAL, &mut names)?;
-    Ok(names)
+) -> io::Result<Vec<Entry>> {
+    check_partial(rt, alloc, folder)?;
+    let mut entries = Vec::new(alloc);
+    add_entries(rt, alloc, folder, false, &mut entries)?;
+    let partial = partial_path(alloc, folder)?;
+    add_entries(rt, alloc, partial.as_str(), true, &mut entries)?;
+    Ok(entries)
 }
 
-/// Adds the names of plain files in one folder, with this text before them.
-fn add_names<R: Files<File = File> + AllocGlobal + Clone + Drop>(
+/// Adds what stands in one folder. A name that isn't UTF-8 is passed over.
+fn add_entries<R: Files<File = File> + AllocGlobal + Clone + Drop>(
     rt: &R,
     alloc: Global,
     path: &str,
-    before: &[u8],
-    names: &mut BTreeSet<Text>,
+    is_partial: bool,
+    entries: &mut Vec<Entry>,
 ) -> io::Result<()> {
     for entry in fs::read_dir(rt, path)? {
-        match entry {
-            Ok(entry) => {
-                if is_plain(entry.metadata())? {
-                    add_name(alloc, before, entry.file_name(), names)?;
-                }
-            }
-            Err(error) if error.kind() == ErrorKind::InvalidFilename => {}
-            Err(error) => return Err(error),
+        if let Some(entry) = unless(ErrorKind::InvalidFilename, entry)? {
+            entries.push(Entry {
+                is_partial,
+                name: Text::from(Vec::from_slice(alloc, entry.file_name().as_bytes())?),
+                is_plain: is_plain(entry.metadata())?,
+            })?;
         }
     }
     Ok(())
 }
 
 /// Whether an entry is a plain file. One that is gone meanwhile is none.
-fn is_plain(found: io::Result<fs::Metadata>) -> io::Result<bool> {
-    match found {
-        Ok(found) => Ok(found.is_file()),
-        Err(error) if error.kind() == ErrorKind::NotFound => Ok(false),
-        Err(error) => Err(error),
+fn is_plain(found: io::Result<Metadata>) -> io::Result<bool> {
+    match unless(ErrorKind::NotFound, found)? {
+        Some(found) => Ok(found.is_file()),
+        None => Ok(false),
     }
-}
-
-fn add_name(
-    alloc: Global,
-    before: &[u8],
-    name: &str,
-    names: &mut BTreeSet<Text>,
-) -> io::Result<()> {
-    let mut text = Vec::from_slice(alloc, before)?;
-    text.extend_from_slice(name.as_bytes())?;
-    names.insert(Text::from(text)).map_err(AllocError::from)?;
-    Ok(())
 }

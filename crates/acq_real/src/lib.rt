@@ -1,16 +1,20 @@
 //! The outside as the operating system has it: a folder of lists, a clock and an output.
 //!
-//! These adapters are the trusted edge. They tell no content; what is proved of them is that a fault comes only where
-//! their count of faults rose, and that the disk takes no name that may lead out of its folder.
+//! These adapters are the trusted edge. They tell no content; what is proved of them is that their count of faults rises
+//! just where a call answers a fault, that the disk takes no name that may lead out of its folder, and what is made of
+//! the values that the system answers: which entries are listed, which errors count, which moment a time is.
 #![tactic(auto)]
 
 pub use clock::RealClock;
 pub use disk::RealDisk;
 pub use sink::RealSink;
 
+mod answer;
 mod clock;
 mod disk;
 mod folder;
+mod listing;
+mod path;
 mod sink;
 #[cfg(test)]
 mod tests;

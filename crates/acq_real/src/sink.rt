@@ -1,4 +1,6 @@
-ghost use Rattle.std.specs.Prelude.{None};
+//! The standard output.
+ghost use Rattle.std.specs.Prelude.{None, OnOk};
+ghost use Rattle.std.specs.Io.KnownBytes.{Appends};
 
 use acq_outside::{Fault, Sink};
 use std::io;
@@ -29,7 +31,7 @@ impl<R: Print + Drop> Sink for RealSink<R> {
     ghost written = { λ _. None };
 
     fn write(&mut self, bytes: &[u8]) -> Result<(), Fault> {
-        match put(&self.rt, bytes) {
+        match put(&mut io::writer(&self.rt), bytes) {
             Ok(()) => Ok(()),
             Err(_) => {
                 self.faults = self.faults.saturating_add(1);
@@ -39,8 +41,10 @@ impl<R: Print + Drop> Sink for RealSink<R> {
     }
 }
 
-fn put(rt: &impl Print, bytes: &[u8]) -> io::Result<()> {
-    let mut writer = io::writer(rt);
+/// Writes all bytes, and hands on what the writer holds back.
+fn put<W: Write>(writer: &mut W, bytes: &[u8]) -> io::Result<()>
+    ensures { OnOk result (Appends (W.contents writer.old) (W.contents writer.new) bytes.now) }
+{
     writer.write_all(bytes)?;
     writer.flush()
 }

@@ -1,15 +1,19 @@
 -- Entries that are added give pairs, and each step of reading adds what it says.
-use Rattle.std.proofs.Common.{◌≡◌, ℕ, ◌+◌, ◌-◌, ◌<◌, ◌≤◌, List, [], ◌∷◌, ◌++◌, length, take, Option, Some, None, refl, sym, ap, ◌∙◌, append_assoc, length-append, arith}
-use Rattle.std.specs.Prelude.{codes, nat_lt, nat_eq, true, false, Ok}
-use Rattle.std.proofs.lemmas.List.{append-nil, take_at, take_all, take-take}
+use Rattle.std.proofs.Common.{◌≡◌, ℕ, ◌+◌, ◌-◌, ◌<◌, ◌≤◌, List, [], ◌∷◌, ◌++◌, Bool, length, take, Option, Some, None, Result, Ok, Err, refl, sym, ap, subst, ◌∙◌, append_assoc, length-append, arith}
+use Rattle.std.specs.Prelude.{codes, if◌then◌else◌, nat_lt, nat_eq, true, false}
+use Rattle.std.proofs.lemmas.List.{append-nil, length-take, take_at, take_all, take-take}
 use Rattle.std.proofs.lemmas.Bool.Decides.{nat_tests}
 use Rattle.std.proofs.lemmas.Grind.{flat_map-append}
 use Rattle.apt_conf.specs.declared.entry.Entry.{Entry}
+use Rattle.apt_conf.specs.declared.error.ConfError.{ConfError}
+use Rattle.apt_conf.specs.declared.error.ConfError.TheVariants.{LongFile, BadConf, BadValue, NoMemory}
+use Rattle.apt_conf.specs.declared.statement.Part.{Part}
 use Rattle.apt_conf.specs.declared.statement.Part.TheVariants.{Start}
 use Rattle.apt_conf.specs.Keys.{Pair}
-use Rattle.apt_conf.specs.Entries.{key_of, last_key, given_if, pairs_in}
-use Rattle.apt_conf.specs.Statements.{Place, Moved, given, prefix_of, entered, left, on_line}
-use Rattle.apt_conf.specs.Progress.{IsAt, Advances, Steps}
+use Rattle.apt_conf.specs.Entries.{key_of, last_key, given_if, pairs_in, IsFresh}
+use Rattle.apt_conf.specs.declared.statement.Step.TheVariants.{Sets, SetsAndEnters}
+use Rattle.apt_conf.specs.Statements.{given, prefix_of, moved_to, entered, left, moved_by, on_line}
+use Rattle.apt_conf.specs.Progress.{State, state_of, IsAt, Steps}
 
 pairs_in-append : (before : List ℕ) (xs ys : List Entry) → pairs_in before (xs ++ ys) ≡ pairs_in before xs ++ pairs_in (last_key before xs) ys
 unfolding pairs_in last_key
@@ -38,9 +42,6 @@ prefix_of-push blocks key =
 abbrev pub entry_of : ℕ → List ℕ → Option (List ℕ) → Entry
 entry_of shared rest value = record { shared = shared; rest = rest; value = value }
 
-abbrev pub at_start : List Pair → List (List ℕ) → Moved
-at_start pairs blocks = record { pairs = pairs; place = record { blocks = blocks; part = Start } }
-
 -- an entry that shares what stands before each key has the key in these blocks
 key_in_blocks : (old : List Entry) (blocks : List (List ℕ)) (prefix : ℕ) (rest : List ℕ) (value : Option (List ℕ)) → IsAt old blocks prefix → key_of (last_key [] old) (entry_of prefix rest value) ≡ prefix_of blocks ++ rest
 key_in_blocks old blocks prefix rest value h = ap (λ (front : List ℕ). front ++ rest) h.kept
@@ -54,78 +55,112 @@ pairs_in_blocks old new blocks prefix rest value h e =
     ap (pairs_in []) e ∙ pairs_in-push [] old (entry_of prefix rest value)
     ∙ ap (λ (key : List ℕ). pairs_in [] old ++ given_if key value) (key_in_blocks old blocks prefix rest value h)
 
-pub sets_steps : (old new : List Entry) (blocks : List (List ℕ)) (prefix : ℕ) (key value : List ℕ) → IsAt old blocks prefix → new ≡ old ++ entry_of prefix key (Some value) ∷ []
-    → Advances old new blocks prefix Start (at_start (given (prefix_of blocks ++ key) value) blocks)
-sets_steps old new blocks prefix key value h e = record {
-  pairs = pairs_in_blocks old new blocks prefix key (Some value) h e;
-  blocks_are = refl;
-  part_is = refl;
-  at = record {
-    measured = h.measured;
-    kept = ap (take prefix) (last_key_in_blocks old new blocks prefix key (Some value) h e) ∙ take_at (prefix_of blocks) key prefix (sym h.measured);
-  };
+-- ---- what stays true of the entries, the blocks and the prefix
+
+pushed_fresh : (old : List Entry) (blocks : List (List ℕ)) (prefix : ℕ) (rest : List ℕ) (value : Option (List ℕ)) → IsAt old blocks prefix → IsFresh (old ++ entry_of prefix rest value ∷ [])
+unfolding last_key
+pushed_fresh [] blocks prefix rest value h = omega (arith, h.measured, ap length h.kept, length-take {A = ℕ} prefix [])
+pushed_fresh (entry ∷ old) blocks prefix rest value h = h.fresh
+
+fresh_so : (old new : List Entry) (blocks : List (List ℕ)) (prefix : ℕ) (rest : List ℕ) (value : Option (List ℕ)) → IsAt old blocks prefix → new ≡ old ++ entry_of prefix rest value ∷ [] → IsFresh new
+fresh_so old new blocks prefix rest value h e = subst IsFresh (sym e) (pushed_fresh old blocks prefix rest value h)
+
+-- an entry more, which shares what stands before each key
+pub at_pushed : (old new : List Entry) (blocks : List (List ℕ)) (prefix : ℕ) (rest : List ℕ) (value : Option (List ℕ)) → IsAt old blocks prefix → new ≡ old ++ entry_of prefix rest value ∷ [] → IsAt new blocks prefix
+at_pushed old new blocks prefix rest value h e = record {
+  measured = h.measured;
+  kept = ap (take prefix) (last_key_in_blocks old new blocks prefix rest value h e) ∙ take_at (prefix_of blocks) rest prefix (sym h.measured);
+  fresh = fresh_so old new blocks prefix rest value h e;
 }
 
-pub enters_steps : (old new : List Entry) (blocks entered : List (List ℕ)) (prefix longer : ℕ) (key : List ℕ) → IsAt old blocks prefix → new ≡ old ++ entry_of prefix (key ++ codes "::") None ∷ [] → entered ≡ blocks ++ key ∷ [] → longer ≡ prefix + length (key ++ codes "::")
-    → Advances old new entered longer Start (at_start [] (blocks ++ key ∷ []))
-enters_steps old new blocks entered prefix longer key h e b l =
+-- the key of a block more, in an entry and among the blocks
+pub at_entered : (old new : List Entry) (blocks entered : List (List ℕ)) (prefix longer : ℕ) (key : List ℕ) → IsAt old blocks prefix → new ≡ old ++ entry_of prefix (key ++ codes "::") None ∷ [] → entered ≡ blocks ++ key ∷ [] → longer ≡ prefix + length (key ++ codes "::")
+    → IsAt new entered longer
+at_entered old new blocks entered prefix longer key h e b l =
     let prefix_is : prefix_of entered ≡ prefix_of blocks ++ (key ++ codes "::") = ap prefix_of b ∙ prefix_of-push blocks key in
     let longer_is : longer ≡ length (prefix_of entered) = l ∙ ap (λ (n : ℕ). n + length (key ++ codes "::")) h.measured ∙ sym (length-append (prefix_of blocks) (key ++ codes "::")) ∙ ap length (sym prefix_is) in
     let key_is : last_key [] new ≡ prefix_of entered = last_key_in_blocks old new blocks prefix (key ++ codes "::") None h e ∙ sym prefix_is in
     record {
-      pairs = pairs_in_blocks old new blocks prefix (key ++ codes "::") None h e;
-      blocks_are = b;
-      part_is = refl;
-      at = record {
-        measured = longer_is;
-        kept = ap (take longer) key_is ∙ take_all longer (prefix_of entered) (omega arith);
-      };
+      measured = longer_is;
+      kept = ap (take longer) key_is ∙ take_all longer (prefix_of entered) (omega arith);
+      fresh = fresh_so old new blocks prefix (key ++ codes "::") None h e;
     }
 
-pub leaves_steps : (entries : List Entry) (blocks left : List (List ℕ)) (prefix shorter : ℕ) (key : List ℕ) → IsAt entries blocks prefix → blocks ≡ left ++ key ∷ [] → shorter ≡ prefix - (length key + 2)
-    → Advances entries entries left shorter Start (at_start [] (take (length blocks - 1) blocks))
-leaves_steps entries blocks left prefix shorter key h b s =
-    let n : length left ≡ length blocks - 1 = omega (arith, ap length b, length-append left (key ∷ [])) in
+-- a block less
+pub at_left : (entries : List Entry) (blocks left : List (List ℕ)) (prefix shorter : ℕ) (key : List ℕ) → IsAt entries blocks prefix → blocks ≡ left ++ key ∷ [] → shorter ≡ prefix - (length key + 2) → IsAt entries left shorter
+at_left entries blocks left prefix shorter key h b s =
     let prefix_is : prefix_of blocks ≡ prefix_of left ++ (key ++ codes "::") = ap prefix_of b ∙ prefix_of-push left key in
-    let shorter_is : shorter ≡ length (prefix_of left) = omega (arith, h.measured, ap length prefix_is, length-append (prefix_of left) (key ++ codes "::"), length-append key (codes "::")) in
-    let within : shorter ≤ prefix = omega arith in
+    let shorter_is : shorter ≡ length (prefix_of left) = omega (arith, s, h.measured, ap length prefix_is, length-append (prefix_of left) (key ++ codes "::"), length-append key (codes "::")) in
+    let within : shorter ≤ prefix = omega (arith, s) in
     record {
-      pairs = sym (append-nil (pairs_in [] entries));
-      blocks_are = sym (ap (take (length blocks - 1)) b ∙ take_at left (key ∷ []) (length blocks - 1) n);
-      part_is = refl;
-      at = record {
-        measured = shorter_is;
-        kept =
-            sym (take-take shorter prefix (last_key [] entries) within)
-            ∙ ap (take shorter) (h.kept ∙ prefix_is)
-            ∙ take_at (prefix_of left) (key ++ codes "::") shorter (sym shorter_is);
-      };
+      measured = shorter_is;
+      kept =
+          sym (take-take shorter prefix (last_key [] entries) within)
+          ∙ ap (take shorter) (h.kept ∙ prefix_is)
+          ∙ take_at (prefix_of left) (key ++ codes "::") shorter (sym shorter_is);
+      fresh = h.fresh;
     }
 
--- a key that is set and whose block is entered
-pub both_steps : (old between new : List Entry) (blocks entered : List (List ℕ)) (longer : ℕ) (pairs : List Pair) (place : Place) → pairs_in [] between ≡ pairs_in [] old ++ pairs → Advances between new entered longer Start (record { pairs = []; place = place })
-    → Advances old new entered longer Start (record { pairs = pairs; place = place })
-both_steps old between new blocks entered longer pairs place p a = record {
-  pairs = a.pairs ∙ append-nil (pairs_in [] between) ∙ p;
-  blocks_are = a.blocks_are;
-  part_is = a.part_is;
-  at = a.at;
-}
+-- ---- what each step adds
+
+pub set_steps : (old new : List Entry) (blocks : List (List ℕ)) (prefix : ℕ) (part : Part) (key value : List ℕ) (before : State) → state_of old blocks part ≡ before → IsAt old blocks prefix → new ≡ old ++ entry_of prefix key (Some value) ∷ []
+    → Steps {T = Unit {0}} before (state_of new blocks Start) (Ok tt) (on_line 0 (moved_by before.place.blocks (Sets key value)))
+set_steps old new blocks prefix part key value before is h e =
+    subst (λ (s : State). Steps {T = Unit {0}} s (state_of new blocks Start) (Ok tt) (on_line 0 (moved_by s.place.blocks (Sets key value)))) is
+    (ap (λ (pairs : List Pair). record { pairs = pairs; place = record { blocks = blocks; part = Start } }) (pairs_in_blocks old new blocks prefix key (Some value) h e))
 
 -- within the depth that blocks may have
-pub allowed_steps : (old new : List Entry) (blocks inner : List (List ℕ)) (longer line : ℕ) (key : List ℕ) (pairs : List Pair) → length blocks < 16 → Advances old new inner longer Start (at_start pairs (blocks ++ key ∷ []))
-    → Steps {T = Unit {0}} old new inner longer Start (Ok tt) (on_line line (entered blocks key pairs))
-allowed_steps old new blocks inner longer line key pairs lt a =
+pub enter_steps : (old new : List Entry) (blocks inner : List (List ℕ)) (prefix line : ℕ) (part : Part) (key : List ℕ) (before : State) → state_of old blocks part ≡ before → length blocks < 16 → IsAt old blocks prefix
+    → new ≡ old ++ entry_of prefix (key ++ codes "::") None ∷ [] → inner ≡ blocks ++ key ∷ [] → Steps {T = Unit {0}} before (state_of new inner Start) (Ok tt) (on_line line (entered before.place.blocks key []))
+enter_steps old new blocks inner prefix line part key before is lt h e b =
     let t : nat_lt (length blocks) 16 ≡ true = grind (arith, nat_tests) in
-    rw t a
+    subst (λ (s : State). Steps {T = Unit {0}} s (state_of new inner Start) (Ok tt) (on_line line (entered s.place.blocks key []))) is
+    (rw t (λ i. record { pairs = pairs_in_blocks old new blocks prefix (key ++ codes "::") None h e i; place = record { blocks = b i; part = Start } }))
 
 -- where a block is open
-pub left_steps : (entries : List Entry) (blocks outer : List (List ℕ)) (shorter line : ℕ) (key : List ℕ) → blocks ≡ outer ++ key ∷ [] → Advances entries entries outer shorter Start (at_start [] (take (length blocks - 1) blocks))
-    → Steps {T = Unit {0}} entries entries outer shorter Start (Ok tt) (on_line line (left blocks))
-left_steps entries blocks outer shorter line key b a =
+pub leave_steps : (entries : List Entry) (blocks outer : List (List ℕ)) (line : ℕ) (part : Part) (key : List ℕ) (before : State) → state_of entries blocks part ≡ before → blocks ≡ outer ++ key ∷ []
+    → Steps {T = Unit {0}} before (state_of entries outer Start) (Ok tt) (on_line line (left before.place.blocks))
+leave_steps entries blocks outer line part key before is b =
     let n : length blocks ≡ length outer + 1 = ap length b ∙ length-append outer (key ∷ []) in
     let t : nat_eq (length blocks) 0 ≡ false = grind (arith, nat_tests) in
-    rw t a
+    let fewer : length outer ≡ length blocks - 1 = omega (arith, n) in
+    let o : outer ≡ take (length blocks - 1) blocks = sym (ap (take (length blocks - 1)) b ∙ take_at outer (key ∷ []) (length blocks - 1) fewer) in
+    let p : pairs_in [] entries ≡ pairs_in [] entries ++ [] = sym (append-nil (pairs_in [] entries)) in
+    subst (λ (s : State). Steps {T = Unit {0}} s (state_of entries outer Start) (Ok tt) (on_line line (left s.place.blocks))) is
+    (rw t (λ i. record { pairs = p i; place = record { blocks = o i; part = Start } }))
+
+with_pairs : {U : Type 0} (deep : Bool) (old new : State) (line : ℕ) (inner : List (List ℕ)) (pairs : List Pair) (result : Result U ConfError)
+    → Steps (record { pairs = old.pairs ++ pairs; place = record { blocks = old.place.blocks; part = Start } }) new result (on_line line (if deep then moved_to [] inner Start else None))
+    → Steps old new result (on_line line (if deep then moved_to pairs inner Start else None))
+with_pairs true old new line inner pairs (Ok x) h = h ∙ λ i. record { pairs = append-nil (old.pairs ++ pairs) i; place = record { blocks = inner; part = Start } }
+with_pairs true old new line inner pairs (Err LongFile) h = absurd cc
+with_pairs true old new line inner pairs (Err (BadConf on)) h = absurd cc
+with_pairs true old new line inner pairs (Err (BadValue of)) h = absurd cc
+with_pairs true old new line inner pairs (Err NoMemory) h = tt
+with_pairs false old new line inner pairs (Ok x) h = absurd h
+with_pairs false old new line inner pairs (Err e) h = h
+
+-- a key that is set and whose block is entered
+pub both_steps : {T U : Type 0} (x : T) (old between new : State) (line : ℕ) (same key value : List ℕ) (result : Result U ConfError) → same ≡ key → Steps old between (Ok x) (on_line 0 (moved_by old.place.blocks (Sets same value)))
+    → Steps between new result (on_line line (entered between.place.blocks key [])) → Steps old new result (on_line line (moved_by old.place.blocks (SetsAndEnters key value)))
+both_steps x old between new line same key value result k first second =
+    let blocks = old.place.blocks in
+    let set : between ≡ record { pairs = old.pairs ++ given (prefix_of blocks ++ key) value; place = record { blocks = blocks; part = Start } } =
+    first ∙ ap (λ (name : List ℕ). record { pairs = old.pairs ++ given (prefix_of blocks ++ name) value; place = record { blocks = blocks; part = Start } }) k in
+    with_pairs (nat_lt (length blocks) 16) old new line (blocks ++ key ∷ []) (given (prefix_of blocks ++ key) value) result
+    (subst (λ (s : State). Steps s new result (on_line line (entered s.place.blocks key []))) set second)
+
+-- ---- entries of their own
+
+pub fresh_behind : (before : List ℕ) (entries : List Entry) → IsFresh entries → pairs_in before entries ≡ pairs_in [] entries
+unfolding pairs_in
+fresh_behind before [] h = refl
+fresh_behind before (entry ∷ entries) h =
+    let key_is : key_of before entry ≡ key_of [] entry = ap (λ (n : ℕ). take n before ++ entry.rest) h ∙ sym (ap (λ (n : ℕ). take n [] ++ entry.rest) h) in
+    ap (λ (key : List ℕ). given_if key entry.value ++ pairs_in key entries) key_is
+
+pub appended : (old read new : List Entry) → IsFresh read → new ≡ old ++ read → pairs_in [] new ≡ pairs_in [] old ++ pairs_in [] read
+appended old read new h e = ap (pairs_in []) e ∙ pairs_in-append [] old read ∙ ap (λ (pairs : List Pair). pairs_in [] old ++ pairs) (fresh_behind (last_key [] old) read h)
 
 -- a pair of its own
 pub pushed_pair : (old new : List Entry) (key value rest text : List ℕ) → rest ≡ key → text ≡ value → new ≡ old ++ entry_of 0 rest (Some text) ∷ [] → pairs_in [] new ≡ pairs_in [] old ++ given key value

@@ -115,7 +115,7 @@ listed_step blocks value ts = front-nil (front [] (bare (begin blocks) ts)) ∙ 
 pub deeper : (blocks : List (List ℕ)) (key : List ℕ) (room : ℕ) → room + length blocks ≡ 16 → 0 < room → (room - 1) + length (blocks ++ key ∷ []) ≡ 16
 deeper blocks key room r some = omega (arith, length-append blocks (key ∷ []))
 
-items_read : (items : Items) (room : ℕ) (blocks : List (List ℕ)) (more : List Token) → room + length blocks ≡ 16 → AreItems room items → bare (begin blocks) (spelled items ++ more) ≡ front (given_by blocks items) (bare (begin blocks) more)
+pub items_read : (items : Items) (room : ℕ) (blocks : List (List ℕ)) (more : List Token) → room + length blocks ≡ 16 → AreItems room items → bare (begin blocks) (spelled items ++ more) ≡ front (given_by blocks items) (bare (begin blocks) more)
 unfolding spelled given_by AreItems
 items_read nothing room blocks more r h = sym (front-nil (bare (begin blocks) more))
 items_read (empty rest) room blocks more r h = empty_step blocks (spelled rest ++ more) ∙ items_read rest room blocks more r h

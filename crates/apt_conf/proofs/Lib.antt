@@ -1,5 +1,4 @@
 pub mod LineLemmas
-pub mod NumberLemmas
 pub mod EntryLemmas
 pub mod KeyLemmas
 pub mod TokenLemmas
@@ -8,6 +7,7 @@ pub mod LookupLemmas
 pub mod SettingLemmas
 pub mod GrammarLemmas
 pub mod TreeLemmas
+pub mod RefusalLemmas
 pub mod PieceLemmas
 pub mod FindLemmas
 pub mod WrittenLemmas

@@ -17,7 +17,7 @@ use Rattle.apt_conf.specs.Tokens.{Placed, last_line, tokens_of}
 use Rattle.apt_conf.specs.Statements.{start, given, prefix_of, is_start, is_closed, step_at_start, step_when_listed, step_when_named, step_when_valued, pairs_from}
 use Rattle.apt_conf.specs.Progress.{Reads}
 use Rattle.apt_conf.specs.Reading.{pairs_of}
-use Rattle.apt_conf.specs.Grammar.{Items, nothing, empty, listed, named, sets, block, sets_block, value_token, spelled, given_by, AreItems, Spells, Adds}
+use Rattle.apt_conf.specs.Grammar.{Items, nothing, empty, listed, named, sets, block, sets_block, value_token, spelled, given_by, AreItems, Adds}
 use Rattle.apt_conf.proofs.GrammarLemmas.{front, front-nil, bare, pairs_from-bare, begin, at, key_step, value_step, enter_step, set_and_enter_step, leave_step, end_step, set_step, empty_step, listed_step, deeper}
 
 -- ---- what an answer says of its parts
@@ -329,21 +329,20 @@ all_parsed [] more e h = (refl, cc)
 all_parsed (t ∷ ts) more e h =
     absurd (none_some more (subst (λ (u : Token). bare start (u ∷ ts) ≡ Some more) e h))
 
-record Spelled (text : List ℕ) (pairs : List Pair) : Type 0 where
-  items : Items
-  are_items : AreItems 16 items
-  spells : Spells text items
-  gives : pairs ≡ given_by [] items
+pub record Stated (ts : List Token) (pairs : List Pair) : Type 0 where
+  pub items : Items
+  pub are_items : AreItems 16 items
+  pub is : ts ≡ spelled items
+  pub gives : pairs ≡ given_by [] items
 
-spelled_from : (text : List ℕ) (pairs : List Pair) → bare start (map (λ (t : Placed). t.token) (tokens_of text)) ≡ Some pairs → Spelled text pairs
-spelled_from text pairs h =
-    let ts = map (λ (t : Placed). t.token) (tokens_of text) in
+pub statements_from : (ts : List Token) (pairs : List Pair) → bare start ts ≡ Some pairs → Stated ts pairs
+statements_from ts pairs h =
     let p = parses (length ts) 16 [] ts pairs (omega arith) refl h in
     let all = all_parsed p.left p.more p.ends p.goes_on in
     record {
       items = p.items;
       are_items = p.are_items;
-      spells = p.spells ∙ ap (λ (l : List Token). spelled p.items ++ l) all.0 ∙ append-nil (spelled p.items);
+      is = p.spells ∙ ap (λ (l : List Token). spelled p.items ++ l) all.0 ∙ append-nil (spelled p.items);
       gives = p.gives ∙ ap (λ (l : List Pair). given_by [] p.items ++ l) all.1 ∙ append-nil (given_by [] p.items);
     }
 
@@ -355,15 +354,15 @@ tokens_read text pairs h =
       | inr f ↦ rw f at h
     ]
 
-read_spelled : (text : List ℕ) (pairs : List Pair) → pairs_of text ≡ Ok pairs → Spelled text pairs
+read_spelled : (text : List ℕ) (pairs : List Pair) → pairs_of text ≡ Ok pairs → Stated (map (λ (t : Placed). t.token) (tokens_of text)) pairs
 read_spelled text pairs h =
-    spelled_from text pairs (sym (pairs_from-bare (last_line text) start (tokens_of text)) ∙ ap (λ (r : Result (List Pair) ConfError). result_ok r) (tokens_read text pairs h))
+    statements_from (map (λ (t : Placed). t.token) (tokens_of text)) pairs (sym (pairs_from-bare (last_line text) start (tokens_of text)) ∙ ap (λ (r : Result (List Pair) ConfError). result_ok r) (tokens_read text pairs h))
 
 adds_from : (old new : List Entry) (result : Result (Unit {0}) ConfError) (read : Result (List Pair) ConfError) (text : List ℕ) → pairs_of text ≡ read → Reads old new result read
     → OnOk result (Adds (pairs_in [] old) text (pairs_in [] new))
 adds_from old new (Ok x) (Ok pairs) text e r =
     let s = read_spelled text pairs e in
-    record { items = s.items; are_items = s.are_items; spells = s.spells; added = r ∙ ap (λ (l : List Pair). pairs_in [] old ++ l) s.gives }
+    record { items = s.items; are_items = s.are_items; spells = s.is; added = r ∙ ap (λ (l : List Pair). pairs_in [] old ++ l) s.gives }
 adds_from old new (Ok x) (Err d) text e r = absurd r
 adds_from old new (Err d) read text e r = tt
 

@@ -1,5 +1,5 @@
 -- How pairs are kept: each entry takes over the front of the key before it, so that the key of a block stands once.
-use Rattle.std.specs.Prelude.{ℕ, List, [], ◌∷◌, ◌++◌, take, Option, Some, None}
+use Rattle.std.specs.Prelude.{◌≡◌, ℕ, List, [], ◌∷◌, ◌++◌, take, Option, Some, None}
 use Rattle.apt_conf.specs.declared.entry.Entry.{Entry}
 use Rattle.apt_conf.specs.Keys.{Pair}
 use Rattle.apt_conf.specs.Statements.{given}
@@ -22,3 +22,8 @@ given_if key None = []
 unfoldable pub pairs_in : List ℕ → List Entry → List Pair
 pairs_in before [] = []
 pairs_in before (entry ∷ entries) = given_if (key_of before entry) entry.value ++ pairs_in (key_of before entry) entries
+
+-- the first of the entries takes over nothing
+abbrev pub IsFresh : List Entry → Type 0
+IsFresh [] = Unit {0}
+IsFresh (entry ∷ entries) = entry.shared ≡ 0

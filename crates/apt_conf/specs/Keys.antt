@@ -1,8 +1,8 @@
 -- Keys of apt.conf(5), and the value that pairs give to one.
-use Rattle.std.specs.Prelude.{ℕ, ◌+◌, ◌==◌, ◌&&◌, ◌||◌, not, nat_lt, nat_eq, Bool, true, false, if◌then◌else◌, List, [], ◌∷◌, length, drop, map, Option, Some, None, codes}
+use Rattle.std.specs.Prelude.{ℕ, ◌+◌, ◌==◌, ◌&&◌, ◌||◌, not, nat_lt, Bool, true, false, if◌then◌else◌, List, [], ◌∷◌, length, drop, Option, Some, None, codes}
 use Rattle.std.specs.List.{list_any, list_all}
-use Rattle.std.specs.Char.{is_ascii_alphanumeric, to_ascii_lowercase, eq_ignore_ascii_case}
-use Rattle.std.specs.Cmp.Lexicographic.{pointwise}
+use Rattle.std.specs.Char.{is_ascii_alphanumeric, eq_ignore_ascii_case}
+use Rattle.std.specs.Str.{str_eq_ignore_ascii_case}
 
 -- a key and its value
 abbrev pub Pair : Type 0
@@ -30,7 +30,7 @@ has_empty_part key = empty_part true key
 
 -- keys are compared without regard to ASCII case
 unfoldable pub same_key : List ℕ → List ℕ → Bool
-same_key a b = pointwise nat_eq (map to_ascii_lowercase a) (map to_ascii_lowercase b)
+same_key a b = str_eq_ignore_ascii_case a b
 
 -- how many first bytes of two texts are the same, ASCII case aside
 unfoldable pub common_length : List ℕ → List ℕ → ℕ

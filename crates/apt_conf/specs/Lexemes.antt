@@ -1,6 +1,8 @@
 -- What stands at the front of a text of apt.conf(5): white space, a comment, or a word, a quoted value or a mark.
 use Rattle.std.specs.Prelude.{ℕ, ◌+◌, ◌==◌, ◌&&◌, ◌||◌, not, nat_le, nat_eq, Bool, if◌then◌else◌, List, [], ◌∷◌, length, slice_index, drop, codes}
 use Rattle.std.specs.List.{starts_with}
+use Rattle.apt_conf.specs.declared.run.Stop.{Stop}
+use Rattle.apt_conf.specs.declared.run.Stop.TheVariants.{LineFeed, EqualsSign, CommentEnd, WordEnd, LastQuoted}
 use Rattle.apt_conf.specs.declared.lexeme.Lexeme.{Lexeme}
 use Rattle.apt_conf.specs.declared.lexeme.Lexeme.TheVariants.{Gap, Word, Quoted, Semicolon, Open, Close, Torn, Unclosed}
 
@@ -21,6 +23,9 @@ is_line_end text = slice_index text 0 == 13 && slice_index text 1 == 10
 
 abbrev pub is_feed : List ℕ → Bool
 is_feed text = slice_index text 0 == 10
+
+abbrev pub is_equals_sign : List ℕ → Bool
+is_equals_sign text = slice_index text 0 == 61
 
 -- one of `"`, `;`, `{`, `}`
 abbrev pub is_delimiter : List ℕ → Bool
@@ -53,6 +58,14 @@ closes_comment text = slice_index text 0 == 42 && slice_index text 1 == 47
 -- whether a quoted value stops behind this byte: at a line feed, or at a `"` that no `\` stands before
 unfoldable pub closes_quote : List ℕ → Bool
 closes_quote text = slice_index text 1 == 10 || (slice_index text 1 == 34 && not (slice_index text 0 == 92))
+
+-- what a run of bytes stands before
+abbrev pub stops_at : Stop → List ℕ → Bool
+stops_at LineFeed = is_feed
+stops_at EqualsSign = is_equals_sign
+stops_at CommentEnd = closes_comment
+stops_at WordEnd = ends_word
+stops_at LastQuoted = closes_quote
 
 -- the comment to the line's end
 unfoldable pub line_comment : List ℕ → Lexeme

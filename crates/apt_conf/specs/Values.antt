@@ -1,9 +1,8 @@
 -- What the values of settings read as, each on its own.
-use Rattle.std.specs.Prelude.{ℕ, ◌==◌, ◌&&◌, ◌||◌, not, nat_le, nat_lt, ◌^◌, nat_eq, Bool, true, false, if◌then◌else◌, List, [], ◌∷◌, length, Option, Some, None, codes}
+use Rattle.std.specs.Prelude.{ℕ, ◌==◌, ◌&&◌, ◌||◌, not, nat_le, Bool, true, false, if◌then◌else◌, List, [], ◌∷◌, length, Option, Some, None, codes, bytes_eq}
 use Rattle.std.specs.List.{list_any, list_all}
-use Rattle.std.specs.Char.{is_ascii_alphanumeric, is_ascii_digit}
-use Rattle.std.specs.Str.Parse.{digits_value}
-use Rattle.std.specs.Cmp.Lexicographic.{pointwise}
+use Rattle.std.specs.Char.{is_ascii_alphanumeric}
+use Rattle.acq_base.specs.Digits.{number_of_digits}
 use Rattle.acq_base.specs.Words.{is_blank_or_comma, words}
 use Rattle.acq_base.specs.declared.plan.ByHash.{ByHash}
 use Rattle.acq_base.specs.declared.plan.ByHash.TheVariants.{No, Yes, Force}
@@ -12,16 +11,12 @@ use Rattle.apt_conf.specs.declared.values.Words.{Words}
 use Rattle.apt_conf.specs.declared.values.Words.TheVariants.{Architectures, Languages, Kinds}
 use Rattle.apt_conf.specs.Keys.{same_key}
 
--- a text is exactly this word
-abbrev pub is_spelled : List ℕ → List ℕ → Bool
-is_spelled text word = pointwise nat_eq text word
-
 -- letters, digits and `._-+~:`, and not the segment `..`
 abbrev pub is_architecture_character : ℕ → Bool
 is_architecture_character c = is_ascii_alphanumeric c || list_any (λ d. c == d) (codes "._-+~:")
 
 unfoldable pub is_architecture : List ℕ → Bool
-is_architecture text = not (length text == 0) && list_all is_architecture_character text && not (is_spelled text (codes ".."))
+is_architecture text = not (length text == 0) && list_all is_architecture_character text && not (bytes_eq text (codes ".."))
 
 -- letters, digits, `_` and `-`
 abbrev pub is_language_character : ℕ → Bool
@@ -31,7 +26,7 @@ unfoldable pub is_language : List ℕ → Bool
 is_language text = not (length text == 0) && list_all is_language_character text
 
 unfoldable pub is_picked_kind : List ℕ → Bool
-is_picked_kind text = is_spelled text (codes "Packages") || is_spelled text (codes "Sources") || is_spelled text (codes "Translations")
+is_picked_kind text = bytes_eq text (codes "Packages") || bytes_eq text (codes "Sources") || bytes_eq text (codes "Translations")
 
 -- which words may stand in a list
 abbrev pub is_allowed : Words → List ℕ → Bool
@@ -53,32 +48,30 @@ listed kind text = checked kind (words is_blank_or_comma text)
 -- the word `none` alone stands for no language
 abbrev pub but_none : List (List ℕ) → List (List ℕ)
 but_none [] = []
-but_none (first ∷ []) = if is_spelled first (codes "none") then [] else first ∷ []
+but_none (first ∷ []) = if bytes_eq first (codes "none") then [] else first ∷ []
 but_none (first ∷ second ∷ others) = first ∷ second ∷ others
 
 -- the kinds that words name
 abbrev pub picked : List (List ℕ) → Pick
 picked names = record {
-  packages = list_any (λ name. is_spelled name (codes "Packages")) names;
-  sources = list_any (λ name. is_spelled name (codes "Sources")) names;
-  translations = list_any (λ name. is_spelled name (codes "Translations")) names;
+  packages = list_any (λ name. bytes_eq name (codes "Packages")) names;
+  sources = list_any (λ name. bytes_eq name (codes "Sources")) names;
+  translations = list_any (λ name. bytes_eq name (codes "Translations")) names;
 }
 
--- the number that decimal digits write, if it is below 2^64
-abbrev pub written : List ℕ → Option ℕ
-written text = if nat_le 1 (length text) && nat_lt (digits_value 10 text) (2 ^ 64) then Some (digits_value 10 text) else None
+abbrev pub up_to : ℕ → Option ℕ → Option ℕ
+up_to most None = None
+up_to most (Some number) = if nat_le number most then Some number else None
 
 -- 1 to 10 decimal digits, of a number up to this one
 unfoldable pub number_of : ℕ → List ℕ → Option ℕ
-number_of most text =
-    if list_all is_ascii_digit text && nat_le 1 (length text) && nat_le (length text) 10 && nat_le (digits_value 10 text) most
-    then Some (digits_value 10 text) else None
+number_of most text = if nat_le (length text) 10 then up_to most (number_of_digits text) else None
 
 unfoldable pub by_hash_of : List ℕ → Option ByHash
 by_hash_of text =
-    if is_spelled text (codes "yes") then Some Yes
-    else if is_spelled text (codes "no") then Some No
-    else if is_spelled text (codes "force") then Some Force
+    if bytes_eq text (codes "yes") then Some Yes
+    else if bytes_eq text (codes "no") then Some No
+    else if bytes_eq text (codes "force") then Some Force
     else None
 
 -- the words of yes and of no, ASCII case aside

@@ -1,9 +1,12 @@
+//! A configuration, and the calls on it. `read_conf` and `set` may take memory; nothing else is touched.
+
 ghost use Rattle.apt_conf.specs.Grammar.{Items, Adds, AreItems, Spells, given_by};
 ghost use Rattle.apt_conf.specs.Pieces.{Piece, IsInPieces, IsWritten, tokens_in};
 ghost use Rattle.apt_conf.specs.Tokens.{tokens_of};
-ghost use Rattle.std.specs.Prelude.{◌≡◌, ◌≤◌, List, length, ◌⊎◌, ◌++◌, [], Ok, Err, OnOk, OnErr, IfOk, IsErrOf};
+ghost use Rattle.std.specs.Prelude.{◌≡◌, ◌≤◌, List, length, ◌⊎◌, ◌++◌, [], Ok, Err, OnOk, OnErr, IfOk, IfErr};
 ghost use Rattle.std.specs.Option.{option_copied};
 ghost use Rattle.apt_conf.specs.Keys.{value_of};
+ghost use Rattle.apt_conf.specs.Refused.{IsRefused};
 ghost use Rattle.apt_conf.specs.Reading.{pairs_of, pair_of, answer};
 
 use crate::ConfError;
@@ -58,6 +61,8 @@ pub fn read_conf(alloc: Global, conf: &mut Conf, bytes: &[u8]) -> Result<(), Con
         → pairs_of bytes.now ≡ Ok (given_by [] items) }
     // And back: a text that is read spells nested statements, and their pairs are what was added.
     ensures spelled { OnOk result (Adds conf.old bytes.now conf.new) }
+    // The refusal: a text is refused at its first token that no statements allow, or at its end, which leaves one open.
+    ensures refused { IfErr result (IsRefused bytes.now) }
 {
     read_file(alloc, &mut conf.entries, bytes)
 }

@@ -1,3 +1,5 @@
+//! How a configuration keeps a pair. It touches nothing and takes no memory.
+
 use acq_base::Text;
 
 /// An entry of a configuration. Its key takes over the first `shared` bytes of the key of the entry before it, and goes

@@ -1,8 +1,10 @@
+//! Why a configuration is refused. It touches nothing and takes no memory.
+
 ghost use Rattle.std.specs.Prelude.{◌≡◌};
 ghost use Rattle.apt_conf.specs.declared.error.ConfError.TheVariants.{NoMemory as OutOfMemory};
 
 use acq_base::{NoMemory, Refusal, Text};
-use std::alloc::AllocFailed;
+use std::alloc::{AllocError, AllocFailed};
 use std::error::Error;
 use std::fmt;
 
@@ -36,6 +38,14 @@ impl From<NoMemory> for ConfError {
     ghost from_gives = { λ _ e. e ≡ OutOfMemory };
 
     fn from(_error: NoMemory) -> ConfError {
+        ConfError::NoMemory
+    }
+}
+
+impl From<AllocError> for ConfError {
+    ghost from_gives = { λ _ e. e ≡ OutOfMemory };
+
+    fn from(_error: AllocError) -> ConfError {
         ConfError::NoMemory
     }
 }

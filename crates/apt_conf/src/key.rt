@@ -1,3 +1,5 @@
+//! Keys. It touches nothing and takes no memory.
+
 ghost use Rattle.std.specs.Prelude.{◌≡◌};
 ghost use Rattle.std.specs.List.{list_all};
 ghost use Rattle.apt_conf.specs.Keys as keys;

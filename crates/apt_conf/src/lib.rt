@@ -15,8 +15,9 @@ mod key;
 mod lexeme;
 mod line;
 mod lookup;
-mod position;
 mod reader;
+mod reading;
+mod run;
 mod statement;
 mod table;
 #[cfg(test)]

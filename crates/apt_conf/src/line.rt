@@ -1,3 +1,5 @@
+//! The numbers of lines. It touches nothing and takes no memory.
+
 ghost use Rattle.std.specs.Prelude.{◌≡◌, ◌+◌, ◌<◌, ◌≤◌, ◌^◌, length};
 ghost use Rattle.apt_conf.specs.Tokens as lines;
 

@@ -1,3 +1,5 @@
+//! The value that entries give to a key. It touches nothing and takes no memory.
+
 ghost use Rattle.std.specs.Prelude.{◌≡◌, ◌≤◌, [], length, if◌then◌else◌, None};
 ghost use Rattle.std.specs.Option.{option_copied};
 ghost use Rattle.apt_conf.specs.Keys.{common_length as common, compared, later, value_of};

@@ -1,89 +1,43 @@
-ghost use Rattle.std.specs.Prelude.{◌≡◌, ◌≢◌, ◌≤◌, [], length, IfOk, Ok, OnErr};
-ghost use Rattle.apt_conf.specs.Lexemes as lexemes;
-ghost use Rattle.apt_conf.specs.Lexemes.{length_until};
-ghost use Rattle.apt_conf.specs.Progress.{IsAt, IsExtent, Keeps, Reads, Steps, taken};
-ghost use Rattle.apt_conf.specs.Reading.{pairs_of, pair_of, is_equals_sign};
+//! Texts of files and the words of options, read into entries. It may take memory, and touches nothing else.
+
+ghost use Rattle.std.specs.Prelude.{◌≡◌, ◌≤◌, length, IfOk, IfErr, Ok, OnErr};
+ghost use Rattle.apt_conf.specs.Answers.{Fails};
+ghost use Rattle.apt_conf.specs.Progress.{AreRead, Reads};
+ghost use Rattle.apt_conf.specs.Reading.{pairs_of, pair_of};
 ghost use Rattle.apt_conf.specs.Statements as statements;
-ghost use Rattle.apt_conf.specs.Statements.{start, on_line, pairs_from};
+ghost use Rattle.apt_conf.specs.Statements.{start, pairs_from};
 ghost use Rattle.apt_conf.specs.Tokens as tokens;
 
 use crate::ConfError;
 use crate::entry::Entry;
 use crate::key::is_key;
-use crate::lexeme::{extent, lexeme_at};
-use crate::line::{last_line, line_behind, token_line};
-use crate::position::{Position, take_token};
-use crate::statement::Part;
-use crate::token::token_at;
+use crate::line::{last_line, line_behind};
+use crate::reading::Reading;
+use crate::run::{Stop, length_until};
 use acq_base::Text;
 use std::alloc::Global;
 
-/// Takes what stands at the front of a rest of a text that begins on this line, and answers how many bytes it has.
-fn take_lexeme(
-    alloc: Global,
-    entries: &mut Vec<Entry>,
-    position: &mut Position,
-    last: u64,
-    line: u64,
-    rest: &[u8],
-) -> Result<usize, ConfError>
-    requires at { IsAt entries.old.items position.old.blocks.items position.old.prefix }
-    requires some { rest.now ≢ [] }
-    ensures keeps { Keeps entries.old.items entries.new.items }
-    ensures extent { IfOk result (λ n. n ≡ lexemes.extent (lexemes.lexeme_at rest.now)) }
-    ensures positive { 1 ≤ lexemes.extent (lexemes.lexeme_at rest.now) }
-    ensures within { IfOk result (λ n. IsExtent n (length rest.now)) }
-    ensures steps { Steps entries.old.items entries.new.items position.new.blocks.items position.new.prefix position.new.part result
-        (on_line (tokens.token_line last line (lexemes.lexeme_at rest.now))
-        (taken (record { blocks = position.old.blocks.items; part = position.old.part })
-        (tokens.front_token (lexemes.lexeme_at rest.now) rest.now))) }
-{
-    let lexeme = lexeme_at(rest);
-    let count = extent(lexeme);
-    if let Some(token) = token_at(alloc, lexeme, rest)? {
-        take_token(
-            alloc,
-            entries,
-            position,
-            token,
-            token_line(last, line, lexeme),
-        )?;
-    }
-    Ok(count)
-}
+/// The most bytes of a file.
+const FILE_BYTES: usize = 1_048_576;
 
-/// Adds the pairs of a text to entries.
-fn read_text(alloc: Global, entries: &mut Vec<Entry>, text: &[u8]) -> Result<(), ConfError>
+/// The entries of a text.
+fn read_text(alloc: Global, text: &[u8]) -> Result<Vec<Entry>, ConfError>
     requires { length text.now ≤ 1048576 }
-    ensures keeps { Keeps entries.old.items entries.new.items }
-    ensures reads { Reads entries.old.items entries.new.items result (pairs_from (tokens.last_line text.now) start (tokens.tokens_of text.now)) }
+    ensures ok { IfOk result (λ entries. AreRead entries.items
+        (pairs_from (tokens.last_line text.now) start (tokens.tokens_of text.now))) }
+    ensures err { IfErr result (λ error. Fails error (pairs_from (tokens.last_line text.now) start (tokens.tokens_of text.now))) }
 {
     let last = last_line(text);
-    let mut position = Position {
-        blocks: Vec::new(alloc),
-        prefix: 0,
-        part: Part::Start,
-    };
+    let mut reading = Reading::new(alloc);
     let mut rest = text;
     let mut line = 1;
     while !rest.is_empty() {
-        let count = take_lexeme(alloc, entries, &mut position, last, line, rest)?;
+        let count = reading.take(alloc, last, line, rest)?;
         let (front, behind) = rest.split_at(count);
         line = line_behind(line, front);
         rest = behind;
     }
-    if is_closed(&position) {
-        Ok(())
-    } else {
-        Err(ConfError::BadConf(last))
-    }
-}
-
-/// Whether no block and no statement is open.
-fn is_closed(position: &Position) -> bool
-    ensures { result ≡ statements.is_closed (record { blocks = position.now.blocks.items; part = position.now.part }) }
-{
-    position.blocks.is_empty() && matches!(position.part, Part::Start)
+    reading.finish(last)
 }
 
 /// Adds the pairs of a file to entries, or leaves them.
@@ -92,33 +46,12 @@ pub fn read_file(alloc: Global, entries: &mut Vec<Entry>, bytes: &[u8]) -> Resul
     ensures reads { Reads entries.old.items entries.new.items result (pairs_of bytes.now) }
     ensures err { OnErr result (entries.new.items ≡ entries.old.items) }
 {
-    if bytes.len() > 1_048_576 {
+    if bytes.len() > FILE_BYTES {
         return Err(ConfError::LongFile);
     }
-    let before = entries.len();
-    let outcome = read_text(alloc, entries, bytes);
-    if outcome.is_err() {
-        entries.truncate(before);
-    }
-    outcome
-}
-
-/// How many bytes stand before the first `=`, or all of them.
-#[tactic(auto, unfolding(crate::specs::Lexemes::length_until))]
-fn key_length(word: &[u8]) -> usize
-    ensures value { result ≡ length_until is_equals_sign word.now }
-    ensures within { result ≤ length word.now }
-{
-    let mut rest = word;
-    let mut count = 0;
-    while let [first, after @ ..] = rest {
-        if *first == b'=' {
-            break;
-        }
-        count += 1;
-        rest = after;
-    }
-    count
+    let mut read = read_text(alloc, bytes)?;
+    entries.append(&mut read)?;
+    Ok(())
 }
 
 /// Adds the pair of a word to entries, or leaves them.
@@ -127,7 +60,7 @@ pub fn read_pair(alloc: Global, entries: &mut Vec<Entry>, word: &[u8]) -> Result
     ensures reads { Reads entries.old.items entries.new.items result (pair_of word.now) }
     ensures err { OnErr result (entries.new.items ≡ entries.old.items) }
 {
-    let count = key_length(word);
+    let count = length_until(Stop::EqualsSign, word);
     if count == word.len() {
         return Err(ConfError::BadConf(1));
     }

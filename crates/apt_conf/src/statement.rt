@@ -1,3 +1,5 @@
+//! Statements, token by token. It touches nothing and takes no memory.
+
 ghost use Rattle.std.specs.Prelude.{◌≡◌};
 ghost use Rattle.apt_conf.specs.Statements as statements;
 

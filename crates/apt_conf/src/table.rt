@@ -1,3 +1,5 @@
+//! The settings, each with its key and its default. It may take memory, and touches nothing else.
+
 ghost use Rattle.std.specs.Prelude.{◌≡◌, ◌⊎◌, ◌≤◌, ◌∷◌, [], Err, IfOk};
 ghost use Rattle.apt_conf.specs.Answers.{Gives};
 ghost use Rattle.apt_conf.specs.Settings as of;

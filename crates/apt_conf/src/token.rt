@@ -1,3 +1,5 @@
+//! Tokens. Their texts take memory; nothing else is touched.
+
 ghost use Rattle.std.specs.Prelude.{◌≡◌, ◌≤◌, length, IfOk};
 ghost use Rattle.apt_conf.specs.Lexemes.{extent};
 ghost use Rattle.apt_conf.specs.Tokens.{front_token};

@@ -1,12 +1,12 @@
-ghost use Rattle.std.specs.Prelude.{◌≡◌, ◌≤◌, IfOk, IfSome, option_map, true};
-ghost use Rattle.std.specs.Char.{is_ascii_digit};
+//! What the values of settings read as. Lists may take memory; nothing else is touched.
+
+ghost use Rattle.std.specs.Prelude.{◌≡◌, ◌≤◌, IfOk, IfSome, bytes_eq, option_map};
 ghost use Rattle.std.specs.List.{list_all, list_any};
 ghost use Rattle.apt_conf.specs.Keys.{same_key};
 ghost use Rattle.apt_conf.specs.Values as values;
 
-use acq_base::{ByHash, NoMemory, Pick, Row, Text, listed_words};
+use acq_base::{ByHash, NoMemory, Pick, Row, Text, listed_words, read_digits};
 use std::alloc::Global;
-use std::str;
 
 /// Which words a list may have.
 #[derive(Clone, Copy, Debug, PartialEq, Eq)]
@@ -21,7 +21,7 @@ pub enum Words {
 
 /// Whether a text is exactly this word.
 pub fn is_spelled(text: &[u8], word: &[u8]) -> bool
-    ensures { result ≡ values.is_spelled text.now word.now }
+    ensures { result ≡ bytes_eq text.now word.now }
 {
     text == word
 }
@@ -130,7 +130,7 @@ pub fn languages_of(alloc: Global, found: Option<Row<Text>>) -> Option<Row<Text>
 }
 
 fn names(words: &[Text], kind: &[u8]) -> bool
-    ensures { result ≡ list_any (λ name. values.is_spelled name kind.now) words.now }
+    ensures { result ≡ list_any (λ name. bytes_eq name kind.now) words.now }
 {
     words.iter().any(|name| is_spelled(name.as_bytes(), kind))
 }
@@ -146,21 +146,13 @@ pub fn picked(words: &[Text]) -> Pick
     }
 }
 
-fn is_digits(text: &[u8]) -> bool
-    ensures { result ≡ list_all is_ascii_digit text.now }
+/// The number, if there is one and it isn't above `most`.
+fn up_to(most: u64, number: Option<u64>) -> Option<u64>
+    ensures value { result ≡ values.up_to most number }
+    ensures bound { IfSome result (λ n. n ≤ most) }
 {
-    text.iter().all(|byte| byte.is_ascii_digit())
-}
-
-/// The number that decimal digits write, if it fits.
-fn parsed(text: &[u8]) -> Option<u64>
-    requires { list_all is_ascii_digit text.now ≡ true }
-    ensures { result ≡ values.written text.now }
-{
-    match str::from_utf8(text) {
-        Ok(digits) => digits.parse::<u64>().ok(),
-        Err(_) => None,
-    }
+    let number = number?;
+    if number <= most { Some(number) } else { None }
 }
 
 /// The number that 1 to 10 decimal digits write. None for any other text, and where the number is above `most`.
@@ -169,11 +161,10 @@ pub fn number_of(most: u64, text: &[u8]) -> Option<u64>
     ensures value { result ≡ values.number_of most text.now }
     ensures bound { IfSome result (λ number. number ≤ most) }
 {
-    if text.len() > 10 || !is_digits(text) {
+    if text.len() > 10 {
         return None;
     }
-    let number = parsed(text)?;
-    if number <= most { Some(number) } else { None }
+    up_to(most, read_digits(text))
 }
 
 /// What a value of `Acquire::By-Hash` of apt.conf(5) says: `yes`, `no` or `force`, spelled exactly so. None for any other

@@ -55,8 +55,8 @@ applied-of (hunk ∷ hunks) old new w =
     let ends = w.ends in
     let is : (nat_le hunk.from hunk.to && nat_le hunk.to (length old)) ≡ true = grind (arith, nat_tests) in
     rw is (
-      ap (option_map (λ edited. edited ++ (hunk.text ++ concat (drop hunk.to old)))) (ap (applied_to hunks) front ∙ applied-of hunks before w.edited w.above)
-      ∙ ap (λ ls. Some (w.edited ++ (hunk.text ++ concat ls))) back ∙ ap (λ (x : List ℕ). Some x) (sym w.whole))
+    ap (option_map (λ edited. edited ++ (hunk.text ++ concat (drop hunk.to old)))) (ap (applied_to hunks) front ∙ applied-of hunks before w.edited w.above)
+    ∙ ap (λ ls. Some (w.edited ++ (hunk.text ++ concat ls))) back ∙ ap (λ (x : List ℕ). Some x) (sym w.whole))
 
 pub agree : (old : List ℕ) (script : Script) (new : List ℕ) → (applied old script ≡ Some new) ↔ edited old script new
 unfolding applied

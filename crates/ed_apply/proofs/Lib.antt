@@ -3,3 +3,14 @@ pub mod Ranges
 pub mod Scans
 pub mod Sound
 pub mod EditLaws
+pub mod Numbers
+pub mod Pieces
+pub mod Numbered
+pub mod Merges
+pub mod Slices
+pub mod Layouts
+pub mod Changes
+pub mod KnownLines
+pub mod Theorem
+pub mod Merging
+pub mod Standing

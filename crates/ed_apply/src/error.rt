@@ -19,7 +19,10 @@ impl fmt::Display for ScriptError {
     fn fmt<W: fmt::Write>(&self, f: &mut fmt::Formatter<W>) -> fmt::Result {
         match self {
             ScriptError::BadCommand(line) => write!(f, "line {line} is no command"),
-            ScriptError::NotDown(line) => write!(f, "line {line} changes lines behind an earlier change"),
+            ScriptError::NotDown(line) => write!(
+                f,
+                "line {line} changes lines behind an earlier change"
+            ),
             ScriptError::NoDot => f.write_str("the script ends within a text"),
             ScriptError::NoMemory => f.write_str("out of memory"),
         }

@@ -1,14 +1,22 @@
 //! Edit scripts (what `diff --ed` writes): read, and applied to files one after another without copying in between.
 #![tactic(auto)]
 
+pub use applying::apply;
+pub use edit::Edit;
 pub use error::{ApplyError, ScriptError};
 pub use laws::applied_is_edited;
 pub use reading::read_script;
 pub use script::{Hunk, Script};
 
+mod applying;
+mod changing;
 mod command;
+mod edit;
 mod error;
+mod known;
 mod laws;
+mod layout;
 mod lines;
 mod reading;
 mod script;
+mod segment;

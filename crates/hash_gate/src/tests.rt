@@ -74,7 +74,7 @@ fn summed(first: &[u8], rest: &[u8]) -> Sum {
 #[test]
 fn verdicts_however_a_file_is_cut(rt: HostRuntime) {
     for (digest, size, file, answer) in FILES {
-        for at in 0..file.len() + 1 {
+        for at in 0..=file.len() {
             let (front, rest) = file.split_at(at);
             let got = read_sum(digest, size).map(|wanted| judged(wanted, front, rest));
             assert_eq!(rt; got, verdict_of(answer), "at {file:?} {at}");
@@ -85,7 +85,7 @@ fn verdicts_however_a_file_is_cut(rt: HostRuntime) {
 #[test]
 fn totals_however_a_file_is_cut(rt: HostRuntime) {
     for (digest, size, file) in TOTALS {
-        for at in 0..file.len() + 1 {
+        for at in 0..=file.len() {
             let (front, rest) = file.split_at(at);
             assert_eq!(rt;
                 Ok(summed(front, rest)),

@@ -44,9 +44,9 @@ goes_on once first lines i at steps sum sum' line step h within here some may be
     let taken = below-cons once steps at line (drop (suc i) lines) (ap (may_stand once steps) (sym some) ∙ may_stand-same once steps sum step h.sums ∙ may) in
     record {
       rest =
-        ap (λ k. steps_below once (steps ++ step ∷ []) (line_below at) (drop k lines)) next_place
-        ∙ ap (λ o. steps_below once (steps ++ option_to_list o) (line_below at) (drop (suc i) lines)) some
-        ∙ sym taken ∙ ap (steps_below once steps at) (sym (cut lines i line within here)) ∙ h.rest;
+          ap (λ k. steps_below once (steps ++ step ∷ []) (line_below at) (drop k lines)) next_place
+          ∙ ap (λ o. steps_below once (steps ++ option_to_list o) (line_below at) (drop (suc i) lines)) some
+          ∙ sym taken ∙ ap (steps_below once steps at) (sym (cut lines i line within here)) ∙ h.rest;
       sums = λ is name. beside is name ∙ ap (λ o. sum_beside o step name) (h.sums is name) ∙ sym (sum_named-push steps step name);
     }
 

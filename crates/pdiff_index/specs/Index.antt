@@ -135,10 +135,10 @@ index_of_parts current history patches merged =
 unfoldable pub index_of_fields : List Field → Result Index IndexError
 index_of_fields fields =
     index_of_parts
-      (current_part (field_named fields (codes "SHA256-Current")))
-      (steps_part false (field_named fields (codes "SHA256-History")))
-      (steps_part true (field_named fields (codes "SHA256-Patches")))
-      (merged_of (field_named fields (codes "X-Patch-Precedence")))
+    (current_part (field_named fields (codes "SHA256-Current")))
+    (steps_part false (field_named fields (codes "SHA256-History")))
+    (steps_part true (field_named fields (codes "SHA256-Patches")))
+    (merged_of (field_named fields (codes "X-Patch-Precedence")))
 
 -- there is one paragraph
 unfoldable pub index_of_paragraphs : List Paragraph → Result Index IndexError

@@ -13,3 +13,5 @@ mod links;
 mod reading;
 mod steps;
 mod sums;
+#[cfg(test)]
+mod tests;

@@ -11,11 +11,7 @@ use std::alloc::Global;
 use std::collections::BTreeMap;
 
 /// Puts a step's sum under its name, unless there is one; answers whether the name is new.
-pub fn add_sum(
-    alloc: Global,
-    sums: &mut BTreeMap<Text, Sum>,
-    step: &Step,
-) -> Result<bool, NoMemory>
+pub fn add_sum(alloc: Global, sums: &mut BTreeMap<Text, Sum>, step: &Step) -> Result<bool, NoMemory>
     ensures new { IfOk result (λ new. new ≡ not (is_some (get (slice_cmp nat_cmp) sums.old step.now.name))) }
     ensures sums { OnOk result ((name : List ℕ) → get (slice_cmp nat_cmp) sums.new name
         ≡ sum_beside (get (slice_cmp nat_cmp) sums.old name) step.now name) }

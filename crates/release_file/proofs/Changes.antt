@@ -1,9 +1,8 @@
 -- Which heads are allowed, and which field is the first that isn't.
-use Rattle.std.proofs.Common.{◌≡◌, ◌≢◌, ◌↔◌, ◌∙◌, ℕ, ◌<◌, Bool, true, false, not, cond, ◌||◌, ◌&&◌, List, [], ◌∷◌, Option, Some, None, find, IfSome, IsNone, IsTrue, is_none, is_some, refl, sym, ap, subst, inl, inr, arith}
-use Rattle.std.specs.Prelude.{bytes_eq}
+use Rattle.std.proofs.Common.{◌≡◌, ◌≢◌, ◌↔◌, ◌∙◌, ℕ, ◌<◌, Bool, true, false, not, cond, ◌||◌, ◌&&◌, List, Option, Some, None, IfSome, IsNone, IsTrue, is_none, is_some, refl, sym, ap, subst, inl, inr, arith}
 use Rattle.std.specs.Cmp.Lexicographic.{bytes_decides}
 use Rattle.std.proofs.lemmas.Bool.{cases_Bool, false≢true, not-true, or_parts}
-use Rattle.release_file.specs.Changes.{text_in, is_on, same_text, head_fields, may_follow, allowed, first_refused, IsAllowed, place_of, IsFirstRefused}
+use Rattle.release_file.specs.Changes.{text_in, is_on, same_text, may_follow, allowed, first_refused, IsAllowed, place_of, IsFirstRefused}
 use Rattle.release_file.specs.declared.changing.Change.{Change}
 use Rattle.release_file.specs.declared.changing.HeadField.{HeadField}
 use Rattle.release_file.specs.declared.changing.HeadField.TheVariants.{Origin, Label, Suite, Codename}

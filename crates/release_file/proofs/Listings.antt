@@ -1,5 +1,5 @@
 -- A Release that is read lists a path with a sum exactly where a sum line says so, and no path twice.
-use Rattle.std.proofs.Common.{◌≡◌, ◌≢◌, ◌∙◌, ◌⊎◌, ◌↔◌, ◌==◌, ℕ, zero, suc, ◌+◌, ◌<◌, ◌≤◌, true, false, not, List, [], ◌∷◌, ◌++◌, codes, drop, get_or, filter, Option, Some, None, Result, Ok, Err, IfOk, refl, sym, ap, subst, inl, inr, arith, append_assoc, ⊎_elim, length}
+use Rattle.std.proofs.Common.{◌≡◌, ◌≢◌, ◌∙◌, ◌⊎◌, ◌↔◌, ◌==◌, ℕ, zero, suc, ◌+◌, ◌<◌, ◌≤◌, true, false, not, List, [], ◌∷◌, ◌++◌, codes, drop, get_or, filter, Option, Some, None, Result, Ok, Err, IfOk, refl, sym, ap, subst, inl, inr, arith, ⊎_elim, length}
 use Rattle.std.specs.Prelude.{bytes_eq, option_to_list, if◌then◌else◌, Contains, AllPairs}
 use Rattle.std.proofs.lemmas.Bool.{cases_Bool, and_parts, false≢true, not-false}
 use Rattle.std.proofs.lemmas.Bool.Decides.{nat_tests}

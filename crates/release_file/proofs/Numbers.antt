@@ -1,5 +1,5 @@
 -- That a text of few decimal digits writes a small number.
-use Rattle.std.proofs.Common.{◌≡◌, ◌&&◌, nat_le, nat_lt, ℕ, ◌<◌, ◌≤◌, ◌^◌, true, false, List, length, inl, inr, Option, Some, None, Result, Ok, Err, sym, subst, ◌∙◌, arith, IfSome, rules}
+use Rattle.std.proofs.Common.{◌≡◌, ◌&&◌, nat_le, ℕ, ◌<◌, ◌≤◌, ◌^◌, true, List, length, inl, inr, Some, None, Result, Ok, Err, sym, subst, ◌∙◌, arith, IfSome, rules}
 use Rattle.std.proofs.lemmas.Bool.{cases_Bool}
 use Rattle.std.proofs.lemmas.Bool.Decides.{nat_tests}
 use Rattle.std.proofs.lemmas.Str.Parse.{IsNumeralModel, IsDigitsTest, numerals_by_value, digits_value_short}

@@ -1,8 +1,8 @@
 -- Where the fields of a text stand: a field and its lines are among the lines of the text.
-use Rattle.std.proofs.Common.{◌≡◌, ℕ, suc, ◌+◌, ◌<◌, ◌≤◌, ◌^◌, Bool, true, false, cond, not, ◌&&◌, nat_eq, List, [], ◌∷◌, length, map, filter, find, drop, Option, Some, None, Result, Ok, Err, IfSome, refl, sym, ap, subst, ◌∙◌, inl, inr, arith}
+use Rattle.std.proofs.Common.{◌≡◌, ℕ, suc, ◌+◌, ◌<◌, ◌≤◌, ◌^◌, Bool, true, false, cond, not, ◌&&◌, nat_eq, List, [], ◌∷◌, length, map, filter, find, drop, Option, Some, None, Result, Ok, IfSome, refl, sym, ap, subst, ◌∙◌, inl, inr, arith}
 use Rattle.std.specs.List.{slice_split, onto_first, list_all, list_any, before_first, after_first}
 use Rattle.std.specs.Str.{str_eq_ignore_ascii_case}
-use Rattle.std.specs.Str.Lines.{lines as text_lines, lines_of_parts, strip_carriage_return}
+use Rattle.std.specs.Str.Lines.{lines as text_lines, lines_of_parts}
 use Rattle.std.proofs.lemmas.Bool.{cases_Bool, ne_eqb}
 use Rattle.acq_base.specs.Words.{is_blank, trimmed, trimmed_end}
 use Rattle.deb822_text.specs.Control.{Line, Separator, Comment, Continuation, Named, Unknown, is_colon, is_hash, is_name, begins_with, is_empty, named_line, field_line, line_of, lines_from, lines_of, is_separator, is_counted, groups_of, continued, fields_of, paragraph_of, paragraphs_in, first_fault, refused_or, reading_of, paragraphs_of, field_named}

@@ -1,8 +1,6 @@
 -- The sum line that is refused is the first that no reading allows, in terms of all lines above it.
-use Rattle.std.proofs.Common.{◌≡◌, ◌≢◌, ◌∙◌, ◌⊎◌, ℕ, zero, suc, ◌+◌, ◌<◌, ◌≤◌, ◌==◌, Bool, true, false, not, List, [], ◌∷◌, ◌++◌, codes, length, take, drop, get_or, drop-cons, Any, Contains, Option, Some, None, Result, Ok, Err, OnOk, append_assoc, ok_or, ℤ, refl, sym, ap, subst, inl, inr, arith}
-use Rattle.std.specs.Prelude.{bytes_eq, nat_eq}
-use Rattle.std.specs.List.{range_with_len}
-use Rattle.std.proofs.lemmas.Bool.{cases_Bool, cases_lt, false≢true, not-true, not-false, eqb-true}
+use Rattle.std.proofs.Common.{◌≡◌, ◌≢◌, ◌∙◌, ◌⊎◌, ℕ, suc, ◌+◌, ◌<◌, ◌≤◌, ◌==◌, true, false, List, [], ◌∷◌, ◌++◌, codes, length, take, drop, get_or, drop-cons, Any, Option, Some, None, Result, Ok, Err, OnOk, append_assoc, ok_or, ℤ, refl, sym, ap, subst, inl, inr, arith}
+use Rattle.std.proofs.lemmas.Bool.{cases_Bool, false≢true, not-true, not-false, eqb-true}
 use Rattle.std.proofs.lemmas.List.{take_all, take-append-drop, length-append, length-take-le}
 use Rattle.std.proofs.Math.Seq.{take-append_seam, get_or-append_seam}
 use Rattle.acq_base.specs.declared.sum.Sum.{Sum}
@@ -16,13 +14,13 @@ use Rattle.clear_text.specs.declared.error.FrameError.{FrameError}
 use Rattle.clear_text.specs.declared.error.FrameError.TheVariants as frames
 use Rattle.release_file.specs.DateText.{date_of_text}
 use Rattle.release_file.specs.Listing.{sums_of_paragraphs, sums_of_text, sums_field, later_lines}
-use Rattle.release_file.specs.Release.{listed_of_line, entries_in, same_sum, sum_in, agrees, may_follow, is_bad_at, first_bad, firsts, refused_at, files_of_lines, files_of_field, files_of, ◌>>=◌, date_of, date_of_lines, until_of, some_date, release_of_fields, release_of_paragraphs, release_of_text, release_in, text_or, text_within, release_of}
+use Rattle.release_file.specs.Release.{listed_of_line, entries_in, same_sum, sum_in, agrees, may_follow, first_bad, firsts, refused_at, files_of_lines, files_of_field, files_of, ◌>>=◌, date_of, date_of_lines, until_of, some_date, release_of_fields, release_of_paragraphs, release_of_text, release_in, text_or, text_within, release_of}
 use Rattle.release_file.specs.SumFaults.{Contradicts, IsBadLine, AreAllowed, IsFirstBad, IsBadSums, HasBadSums}
 use Rattle.release_file.specs.declared.error.ReleaseError.{ReleaseError}
-use Rattle.release_file.specs.declared.error.ReleaseError.TheVariants.{NoSums, BadDate, BadSums, NoMemory}
+use Rattle.release_file.specs.declared.error.ReleaseError.TheVariants.{BadDate, BadSums, NoMemory}
 use Rattle.release_file.specs.declared.release.Listed.{Listed}
 use Rattle.release_file.specs.declared.release.Release.{Release}
-use Rattle.release_file.proofs.SumLines.{entries_above, AreFine, none_bad, first_found}
+use Rattle.release_file.proofs.SumLines.{AreFine, none_bad, first_found}
 use Rattle.release_file.proofs.Listings.{IsConsistent, consistent-above, same_sum-true, same_sum-refl, sum_in-Contains}
 
 -- ---- one line

@@ -19,8 +19,8 @@ use Rattle.update_model.proofs.Routes.{no_moves}
 use Rattle.update_model.specs.Files.{fitting, served}
 use Rattle.update_model.specs.Laws.{ListRoute, ListsAskLittle, ReleasesAskLittle, SourcesAskLittle, links_in, links_of_lists, lists_entries}
 use Rattle.update_model.specs.Obtained.{first_uri, list_cause}
-use Rattle.update_model.specs.Points.{lead, step}
-use Rattle.update_model.specs.Reach.{On, Stop, Way, way, within}
+use Rattle.update_model.specs.Points.{step}
+use Rattle.update_model.specs.Reach.{On, Stop, Way, way}
 use Rattle.update_model.specs.Releases.{release_end, release_limit}
 use Rattle.update_model.specs.Trails.{Along, IsPosition, IsTrail, Leads, Position, Told, Trail, entries, heard_of, less}
 use Rattle.update_model.specs.Walks.{Finish, IsRoute, Try, Walk, after_in_release, candidates_walk, fitting_body, got_else, index_walk, list_ask, on_some, patches_walk, plain_walk, release_walk, resume_walk, target_walk, whole_ask}

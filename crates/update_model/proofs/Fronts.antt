@@ -14,7 +14,7 @@ use Rattle.update_model.specs.Laws.{RunsStandInRoutes}
 use Rattle.update_model.specs.Mirrored.{over, trails_over}
 use Rattle.update_model.specs.Points.{AsksFirst, At, Over, Point, entry, entry_at, lead, ran, run, start, step}
 use Rattle.update_model.specs.Reach.{On, Stop, Way, way}
-use Rattle.update_model.specs.Trails.{Along, IsPosition, IsTrail, Leads, Position, Told, Trail, answered, entries, heard_of, less}
+use Rattle.update_model.specs.Trails.{Along, IsPosition, IsTrail, Leads, Position, Told, Trail, entries, heard_of, less}
 use Rattle.update_model.specs.Walks.{Finish, IsRoute, Try, Walk}
 
 abbrev entries_of : ℕ → List ℕ → ℕ → Uri → List Told → List Asked

@@ -1,8 +1,8 @@
 -- No field of a head is refused exactly where its change is allowed.
-use Rattle.std.proofs.Common.{◌≡◌, ◌≢◌, ℕ, ◌||◌, Bool, true, false, not, List, [], ◌∷◌, Option, Some, None, refl, sym, ap, ◌∙◌, subst, inl, inr, if◌then◌else◌}
+use Rattle.std.proofs.Common.{◌≡◌, ◌≢◌, ℕ, ◌||◌, Bool, true, false, not, List, Option, Some, None, refl, ap, ◌∙◌, subst, inl, inr, if◌then◌else◌}
 use Rattle.std.proofs.lemmas.Bool.{cases_Bool}
 use Rattle.std.proofs.lemmas.Slice.Eq.{bytes_eq-Decides}
-use Rattle.release_file.specs.Changes.{text_in, is_on, same_text, head_fields, may_follow, first_refused, IsAllowed}
+use Rattle.release_file.specs.Changes.{text_in, is_on, same_text, may_follow, first_refused, IsAllowed}
 use Rattle.release_file.specs.declared.changing.Change.{Change}
 use Rattle.release_file.specs.declared.changing.HeadField.{HeadField}
 use Rattle.release_file.specs.declared.changing.HeadField.TheVariants.{Origin, Label, Suite, Codename}

@@ -8,6 +8,8 @@ pub mod Obtained
 pub mod Sets
 pub mod Sources
 pub mod Nexts
+pub mod Carried
+pub mod Existence
 -- worked examples
 pub mod Sample
 pub mod ListExamples

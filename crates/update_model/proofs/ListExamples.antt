@@ -2,7 +2,6 @@
 use Rattle.std.proofs.Common.{◌≡◌, ℕ, List, [], ◌∷◌, true, false, Some, None, refl, codes}
 use Rattle.acq_base.specs.Sum.{sum_of}
 use Rattle.acq_base.specs.declared.sum.Sum.{Sum}
-use Rattle.acq_base.specs.declared.fetch.Answer.TheVariants as answers
 use Rattle.by_hash.specs.Candidates.{by_hash_uri}
 use Rattle.hash_gate.specs.declared.verdict.Verdict.TheVariants.{Long, Short}
 use Rattle.hex.specs.Hex.{encode_with}
@@ -16,7 +15,7 @@ use Rattle.update_model.specs.declared.ask.Closed.{Closed}
 use Rattle.update_model.specs.declared.ask.Closed.TheVariants as closed
 use Rattle.update_model.specs.declared.ask.Ending.TheVariants as endings
 use Rattle.update_model.specs.declared.cause.Cause.TheVariants as causes
-use Rattle.update_model.specs.declared.end.End.TheVariants.{Got, Stands, Ended}
+use Rattle.update_model.specs.declared.end.End.TheVariants.{Got, Ended}
 use Rattle.update_model.proofs.Sample.{target, source, settings, sum_as, release, list, list_path, list_uri, serves, asks, plain_from, hashed_from}
 
 abbrev HasSum : List ℕ → ℕ → List ℕ → Type 0

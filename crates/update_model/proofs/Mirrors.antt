@@ -10,8 +10,7 @@ use Rattle.update_model.specs.declared.ask.Ending.{Ending}
 use Rattle.update_model.specs.declared.ask.Ending.TheVariants as endings
 use Rattle.update_model.proofs.Routes.{no_moves, seen_way, way-answered}
 use Rattle.update_model.specs.Laws.{MirrorsGiveRoutes}
-use Rattle.update_model.specs.Mirrored.{behind, over, positions_by, seen}
-use Rattle.update_model.specs.Next.{holds}
+use Rattle.update_model.specs.Mirrored.{behind, positions_by, seen}
 use Rattle.update_model.specs.Reach.{On, Stop, Way, followed, reach, reach_by, way, within}
 use Rattle.update_model.specs.Trails.{Along, HasAnswer, IsPosition, IsTrail, Position, Says, Told, answered, body_for}
 use Rattle.update_model.specs.Walks.{Finish, Try}

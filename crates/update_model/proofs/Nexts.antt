@@ -100,7 +100,7 @@ same-sums (Some a) None = ((λ h. cc), (λ h. cc))
 same-sums (Some a) (Some b) =
     ((λ h. ap (λ x. Some x) (same_sum-true a b h)), (λ h. subst (λ x. same_sum a x ≡ true) (same_Some a b h) (same_sum-itself a)))
 
-tests-hold : {X : Type 0} (test : X → Bool) (P : X → Type 0) → ((x : X) → (test x ≡ true) ↔ P x) → (xs : List X) → (list_all test xs ≡ true) ↔ Each P xs
+pub tests-hold : {X : Type 0} (test : X → Bool) (P : X → Type 0) → ((x : X) → (test x ≡ true) ↔ P x) → (xs : List X) → (list_all test xs ≡ true) ↔ Each P xs
 tests-hold test P by [] = ((λ h. tt), (λ h. refl))
 tests-hold test P by (x ∷ xs) =
     let rest = tests-hold test P by xs in (

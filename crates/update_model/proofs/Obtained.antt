@@ -1,17 +1,17 @@
 -- What is obtained fits, and patches and partial files only help.
-use Rattle.std.proofs.Common.{◌≡◌, ◌↔◌, ℕ, zero, suc, List, [], ◌∷◌, map, Any, Option, Some, None, refl, sym, ap, ◌∙◌, subst, inl, inr, ◌⊎◌, ◌<◌, length, arith}
+use Rattle.std.proofs.Common.{◌≡◌, ◌↔◌, ℕ, zero, suc, List, [], ◌∷◌, Any, Option, Some, None, refl, sym, ap, ◌∙◌, subst, inl, inr, ◌⊎◌, ◌<◌, length, arith}
 use Rattle.std.specs.List.{slice_index_or}
 use Rattle.acq_base.specs.Mirror.{World}
 use Rattle.acq_base.specs.Sum.{Fits}
 use Rattle.acq_base.specs.declared.sum.Sum.{Sum}
 use Rattle.update_model.specs.Files.{fitting}
 use Rattle.update_model.specs.Laws.{IsHad, file_of, IsFileOf, ObtainedFilesFit, FilesAreObtained, PatchesOnlyHelp, PartsOnlyHelp}
-use Rattle.update_model.specs.Obtained.{patched, resumed, or_else, first_fitting, reached_files, stands_or, got_or, list_cause, obtain}
+use Rattle.update_model.specs.Obtained.{patched, resumed, or_else, first_fitting, reached_files, stands_or, got_or, list_cause}
 use Rattle.update_model.specs.Reach.{reach}
 use Rattle.update_model.specs.declared.wanted.Wanted.{Wanted}
 use Rattle.update_model.specs.declared.cause.Cause.{Cause}
 use Rattle.update_model.specs.declared.end.End.{End}
-use Rattle.update_model.specs.declared.end.End.TheVariants.{Got, Stands, Ended}
+use Rattle.update_model.specs.declared.end.End.TheVariants.{Ended}
 use Rattle.update_model.proofs.Sums.{fitting-fits, fitting-none, fitting-is}
 
 -- ---- some element

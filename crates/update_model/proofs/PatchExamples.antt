@@ -1,5 +1,5 @@
 -- Worked examples of patches, computed by the definitions. What the texts of an Index and of scripts say is a premise.
-use Rattle.std.proofs.Common.{◌≡◌, ℕ, List, [], ◌∷◌, ◌++◌, map, Bool, true, false, Some, None, refl, codes, Ok, Err}
+use Rattle.std.proofs.Common.{◌≡◌, ℕ, List, [], ◌∷◌, ◌++◌, Bool, true, false, Some, refl, codes, Ok, Err}
 use Rattle.acq_base.specs.Mirror.{World}
 use Rattle.acq_base.specs.Sum.{sum_of}
 use Rattle.acq_base.specs.declared.fetch.Answer.TheVariants as answers
@@ -32,9 +32,11 @@ have = sum_as 6 (6 ∷ [])
 
 abbrev grown : Wanted
 grown =
-    want source (record (release false 12 (12 ∷ [])) { files =
-        record { path = list_path; sum = sum_as 12 (12 ∷ []) }
-        ∷ record { path = index_path list_path; sum = sum_as 7 (1 ∷ []) } ∷ [] })
+    want source (record (release false 12 (12 ∷ [])) {
+      files =
+          record { path = list_path; sum = sum_as 12 (12 ∷ []) }
+          ∷ record { path = index_path list_path; sum = sum_as 7 (1 ∷ []) } ∷ [];
+    })
     (record settings { size_limit = 200 }) target (sum_as 12 (12 ∷ []))
 
 abbrev p1 : Step

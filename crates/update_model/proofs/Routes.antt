@@ -23,8 +23,7 @@ use Rattle.update_model.specs.Files.{fitting, served}
 use Rattle.update_model.specs.Laws.{ListsEndAsObtained, ReleasesEndAsObtained, by_sum}
 use Rattle.update_model.specs.Mirrored.{over, seen}
 use Rattle.update_model.specs.Obtained.{◌>>=◌, edited_along, fetched, first_fitting, first_uri, got_or, list_cause, obtain, or_else, resumed, stands_or, with_rest}
-use Rattle.update_model.specs.Outcomes.{obtained}
-use Rattle.update_model.specs.Points.{lead, step}
+use Rattle.update_model.specs.Points.{step}
 use Rattle.update_model.specs.Reach.{On, Stop, Way, followed, may_move, reach, reach_by, way, within}
 use Rattle.update_model.specs.Releases.{in_release_uri, obtain_release, release_end, release_limit, served_or}
 use Rattle.update_model.specs.Trails.{Agrees, Along, HasAnswer, IsPosition, IsTrail, Leads, Lives, Position, Says, Told, Trail, answered, answers_or, body_for, less}

@@ -1,5 +1,5 @@
 -- A source with one list, whose Release lists three bytes for it, and what a mirror may have.
-use Rattle.std.specs.Prelude.{ℕ, ℤ, pos, List, [], ◌∷◌, codes, map, Bool, true, false, Some, None}
+use Rattle.std.specs.Prelude.{ℕ, pos, List, [], ◌∷◌, codes, map, Bool, true, None}
 use Rattle.acq_base.specs.Mirror.{World}
 use Rattle.acq_base.specs.declared.fetch.Answer.TheVariants as answers
 use Rattle.acq_base.specs.declared.plan.ByHash.TheVariants.{Yes}

@@ -1,5 +1,5 @@
 -- A new set comes exactly from an admissible Release all of whose lists have a file.
-use Rattle.std.proofs.Common.{◌≡◌, ◌↔◌, ℕ, ℤ, List, [], ◌∷◌, Option, Some, None, IfSome, option_map, Result, Ok, Err, refl, sym, ap, ◌∙◌, subst}
+use Rattle.std.proofs.Common.{◌≡◌, ◌↔◌, ℕ, ℤ, List, [], ◌∷◌, Option, Some, None, IfSome, option_map, Result, Ok, Err, refl, ap, subst}
 use Rattle.std.specs.List.{AllByRecursion as Each}
 use Rattle.acq_base.specs.declared.settings.Dates.{Dates}
 use Rattle.acq_base.specs.declared.settings.Settings.{Settings}
@@ -11,7 +11,6 @@ use Rattle.release_file.specs.declared.changing.HeadField.{HeadField}
 use Rattle.release_file.specs.declared.error.ReleaseError.{ReleaseError}
 use Rattle.release_file.specs.declared.judging.DateError.{DateError}
 use Rattle.release_file.specs.declared.judging.DateError.TheVariants as dates
-use Rattle.release_file.specs.declared.release.Head.{Head}
 use Rattle.release_file.specs.declared.release.Release.{Release}
 use Rattle.update_model.specs.Laws.{IsHad, SetsAreAdmissible}
 use Rattle.update_model.specs.Outcomes.{Admitted, Staying, ◌>>=◌, bytes_of, read, dated, unless_refused, headed, admitted, all_had}
@@ -100,13 +99,12 @@ is-admitted judges r old settings change now set h =
     rw a (rw b (rw judged_so (rw c refl)))
 
 pub sets-admissible : Judges → SetsAreAdmissible
-sets-admissible judges r ends old settings change now set =
-    (
-      (λ h.
-          let a = passed (admitted r old settings change now) _ set h in
-          let b = passed (all_had ends) _ set a.2 in
-          let same : a.0 ≡ set = done-same a.0 set b.2 in
-          let is : IsAdmitted r old settings change now set = subst (IsAdmitted r old settings change now) same (admitted-is judges r old settings change now a.0 a.1) in
-          (is.0, is.1, is.2, all-ok ends b.0 b.1)),
-      (λ h. rw (is-admitted judges r old settings change now set (h.0, h.1, h.2)) (rw (all-pass ends h.3) refl)),
-    )
+sets-admissible judges r ends old settings change now set = (
+  (λ h.
+      let a = passed (admitted r old settings change now) _ set h in
+      let b = passed (all_had ends) _ set a.2 in
+      let same : a.0 ≡ set = done-same a.0 set b.2 in
+      let is : IsAdmitted r old settings change now set = subst (IsAdmitted r old settings change now) same (admitted-is judges r old settings change now a.0 a.1) in
+      (is.0, is.1, is.2, all-ok ends b.0 b.1)),
+  (λ h. rw (is-admitted judges r old settings change now set (h.0, h.1, h.2)) (rw (all-pass ends h.3) refl)),
+)

@@ -1,6 +1,6 @@
 -- Worked examples of Releases, outcomes and commits, computed by the definitions. What the text of a Release says is a
 -- premise.
-use Rattle.std.proofs.Common.{◌≡◌, ℕ, ℤ, pos, zero, suc, ◌+◌, List, [], ◌∷◌, ◌++◌, map, true, false, Option, Some, None, refl, codes, Ok, Err}
+use Rattle.std.proofs.Common.{◌≡◌, ℕ, ℤ, pos, zero, suc, ◌+◌, List, [], ◌∷◌, map, true, false, Some, None, refl, codes, Ok, Err}
 use Rattle.acq_base.specs.Mirror.{World}
 use Rattle.acq_base.specs.declared.fetch.Answer.TheVariants as answers
 use Rattle.acq_base.specs.declared.plan.Source.{Source}
@@ -14,7 +14,7 @@ use Rattle.release_file.specs.declared.changing.HeadField.TheVariants.{Origin}
 use Rattle.release_file.specs.declared.error.ReleaseError.TheVariants.{BadFrame}
 use Rattle.release_file.specs.declared.release.Release.{Release}
 use Rattle.update_model.specs.Next.{commits, Installs, CleansUp}
-use Rattle.update_model.specs.Outcomes.{Admitted, Outcome, Older, Kept, Directory, admitted, outcome}
+use Rattle.update_model.specs.Outcomes.{Admitted, Outcome, Older, Kept, Directory, outcome}
 use Rattle.update_model.specs.Releases.{obtain_release}
 use Rattle.update_model.specs.Trails.{Told}
 use Rattle.update_model.specs.Walks.{IsRoute, release_walk, whole_ask}

@@ -1,9 +1,9 @@
 -- Routes of a source that agree with a mirror come to its new set.
-use Rattle.std.proofs.Common.{◌≡◌, ℕ, ℤ, List, [], ◌∷◌, length, map, Result, Ok, Err, refl, sym, ap, ◌∙◌, subst}
+use Rattle.std.proofs.Common.{◌≡◌, ℕ, List, [], ◌∷◌, map, Result, Ok, refl, sym, ap, ◌∙◌, subst}
 use Rattle.std.specs.List.{AllByRecursion as Each}
 use Rattle.acq_base.specs.Mirror.{World}
 use Rattle.update_model.specs.Laws.{by_sum, IsHad, file_of, IsFileOf, NewSetsFit, ListEnd, AreRoutesOver, RoutesMakeNewSets, RoutesAreEnough}
-use Rattle.update_model.specs.Outcomes.{Admitted, Staying, Directory, Parts, admitted, wanted_by, all_had, outcome, obtained, new_set}
+use Rattle.update_model.specs.Outcomes.{Admitted, Staying, Directory, Parts, admitted, wanted_by, all_had, outcome, obtained}
 use Rattle.update_model.specs.Releases.{obtain_release}
 use Rattle.update_model.specs.declared.wanted.Wanted.{Wanted}
 use Rattle.update_model.specs.declared.end.End.{End}

@@ -1,5 +1,5 @@
 -- What the laws of this crate say.
-use Rattle.std.specs.Prelude.{◌≡◌, ◌≤◌, ◌+◌, ◌*◌, ◌↔◌, ℕ, ℤ, List, [], ◌∷◌, ◌++◌, Any, Contains, length, map, true, Option, Some, None, option_and_then, Result, Ok, Err}
+use Rattle.std.specs.Prelude.{◌≡◌, ◌≤◌, ◌+◌, ◌*◌, ◌↔◌, ℕ, ℤ, List, [], ◌∷◌, ◌++◌, Any, Contains, length, map, true, Option, Some, None, option_and_then, Ok, Err}
 use Rattle.std.specs.List.{flat_map, sum_by, AllByRecursion as Each}
 use Rattle.std.specs.Option.{option_map_or}
 use Rattle.acq_base.specs.Mirror.{World}
@@ -10,14 +10,13 @@ use Rattle.acq_base.specs.declared.plan.Source.{Source}
 use Rattle.acq_base.specs.declared.settings.Settings.{Settings}
 use Rattle.acq_base.specs.declared.sum.Sum.{Sum}
 use Rattle.release_file.specs.Release.{release_of}
-use Rattle.release_file.specs.declared.release.Release.{Release}
 use Rattle.release_file.specs.declared.changing.Change.{Change}
 use Rattle.update_model.specs.Files.{served, fitting, sum_of_body}
 use Rattle.update_model.specs.Mirrored.{over, trails_over}
 use Rattle.update_model.specs.Next.{IsNext, Alike, Keeps, Holds, holds, is_settled_well}
 use Rattle.update_model.specs.Obtained.{patched, resumed, reached_files, obtain}
 use Rattle.update_model.specs.Outcomes.{Admitted, Staying, Directory, Parts, admitted, bytes_of, outcome, wanted_by, obtained, new_set}
-use Rattle.update_model.specs.Points.{Point, start, run, ran, AsksFirst}
+use Rattle.update_model.specs.Points.{start, run, ran, AsksFirst}
 use Rattle.update_model.specs.Releases.{IsAdmissible, installed_release, obtain_release}
 use Rattle.update_model.specs.Trails.{Told, Trail, Agrees, Lives, entries}
 use Rattle.update_model.specs.Walks.{Walk, IsRoute, target_walk, release_walk}

@@ -12,5 +12,6 @@ pub mod Trails
 pub mod Walks
 pub mod Mirrored
 pub mod Points
+pub mod Carried
 -- what the laws of this crate say:
 pub mod Laws

@@ -1,5 +1,5 @@
 -- What a mirror gives in the end, moves followed (RFC 9110, section 15.4).
-use Rattle.std.specs.Prelude.{ℕ, zero, suc, nat_le, Bool, true, false, if◌then◌else◌, List, length, Option, Some, None}
+use Rattle.std.specs.Prelude.{ℕ, zero, suc, nat_le, Bool, true, false, if◌then◌else◌, length, Some, None}
 use Rattle.acq_base.specs.Mirror.{World, answer_at}
 use Rattle.acq_base.specs.declared.fetch.Answer.{Answer}
 use Rattle.acq_base.specs.declared.fetch.Answer.TheVariants as answers

@@ -15,7 +15,7 @@ use Rattle.update_model.specs.declared.ask.Ask.{Ask}
 use Rattle.update_model.specs.declared.ask.Body.{Body}
 use Rattle.update_model.specs.declared.ask.Body.TheVariants.{Bytes}
 use Rattle.update_model.specs.declared.ask.Ending.{Ending}
-use Rattle.update_model.specs.declared.ask.Ending.TheVariants.{Served, TooBig, Absent, Lost, Garbled, Dead}
+use Rattle.update_model.specs.declared.ask.Ending.TheVariants.{Served, Dead}
 use Rattle.update_model.specs.declared.cause.Cause.TheVariants.{Method}
 use Rattle.update_model.specs.declared.end.End.{End}
 use Rattle.update_model.specs.declared.end.End.TheVariants.{Got, Stands, Ended}

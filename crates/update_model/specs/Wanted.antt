@@ -1,5 +1,5 @@
 -- What is asked for a list that a Release names.
-use Rattle.std.specs.Prelude.{ℕ, ◌++◌, if◌then◌else◌, List, [], ◌∷◌, codes, filter_map, option_to_list, Option, Some, None, option_map, option_and_then}
+use Rattle.std.specs.Prelude.{ℕ, ◌++◌, if◌then◌else◌, List, [], ◌∷◌, codes, filter_map, option_to_list, Option, None, option_map, option_and_then}
 use Rattle.std.specs.Result.{result_ok}
 use Rattle.acq_base.specs.Sum.{sum_of}
 use Rattle.acq_base.specs.declared.plan.Source.{Source}

@@ -10,7 +10,10 @@ pub enum Cause {
     /// The file was moved too often, to no URI of this profile, or from http to a file.
     Redirects(Text),
     /// The Release's bytes are refused, with the number and the line of the refusal.
-    BadRelease { number: u32, line: u64 },
+    BadRelease {
+        number: u32,
+        line: u64,
+    },
     /// The Release was valid until this moment, in seconds since 1970-01-01 00:00:00 UTC.
     Expired(i128),
     /// The Release has this date, in seconds since 1970-01-01 00:00:00 UTC, which is too far ahead of the moment.
@@ -18,7 +21,10 @@ pub enum Cause {
     /// The Release has more bytes than this.
     TooBig(u64),
     /// There is no such list; the HTTP status of the refusal.
-    Missing { path: Text, status: u16 },
+    Missing {
+        path: Text,
+        status: u16,
+    },
     /// The list that came isn't the one that the Release names.
     Differs {
         path: Text,
@@ -26,7 +32,10 @@ pub enum Cause {
         got: Verdict,
     },
     /// The peer broke its protocol at this byte of its answer.
-    Garbled { path: Text, at: u64 },
+    Garbled {
+        path: Text,
+        at: u64,
+    },
     /// A method failed once more than an ask may be repeated. The lane and the counts are those of the last fault.
     Method {
         path: Text,

@@ -1,5 +1,6 @@
 //! What holds of the definitions of `specs/`, whatever mirrors hold and methods answer.
 
+ghost use Rattle.update_model.specs.Carried.{DeedsLeadToNext, NextIsThere};
 ghost use Rattle.update_model.specs.Laws as law;
 
 use release_file::judged_is_admissible;
@@ -61,4 +62,14 @@ pub fn nexts_are_alike()
 /// The test whether a set is there already tells just that.
 pub fn held_sets_are_found()
     ensures { law.HeldSetsAreFound }
+{}
+
+/// What is done for the sources of a plan, in any order, and the clean-up behind it leave what is next.
+pub fn deeds_lead_to_next()
+    ensures { DeedsLeadToNext }
+{}
+
+/// A sound plan has a directory that is next, whatever the mirror holds and whatever is installed.
+pub fn next_is_there()
+    ensures { NextIsThere }
 {}

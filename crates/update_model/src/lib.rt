@@ -9,8 +9,9 @@ pub use ask::{Ask, Body, Closed, Ending};
 pub use cause::Cause;
 pub use end::End;
 pub use laws::{
-    held_sets_are_found, new_sets_are_admissible, nexts_are_alike, obtained_files_fit,
-    routes_ask_little, routes_end_as_obtained, routes_make_new_sets, runs_stand_in_routes,
+    deeds_lead_to_next, held_sets_are_found, new_sets_are_admissible, next_is_there,
+    nexts_are_alike, obtained_files_fit, routes_ask_little, routes_end_as_obtained,
+    routes_make_new_sets, runs_stand_in_routes,
 };
 pub use log::{Asked, Heard};
 pub use wanted::Wanted;

@@ -26,7 +26,7 @@ use Rattle.update_program.specs.declared.cause.Outcome.TheVariants.{Installs, Ol
 use Rattle.update_program.specs.Outcome.{verdict_between, verdict_of, served_end, list_end, list_job, release_job, release_end, installed_date, default_dates, listed_stage, judged_stage, read_stage, stage_of, set_of}
 use Rattle.update_program.specs.Heard.{mirror_reply, mirror_end, mirror_outcome}
 use Rattle.update_program.specs.Served.{ServesList, ServesSet}
-use Rattle.update_program.proofs.WholeLemmas.{verdict-fits, is_admissible, is_judged}
+use Rattle.update_program.proofs.WholeLemmas.{AdmitsJudged, verdict-fits, is_admissible, is_judged}
 
 -- ---- a reply within a limit
 
@@ -70,19 +70,19 @@ list_installed world target release (Some sum) (Some list) h =
     let verdict : verdict_of list sum ≡ Fits = fits-verdict list sum h.1 in
     rw (reply, verdict) refl
 
-release_installed : (world : World) (target : Target) (installed : Option ℤ) (now : ℤ) (release : List ℕ) (value : Release) (list : Option (List ℕ))
+release_installed : AdmitsJudged → (world : World) (target : Target) (installed : Option ℤ) (now : ℤ) (release : List ℕ) (value : Release) (list : Option (List ℕ))
     → release_of release ≡ Ok value → IsAdmissible value installed default_dates now → ServesList world target (listed_sum value target.path) list
     → mirror_end world target (read_stage target.path installed now release (release_of release)) ≡ Installs release list
 unfolding read_stage
-release_installed world target installed now release value list read admissible wanted =
-    rw (read, is_judged value installed now admissible) (list_installed world target release (listed_sum value target.path) list wanted)
+release_installed law world target installed now release value list read admissible wanted =
+    rw (read, is_judged law value installed now admissible) (list_installed world target release (listed_sum value target.path) list wanted)
 
-pub served-installs : (world : World) (source : Source) (target : Target) (installed : Option (List ℕ)) (now : ℤ) (release : List ℕ) (list : Option (List ℕ))
+pub served-installs : AdmitsJudged → (world : World) (source : Source) (target : Target) (installed : Option (List ℕ)) (now : ℤ) (release : List ℕ) (list : Option (List ℕ))
     → ServesSet world source target installed now release list → mirror_outcome world source target (installed_date installed) now ≡ Installs release list
 unfolding mirror_outcome
-served-installs world source target installed now release list h =
+served-installs law world source target installed now release list h =
     let reply : reply_within 16_777_216 (answer_at world source.release) ≡ Served release = rw h.served (served_within 16_777_216 release h.within) in
-    rw reply (release_installed world target (installed_date installed) now release h.value list h.read h.admissible h.wanted)
+    rw reply (release_installed law world target (installed_date installed) now release h.value list h.read h.admissible h.wanted)
 
 -- ---- what is installed is served
 
@@ -132,44 +132,44 @@ listed-served world source target installed now release None h = with_wanted wor
 listed-served world source target installed now release (Some sum) h =
     reply-served world source target installed now release sum (mirror_reply world (list_job target sum)) h refl
 
-judged-served : (world : World) (source : Source) (target : Target) (installed : Option (List ℕ)) (now : ℤ) (release : List ℕ) (value : Release) (judgement : Result (Unit {0}) DateError)
+judged-served : AdmitsJudged → (world : World) (source : Source) (target : Target) (installed : Option (List ℕ)) (now : ℤ) (release : List ℕ) (value : Release) (judgement : Result (Unit {0}) DateError)
     → answer_at world source.release ≡ answers.Served release → length release ≤ 16_777_216 → release_of release ≡ Ok value
     → judged value (installed_date installed) default_dates now ≡ judgement
     → ServedOutcome world source target installed now (mirror_end world target (judged_stage target.path release value judgement))
-judged-served world source target installed now release value (Ok u) served within read e =
+judged-served law world source target installed now release value (Ok u) served within read e =
     listed-served world source target installed now release (listed_sum value target.path)
-    (record { served = served; within = within; value = value; read = read; admissible = is_admissible value (installed_date installed) now e; sums = refl })
-judged-served world source target installed now release value (Err (dates.Expired end)) served within read e = tt
-judged-served world source target installed now release value (Err (dates.Future date)) served within read e = tt
-judged-served world source target installed now release value (Err (dates.Older date)) served within read e = tt
+    (record { served = served; within = within; value = value; read = read; admissible = is_admissible law value (installed_date installed) now e; sums = refl })
+judged-served law world source target installed now release value (Err (dates.Expired end)) served within read e = tt
+judged-served law world source target installed now release value (Err (dates.Future date)) served within read e = tt
+judged-served law world source target installed now release value (Err (dates.Older date)) served within read e = tt
 
-read-served : (world : World) (source : Source) (target : Target) (installed : Option (List ℕ)) (now : ℤ) (release : List ℕ) (reading : Result Release ReleaseError)
+read-served : AdmitsJudged → (world : World) (source : Source) (target : Target) (installed : Option (List ℕ)) (now : ℤ) (release : List ℕ) (reading : Result Release ReleaseError)
     → answer_at world source.release ≡ answers.Served release → length release ≤ 16_777_216 → release_of release ≡ reading
     → ServedOutcome world source target installed now (mirror_end world target (read_stage target.path (installed_date installed) now release reading))
 unfolding read_stage
-read-served world source target installed now release (Ok value) served within read =
-    judged-served world source target installed now release value (judged value (installed_date installed) default_dates now) served within read refl
-read-served world source target installed now release (Err refusal) served within read = tt
+read-served law world source target installed now release (Ok value) served within read =
+    judged-served law world source target installed now release value (judged value (installed_date installed) default_dates now) served within read refl
+read-served law world source target installed now release (Err refusal) served within read = tt
 
-release-served : (world : World) (source : Source) (target : Target) (installed : Option (List ℕ)) (now : ℤ) (reply : Reply)
+release-served : AdmitsJudged → (world : World) (source : Source) (target : Target) (installed : Option (List ℕ)) (now : ℤ) (reply : Reply)
     → reply_within 16_777_216 (answer_at world source.release) ≡ reply
     → ServedOutcome world source target installed now (mirror_end world target (stage_of target.path (installed_date installed) now (release_end reply)))
-release-served world source target installed now (Served release) e =
+release-served law world source target installed now (Served release) e =
     let answer = within_served 16_777_216 (answer_at world source.release) release e in
-    read-served world source target installed now release (release_of release) answer.0 answer.1 refl
-release-served world source target installed now (Moved place) e = tt
-release-served world source target installed now (Absent status) e = tt
-release-served world source target installed now TooBig e = tt
-release-served world source target installed now (Garbled at) e = tt
-release-served world source target installed now (Fault before after) e = tt
-release-served world source target installed now NoMemory e = tt
+    read-served law world source target installed now release (release_of release) answer.0 answer.1 refl
+release-served law world source target installed now (Moved place) e = tt
+release-served law world source target installed now (Absent status) e = tt
+release-served law world source target installed now TooBig e = tt
+release-served law world source target installed now (Garbled at) e = tt
+release-served law world source target installed now (Fault before after) e = tt
+release-served law world source target installed now NoMemory e = tt
 
-outcome-served : (world : World) (source : Source) (target : Target) (installed : Option (List ℕ)) (now : ℤ)
+outcome-served : AdmitsJudged → (world : World) (source : Source) (target : Target) (installed : Option (List ℕ)) (now : ℤ)
     → ServedOutcome world source target installed now (mirror_outcome world source target (installed_date installed) now)
 unfolding mirror_outcome
-outcome-served world source target installed now = release-served world source target installed now (mirror_reply world (release_job source)) refl
+outcome-served law world source target installed now = release-served law world source target installed now (mirror_reply world (release_job source)) refl
 
-pub installs-served : (world : World) (source : Source) (target : Target) (installed : Option (List ℕ)) (now : ℤ) (release : List ℕ) (list : Option (List ℕ))
+pub installs-served : AdmitsJudged → (world : World) (source : Source) (target : Target) (installed : Option (List ℕ)) (now : ℤ) (release : List ℕ) (list : Option (List ℕ))
     → Installs release list ≡ mirror_outcome world source target (installed_date installed) now → ServesSet world source target installed now release list
-installs-served world source target installed now release list e =
-    subst (ServedOutcome world source target installed now) (sym e) (outcome-served world source target installed now)
+installs-served law world source target installed now release list e =
+    subst (ServedOutcome world source target installed now) (sym e) (outcome-served law world source target installed now)

@@ -18,8 +18,8 @@ use Rattle.std.proofs.lemmas.Grind.{common_steps}
 use Rattle.update_program.specs.Words.{source_of_words}
 use Rattle.update_program.specs.Request.{IsRequest}
 use Rattle.update_program.proofs.RequestLemmas.{request_of_words}
-use Rattle.update_program.specs.Run.{Outside, ForRun, ForMethod, IsRun, IsUpdate, IsUpdateBy, EndsInOneWay, Completes, Said, FollowsMirror, IsWholeSet, LeavesWholeSet, is_status, seen, seen_with, disk_line, memory_line}
-use Rattle.update_program.proofs.WholeLemmas.{SoundOutcome, ends_as-sound}
+use Rattle.update_program.specs.Run.{Outside, ForRun, ForFirst, IsRun, IsUpdate, IsUpdateBy, EndsInOneWay, Completes, Said, FollowsMirror, IsWholeSet, LeavesWholeSet, is_status, seen, seen_with, disk_line, memory_line}
+use Rattle.update_program.proofs.WholeLemmas.{AdmitsJudged, SoundOutcome, ends_as-sound}
 use Rattle.update_program.proofs.MirrorLemmas.{ends_as-by_mirror}
 
 -- an outcome's status is 0 or 100
@@ -36,6 +36,10 @@ said-status before after line status result (inr h) = inr h.0
 said-rose : (before after : Outside) (line : List ℕ) (status result : ℕ) → status ≢ 105 → Said before after line status result → result ≡ 105 → Rose before.sink_faults after.sink_faults
 said-rose before after line status result n (inl h) e = absurd (n (sym h.0 ∙ e))
 said-rose before after line status result n (inr h) e = h.1
+
+said-quiet : (before after : Outside) (line : List ℕ) (status result : ℕ) → result ≢ 105 → Said before after line status result → after.sink_faults ≡ before.sink_faults
+said-quiet before after line status result n (inl h) = h.1
+said-quiet before after line status result n (inr h) = absurd (n h.0)
 
 not_105 : (outcome : Outcome) → status_of outcome ≢ 105
 not_105 (Installs release list) e = absurd (omega arith)
@@ -71,6 +75,22 @@ update-sink_fault before after source target now result (inl h) e = said-rose be
 update-sink_fault before after source target now result (inr (inl h)) e = said-rose before after disk_line 102 result (λ q. absurd (omega arith)) h.said e
 update-sink_fault before after source target now result (inr (inr h)) e = said-rose before after memory_line 103 result (λ q. absurd (omega arith)) h.said e
 
+-- the sink's count rose only with status 105
+pub update-sink_quiet : (before after : Outside) (source : Source) (target : Target) (now : ℤ) (result : ℕ) → EndsInOneWay before after source target now result → result ≢ 105 → after.sink_faults ≡ before.sink_faults
+update-sink_quiet before after source target now result (inl h) n = said-quiet before after _ (status_of h.outcome) result n h.said
+update-sink_quiet before after source target now result (inr (inl h)) n = said-quiet before after disk_line 102 result n h.said
+update-sink_quiet before after source target now result (inr (inr h)) n = said-quiet before after memory_line 103 result n h.said
+
+-- the disk's count rose only with status 102, or 105 in its place
+pub update-disk_quiet : (before after : Outside) (source : Source) (target : Target) (now : ℤ) (result : ℕ) → EndsInOneWay before after source target now result → result ≢ 102 → result ≢ 105 → after.disk_faults ≡ before.disk_faults
+update-disk_quiet before after source target now result (inl h) a b = h.quiet
+update-disk_quiet before after source target now result (inr (inr h)) a b = h.quiet
+update-disk_quiet before after source target now result (inr (inl h)) a b = by_status (said-status before after disk_line 102 result h.said)
+  where
+    by_status : (result ≡ 102) ⊎ (result ≡ 105) → after.disk_faults ≡ before.disk_faults
+    by_status (inl e) = absurd (a e)
+    by_status (inr e) = absurd (b e)
+
 -- there is no other status
 pub update-status : (before after : Outside) (source : Source) (target : Target) (now : ℤ) (result : ℕ) → EndsInOneWay before after source target now result → IsTrue (is_status result)
 update-status before after source target now result (inl h) = by_status (completes-status before after source target now result h)
@@ -98,8 +118,8 @@ completes-mirror before after entries source target now result tells told n h = 
     by_said : Said before after (line_of source h.outcome) (status_of h.outcome) result → FollowsMirror before after entries source target now result
     by_said (inl a) = record {
       outcome = h.outcome;
-      mirror = rw (← h.run.as_read tells) (ends_as-by_mirror before.method_faults after.method_faults entries source target (installed_date h.run.installed) now h.outcome (rw told at h.run.ended));
-      line = a.1;
+      mirror = rw (← h.run.obtained.as_read tells) (ends_as-by_mirror before.method_faults after.method_faults entries source target (installed_date h.run.obtained.installed) now h.outcome (rw told at h.run.obtained.ended));
+      line = a.2;
       status = a.0;
       files = h.run.left tells;
     }
@@ -162,25 +182,25 @@ outcome-whole before after source target installed now (Older date) n left whole
 outcome-whole before after source target installed now (Kept cause) n left whole = inl left
 
 -- a run that came to its outcome left the files alone or a whole set
-run-whole : (before after : Outside) (source : Source) (target : Target) (now : ℤ) (outcome : Outcome)
+run-whole : AdmitsJudged → (before after : Outside) (source : Source) (target : Target) (now : ℤ) (outcome : Outcome)
     → source.release_name.0 ≢ target.name.0 → IsTrue before.tells → IsRun before after source target now outcome → LeavesWholeSet before.files after.files source target now
-run-whole before after source target now outcome n tells run =
-    rw (← run.as_read tells) (outcome-whole before after source target (installed_date run.installed) now outcome n (run.left tells)
-    (ends_as-sound before.method_faults after.method_faults before.world source target (installed_date run.installed) now outcome run.ended))
+run-whole law before after source target now outcome n tells run =
+    rw (← run.obtained.as_read tells) (outcome-whole before after source target (installed_date run.obtained.installed) now outcome n (run.left tells)
+    (ends_as-sound law before.method_faults after.method_faults before.world source target (installed_date run.obtained.installed) now outcome run.obtained.ended))
 
-dry-whole : (before after : Outside) (source : Source) (target : Target) (now : ℤ)
+dry-whole : AdmitsJudged → (before after : Outside) (source : Source) (target : Target) (now : ℤ)
     → source.release_name.0 ≢ target.name.0 → IsTrue before.tells → (IsTrue before.tells → after.files ≡ before.files) ⊎ ((outcome : Outcome) × IsRun before after source target now outcome)
     → LeavesWholeSet before.files after.files source target now
-dry-whole before after source target now n tells (inl same) = inl (same tells)
-dry-whole before after source target now n tells (inr ran) = run-whole before after source target now ran.0 n tells ran.1
+dry-whole law before after source target now n tells (inl same) = inl (same tells)
+dry-whole law before after source target now n tells (inr ran) = run-whole law before after source target now ran.0 n tells ran.1
 
 -- whatever the mirror serves, a run leaves the files alone or a whole set, unless the disk failed
-pub update-whole : (before after : Outside) (source : Source) (target : Target) (now : ℤ) (result : ℕ)
+pub update-whole : AdmitsJudged → (before after : Outside) (source : Source) (target : Target) (now : ℤ) (result : ℕ)
     → EndsInOneWay before after source target now result → source.release_name.0 ≢ target.name.0 → IsTrue before.tells
     → Rose before.disk_faults after.disk_faults ⊎ LeavesWholeSet before.files after.files source target now
-update-whole before after source target now result (inl h) n tells = inr (run-whole before after source target now h.outcome n tells h.run)
-update-whole before after source target now result (inr (inl h)) n tells = inl h.rose
-update-whole before after source target now result (inr (inr h)) n tells = inr (dry-whole before after source target now n tells h.left)
+update-whole law before after source target now result (inl h) n tells = inr (run-whole law before after source target now h.outcome n tells h.run)
+update-whole law before after source target now result (inr (inl h)) n tells = inl h.rose
+update-whole law before after source target now result (inr (inr h)) n tells = inr (dry-whole law before after source target now n tells h.left)
 
 -- a request's list has another name than its Release
 first_is_other : (source : Source) → IsRequest source → (target : Target) → slice_get source.targets 0 ≡ Some target → target.name.0 ≢ source.release_name.0
@@ -213,7 +233,7 @@ for_run-map P Q (Some source) moment request f h = by_target (slice_get source.t
     by_target None e p = tt
     by_target (Some target) e p = by_moment target moment (λ same. first_is_other source request target e (sym same)) p
 
-pub for_method-map : {M : Type 0} (P Q : M → M → Type 0) (before after : List M) → ((old new : M) → P old new → Q old new) → ForMethod before after P → ForMethod before after Q
+pub for_method-map : {M : Type 0} (P Q : M → M → Type 0) (before after : List M) → ((old new : M) → P old new → Q old new) → ForFirst before after P → ForFirst before after Q
 for_method-map {M} P Q before after f h = by_old (slice_get before 0) h
   where
     by_new : (old : M) (new : Option M) → IfSome new (P old) → IfSome new (Q old)
@@ -226,7 +246,7 @@ for_method-map {M} P Q before after f h = by_old (slice_get before 0) h
 
 abbrev pub Follows : {M : Type 0} → (M → ℕ) → (M → Option World) → Bool → (ℕ → Option World → Outside) → (ℕ → Option World → Outside) → List M → List M → ℕ → Source → Target → ℤ → Type 0
 Follows {M} faults world tells before after old new result source target now =
-    ForMethod old new (λ was is. IfSome (world was) (λ entries. IsTrue tells → result ≢ 102 → result ≢ 103 → result ≢ 105
+    ForFirst old new (λ was is. IfSome (world was) (λ entries. IsTrue tells → result ≢ 102 → result ≢ 103 → result ≢ 105
     → FollowsMirror (before (faults was) (world was)) (after (faults is) (world is)) entries source target now result))
 
 -- words that are accepted follow the mirror

@@ -1,5 +1,5 @@
 -- What is installed is whole: admissible dates, and a list that fits the sum that its Release names.
-use Rattle.std.proofs.Common.{◌≡◌, ℕ, ℤ, Bool, true, false, nat_lt, nat_eq, if◌then◌else◌, List, Option, Some, None, Result, Ok, Err, refl, sym, ◌∙◌, ap, arith}
+use Rattle.std.proofs.Common.{◌≡◌, ◌↔◌, ℕ, ℤ, Bool, true, false, nat_lt, nat_eq, if◌then◌else◌, List, Option, Some, None, Result, Ok, Err, refl, sym, ◌∙◌, ap, arith}
 use Rattle.std.specs.Cmp.Lexicographic.{pointwise}
 use lib.Pointwise.{bytes_decides}
 use borrow.Author.Tests.{ltb-false}
@@ -16,7 +16,7 @@ use Rattle.release_file.specs.declared.judging.DateError.{DateError}
 use Rattle.release_file.specs.declared.judging.DateError.TheVariants as dates
 use Rattle.release_file.specs.Release.{release_of, listed_sum}
 use Rattle.release_file.specs.Dates.{judged, IsAdmissible}
-use Rattle.release_file.proofs.Judged.{admissible}
+use Rattle.acq_base.specs.declared.settings.Dates.{Dates}
 use Rattle.update_program.specs.declared.cause.Verdict.{Verdict}
 use Rattle.update_program.specs.declared.cause.Verdict.TheVariants.{Fits, Short, Long, Differs as OtherDigest}
 use Rattle.update_program.specs.declared.cause.End.{End}
@@ -47,17 +47,17 @@ pub verdict-fits : (bytes : List ℕ) (sum : Sum) → verdict_of bytes sum ≡ F
 unfolding verdict_of
 verdict-fits bytes sum h = fits_is_same (sum_of bytes) sum h
 
+-- release_file's law: what its judgement of dates passes is exactly what is admissible
+abbrev pub AdmitsJudged : Type 0
+AdmitsJudged = (release : Release) (installed : Option ℤ) (dates : Dates) (now : ℤ) → (judged release installed dates now ≡ Ok tt) ↔ IsAdmissible release installed dates now
+
 -- dates that are judged well are admissible
-pub is_admissible : (release : Release) (installed : Option ℤ) (now : ℤ) → judged release installed default_dates now ≡ Ok tt → IsAdmissible release installed default_dates now
-is_admissible release installed now e = (admissible release installed default_dates now (Ok tt) (sym e)).0 refl
+pub is_admissible : AdmitsJudged → (release : Release) (installed : Option ℤ) (now : ℤ) → judged release installed default_dates now ≡ Ok tt → IsAdmissible release installed default_dates now
+is_admissible law release installed now e = (law release installed default_dates now).0 e
 
 -- and admissible dates are judged well
-pub is_judged : (release : Release) (installed : Option ℤ) (now : ℤ) → IsAdmissible release installed default_dates now → judged release installed default_dates now ≡ Ok tt
-is_judged release installed now h = by_result (judged release installed default_dates now) refl
-  where
-    by_result : (result : Result (Unit {0}) DateError) → judged release installed default_dates now ≡ result → result ≡ Ok tt
-    by_result (Ok u) e = refl
-    by_result (Err refusal) e = let ok = (admissible release installed default_dates now (Err refusal) (sym e)).1 h in absurd (cc)
+pub is_judged : AdmitsJudged → (release : Release) (installed : Option ℤ) (now : ℤ) → IsAdmissible release installed default_dates now → judged release installed default_dates now ≡ Ok tt
+is_judged law release installed now h = (law release installed default_dates now).1 h
 
 -- an outcome that installs a set installs a whole one
 abbrev pub SoundOutcome : List ℕ → Option ℤ → ℤ → Outcome → Type 0
@@ -76,59 +76,59 @@ abbrev SoundStage : List ℕ → Option ℤ → ℤ → Stage → Type 0
 SoundStage path installed now (Over outcome) = SoundOutcome path installed now outcome
 SoundStage path installed now (Wants release sum) = Names path installed now release sum
 
-listed_stage-sound : (path : List ℕ) (installed : Option ℤ) (now : ℤ) (bytes : List ℕ) (release : Release) (listed : Option Sum)
+listed_stage-sound : AdmitsJudged → (path : List ℕ) (installed : Option ℤ) (now : ℤ) (bytes : List ℕ) (release : Release) (listed : Option Sum)
     → release_of bytes ≡ Ok release → judged release installed default_dates now ≡ Ok tt → listed_sum release path ≡ listed
     → SoundStage path installed now (listed_stage bytes listed)
-listed_stage-sound path installed now bytes release None read admitted e =
-    record { release = release; read = read; admissible = is_admissible release installed now admitted; fits = rw e tt }
-listed_stage-sound path installed now bytes release (Some sum) read admitted e =
+listed_stage-sound law path installed now bytes release None read admitted e =
+    record { release = release; read = read; admissible = is_admissible law release installed now admitted; fits = rw e tt }
+listed_stage-sound law path installed now bytes release (Some sum) read admitted e =
     record { release = release; read = read; admitted = admitted; listed = e }
 
-judged_stage-sound : (path : List ℕ) (installed : Option ℤ) (now : ℤ) (bytes : List ℕ) (release : Release) (judgement : Result (Unit {0}) DateError)
+judged_stage-sound : AdmitsJudged → (path : List ℕ) (installed : Option ℤ) (now : ℤ) (bytes : List ℕ) (release : Release) (judgement : Result (Unit {0}) DateError)
     → release_of bytes ≡ Ok release → judged release installed default_dates now ≡ judgement
     → SoundStage path installed now (judged_stage path bytes release judgement)
-judged_stage-sound path installed now bytes release (Ok u) read e = listed_stage-sound path installed now bytes release (listed_sum release path) read e refl
-judged_stage-sound path installed now bytes release (Err (dates.Expired end)) read e = tt
-judged_stage-sound path installed now bytes release (Err (dates.Future date)) read e = tt
-judged_stage-sound path installed now bytes release (Err (dates.Older date)) read e = tt
+judged_stage-sound law path installed now bytes release (Ok u) read e = listed_stage-sound law path installed now bytes release (listed_sum release path) read e refl
+judged_stage-sound law path installed now bytes release (Err (dates.Expired end)) read e = tt
+judged_stage-sound law path installed now bytes release (Err (dates.Future date)) read e = tt
+judged_stage-sound law path installed now bytes release (Err (dates.Older date)) read e = tt
 
-read_stage-sound : (path : List ℕ) (installed : Option ℤ) (now : ℤ) (bytes : List ℕ) (read : Result Release ReleaseError)
+read_stage-sound : AdmitsJudged → (path : List ℕ) (installed : Option ℤ) (now : ℤ) (bytes : List ℕ) (read : Result Release ReleaseError)
     → release_of bytes ≡ read → SoundStage path installed now (read_stage path installed now bytes read)
 unfolding read_stage
-read_stage-sound path installed now bytes (Ok release) e = judged_stage-sound path installed now bytes release (judged release installed default_dates now) e refl
-read_stage-sound path installed now bytes (Err refusal) e = tt
+read_stage-sound law path installed now bytes (Ok release) e = judged_stage-sound law path installed now bytes release (judged release installed default_dates now) e refl
+read_stage-sound law path installed now bytes (Err refusal) e = tt
 
-stage_of-sound : (path : List ℕ) (installed : Option ℤ) (now : ℤ) (ending : End) → SoundStage path installed now (stage_of path installed now ending)
-stage_of-sound path installed now (Got bytes) = read_stage-sound path installed now bytes (release_of bytes) refl
-stage_of-sound path installed now (Ended cause) = tt
+stage_of-sound : AdmitsJudged → (path : List ℕ) (installed : Option ℤ) (now : ℤ) (ending : End) → SoundStage path installed now (stage_of path installed now ending)
+stage_of-sound law path installed now (Got bytes) = read_stage-sound law path installed now bytes (release_of bytes) refl
+stage_of-sound law path installed now (Ended cause) = tt
 
-served_end-sound : (path : List ℕ) (installed : Option ℤ) (now : ℤ) (release : List ℕ) (sum : Sum) (bytes : List ℕ) (verdict : Verdict)
+served_end-sound : AdmitsJudged → (path : List ℕ) (installed : Option ℤ) (now : ℤ) (release : List ℕ) (sum : Sum) (bytes : List ℕ) (verdict : Verdict)
     → Names path installed now release sum → verdict_of bytes sum ≡ verdict → SoundOutcome path installed now (set_of release (served_end path sum bytes verdict))
-served_end-sound path installed now release sum bytes Fits names e =
+served_end-sound law path installed now release sum bytes Fits names e =
     let same = verdict-fits bytes sum e in
-    record { release = names.release; read = names.read; admissible = is_admissible names.release installed now names.admitted; fits = rw names.listed same }
-served_end-sound path installed now release sum bytes (Short n) names e = tt
-served_end-sound path installed now release sum bytes Long names e = tt
-served_end-sound path installed now release sum bytes (OtherDigest sha) names e = tt
+    record { release = names.release; read = names.read; admissible = is_admissible law names.release installed now names.admitted; fits = rw names.listed same }
+served_end-sound law path installed now release sum bytes (Short n) names e = tt
+served_end-sound law path installed now release sum bytes Long names e = tt
+served_end-sound law path installed now release sum bytes (OtherDigest sha) names e = tt
 
-set_of-sound : (path : List ℕ) (installed : Option ℤ) (now : ℤ) (release : List ℕ) (sum : Sum) (reply : Reply)
+set_of-sound : AdmitsJudged → (path : List ℕ) (installed : Option ℤ) (now : ℤ) (release : List ℕ) (sum : Sum) (reply : Reply)
     → Names path installed now release sum → SoundOutcome path installed now (set_of release (list_end path sum reply))
-set_of-sound path installed now release sum (Served bytes) names = served_end-sound path installed now release sum bytes (verdict_of bytes sum) names refl
-set_of-sound path installed now release sum (Moved place) names = tt
-set_of-sound path installed now release sum (Absent status) names = tt
-set_of-sound path installed now release sum TooBig names = tt
-set_of-sound path installed now release sum (Garbled at) names = tt
-set_of-sound path installed now release sum (Fault before after) names = tt
-set_of-sound path installed now release sum NoMemory names = tt
+set_of-sound law path installed now release sum (Served bytes) names = served_end-sound law path installed now release sum bytes (verdict_of bytes sum) names refl
+set_of-sound law path installed now release sum (Moved place) names = tt
+set_of-sound law path installed now release sum (Absent status) names = tt
+set_of-sound law path installed now release sum TooBig names = tt
+set_of-sound law path installed now release sum (Garbled at) names = tt
+set_of-sound law path installed now release sum (Fault before after) names = tt
+set_of-sound law path installed now release sum NoMemory names = tt
 
-ends_from-sound : (low high : ℕ) (world : Option World) (target : Target) (installed : Option ℤ) (now : ℤ) (stage : Stage) (outcome : Outcome)
-    → SoundStage target.path installed now stage → EndsFrom low high world target stage outcome → SoundOutcome target.path installed now outcome
-ends_from-sound low high world target installed now (Over ending) outcome sound h = rw h sound
-ends_from-sound low high world target installed now (Wants release sum) outcome sound h =
-    rw h.2 (set_of-sound target.path installed now release sum h.0 sound)
+ends_from-sound : AdmitsJudged → (before after : ℕ) (world : Option World) (target : Target) (installed : Option ℤ) (now : ℤ) (stage : Stage) (outcome : Outcome)
+    → SoundStage target.path installed now stage → EndsFrom before after world target stage outcome → SoundOutcome target.path installed now outcome
+ends_from-sound law before after world target installed now (Over ending) outcome sound h = rw h.0 sound
+ends_from-sound law before after world target installed now (Wants release sum) outcome sound h =
+    rw h.2 (set_of-sound law target.path installed now release sum h.0 sound)
 
-pub ends_as-sound : (low high : ℕ) (world : Option World) (source : Source) (target : Target) (installed : Option ℤ) (now : ℤ) (outcome : Outcome)
-    → EndsAs low high world source target installed now outcome → SoundOutcome target.path installed now outcome
-ends_as-sound low high world source target installed now outcome h =
-    ends_from-sound low high world target installed now (stage_of target.path installed now (release_end h.0)) outcome
-    (stage_of-sound target.path installed now (release_end h.0)) h.2
+pub ends_as-sound : AdmitsJudged → (before after : ℕ) (world : Option World) (source : Source) (target : Target) (installed : Option ℤ) (now : ℤ) (outcome : Outcome)
+    → EndsAs before after world source target installed now outcome → SoundOutcome target.path installed now outcome
+ends_as-sound law before after world source target installed now outcome h =
+    ends_from-sound law h.0 after world target installed now (stage_of target.path installed now (release_end h.1)) outcome
+    (stage_of-sound law target.path installed now (release_end h.1)) h.3

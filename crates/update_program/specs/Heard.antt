@@ -1,39 +1,32 @@
 -- Which outcomes a run may have, over what the method answered, and the one that the mirror's answers define.
-use Rattle.std.specs.Prelude.{◌≡◌, ℕ, ℤ, ◌≤◌, Option}
+use Rattle.std.specs.Prelude.{◌≡◌, ◌≢◌, ℕ, ℤ, Option}
 use Rattle.acq_base.specs.declared.plan.Target.{Target}
 use Rattle.acq_base.specs.declared.plan.Source.{Source}
 use Rattle.acq_base.specs.declared.fetch.Job.{Job}
 use Rattle.acq_base.specs.declared.fetch.Reply.{Reply}
-use Rattle.acq_base.specs.declared.fetch.Reply.TheVariants.{Served, Moved, Absent, TooBig, Garbled, Fault, NoMemory}
-use Rattle.acq_outside.specs.Count.{Rose}
+use Rattle.acq_base.specs.declared.fetch.Reply.TheVariants.{NoMemory}
 use Rattle.acq_base.specs.Mirror.{World, answer_at}
-use Rattle.acq_outside.specs.Mirror.{Answers, reply_within}
+use Rattle.acq_outside.specs.Mirror.{IsReply, reply_within}
 use Rattle.update_program.specs.declared.cause.Outcome.{Outcome}
 use Rattle.update_program.specs.declared.cause.Stage.{Stage}
 use Rattle.update_program.specs.declared.cause.Stage.TheVariants.{Over, Wants}
 use Rattle.update_program.specs.Outcome.{release_job, list_job, release_end, list_end, stage_of, set_of}
 
--- a reply of a method whose count of faults went from `before` to `after` over the run: a fault only where the count
--- rose meanwhile, and else the mirror's answer where the method tells one
+-- a method whose count of faults went from `before` to `after` was asked for this job, and replied so
 abbrev pub Heard : ℕ → ℕ → Option World → Job → Reply → Type 0
-Heard before after world job (Served bytes) = Answers world job (Served bytes)
-Heard before after world job (Moved place) = Answers world job (Moved place)
-Heard before after world job (Absent status) = Answers world job (Absent status)
-Heard before after world job TooBig = Answers world job TooBig
-Heard before after world job (Garbled at) = Answers world job (Garbled at)
-Heard before after world job (Fault from to) = (before ≤ from) × Rose from to × (to ≤ after)
-Heard before after world job NoMemory = ⊥
+Heard before after world job reply = IsReply before after world job reply × (reply ≢ NoMemory)
 
+-- from a stage on the list is asked for where the stage wants it, and nothing else is
 abbrev pub EndsFrom : ℕ → ℕ → Option World → Target → Stage → Outcome → Type 0
-EndsFrom before after world target (Over ending) outcome = outcome ≡ ending
+EndsFrom before after world target (Over ending) outcome = (outcome ≡ ending) × (after ≡ before)
 EndsFrom before after world target (Wants release sum) outcome =
     (reply : Reply) × Heard before after world (list_job target sum) reply × (outcome ≡ set_of release (list_end target.path sum reply))
 
 -- the outcome of a run that asks for the Release and, where that leaves the list to be had, for the list, each once
 abbrev pub EndsAs : ℕ → ℕ → Option World → Source → Target → Option ℤ → ℤ → Outcome → Type 0
 EndsAs before after world source target installed now outcome =
-    (reply : Reply) × Heard before after world (release_job source) reply
-    × EndsFrom before after world target (stage_of target.path installed now (release_end reply)) outcome
+    (between : ℕ) × (reply : Reply) × Heard before between world (release_job source) reply
+    × EndsFrom between after world target (stage_of target.path installed now (release_end reply)) outcome
 
 -- what a mirror answers to a job
 abbrev pub mirror_reply : World → Job → Reply

@@ -1,5 +1,5 @@
 -- What a run does for its source, over what the outside objects hold and count before and after it.
-use Rattle.std.specs.Prelude.{◌≡◌, ◌⊎◌, ℕ, ℤ, ◌≤◌, ◌++◌, ◌==◌, Bool, IsTrue, List, [], ◌∷◌, codes, Option, Ok, IfSome, IsSome, IsSomeAnd, slice_get}
+use Rattle.std.specs.Prelude.{◌≡◌, ◌⊎◌, ℕ, ℤ, ◌++◌, ◌==◌, Bool, IsTrue, List, [], ◌∷◌, codes, Option, Ok, IfSome, IsSome, IsSomeAnd, slice_get}
 use Rattle.std.specs.List.{list_any}
 use Rattle.acq_base.specs.Sum.{sum_of}
 use Rattle.acq_base.specs.declared.plan.Target.{Target}
@@ -13,7 +13,7 @@ use Rattle.release_file.specs.Release.{release_of, listed_sum}
 use Rattle.release_file.specs.Dates.{IsAdmissible}
 use Rattle.update_program.specs.declared.cause.Cause.TheVariants.{Method}
 use Rattle.update_program.specs.declared.cause.Outcome.{Outcome}
-use Rattle.update_program.specs.declared.cause.Outcome.TheVariants.{Kept}
+use Rattle.update_program.specs.declared.cause.Outcome.TheVariants.{Installs, Kept}
 use Rattle.update_program.specs.Outcome.{installed_date, default_dates}
 use Rattle.update_program.specs.Heard.{EndsAs, mirror_outcome}
 use Rattle.update_program.specs.Files.{files_after}
@@ -40,22 +40,33 @@ seen disk_faults tells files method_faults world sink_faults written = record {
   written = written;
 }
 
--- a run had this outcome, over the method's counts of faults before and after it. `installed` is the Release that the
--- disk had; what is said of the disk holds where it tells
-pub record Ran (low high : ℕ) (world : Option World) (tells : Bool) (before after : Files) (source : Source) (target : Target) (now : ℤ) (outcome : Outcome) : Type 0 where
+-- a run came to this outcome, over the method's counts of faults before and after it. `installed` is the Release that
+-- the disk had among these files, where it tells them
+pub record Obtained (faults_before faults_after : ℕ) (world : Option World) (tells : Bool) (files : Files) (source : Source) (target : Target) (now : ℤ) (outcome : Outcome) : Type 0 where
   pub installed : Option (List ℕ)
-  pub as_read : IsTrue tells → installed ≡ before source.release_name.0
-  pub ended : EndsAs low high world source target (installed_date installed) now outcome
+  pub as_read : IsTrue tells → installed ≡ files source.release_name.0
+  pub ended : EndsAs faults_before faults_after world source target (installed_date installed) now outcome
+
+-- and carried it out
+pub record Ran (faults_before faults_after : ℕ) (world : Option World) (tells : Bool) (before after : Files) (source : Source) (target : Target) (now : ℤ) (outcome : Outcome) : Type 0 where
+  pub obtained : Obtained faults_before faults_after world tells before source target now outcome
   pub left : IsTrue tells → after ≡ files_after source target outcome before
 
 abbrev pub IsRun : Outside → Outside → Source → Target → ℤ → Outcome → Type 0
 IsRun before after source target now outcome =
     Ran before.method_faults after.method_faults before.world before.tells before.files after.files source target now outcome
 
--- the line was written whole and the status is this one, or the sink failed within the line
+-- the disk failed: its files are as they were, unless the run had come to a new set and was putting it in place
+abbrev pub LeftByFault : ℕ → ℕ → Option World → Bool → Files → Files → Source → Target → ℤ → Type 0
+LeftByFault faults_before faults_after world tells before after source target now =
+    (IsTrue tells → after ≡ before)
+    ⊎ ((release : List ℕ) × (list : Option (List ℕ)) × Obtained faults_before faults_after world tells before source target now (Installs release list))
+
+-- the line was written whole, the sink didn't fail and the status is this one; or the sink failed within the line
 abbrev pub SaidBy : ℕ → ℕ → Option (List ℕ) → Option (List ℕ) → List ℕ → ℕ → ℕ → Type 0
-SaidBy low high before after line status result =
-    ((result ≡ status) × Wrote before line after) ⊎ ((result ≡ 105) × Rose low high × WrotePart before line after)
+SaidBy faults_before faults_after before after line status result =
+    ((result ≡ status) × (faults_after ≡ faults_before) × Wrote before line after)
+    ⊎ ((result ≡ 105) × Rose faults_before faults_after × WrotePart before line after)
 
 abbrev pub Said : Outside → Outside → List ℕ → ℕ → ℕ → Type 0
 Said before after line status result = SaidBy before.sink_faults after.sink_faults before.written after.written line status result
@@ -73,22 +84,25 @@ words_line = codes "E words" ++ newline
 pub record Completes (before after : Outside) (source : Source) (target : Target) (now : ℤ) (result : ℕ) : Type 0 where
   pub outcome : Outcome
   pub run : IsRun before after source target now outcome
+  pub quiet : after.disk_faults ≡ before.disk_faults
   pub said : Said before after (line_of source outcome) (status_of outcome) result
 
 -- the disk failed
-pub record FailsOnDisk (before after : Outside) (result : ℕ) : Type 0 where
+pub record FailsOnDisk (before after : Outside) (source : Source) (target : Target) (now : ℤ) (result : ℕ) : Type 0 where
   pub rose : Rose before.disk_faults after.disk_faults
+  pub left : LeftByFault before.method_faults after.method_faults before.world before.tells before.files after.files source target now
   pub said : Said before after disk_line 102 result
 
 -- memory ran out: before anything was put in place, or once the run had come to its outcome
 pub record RunsDry (before after : Outside) (source : Source) (target : Target) (now : ℤ) (result : ℕ) : Type 0 where
   pub left : (IsTrue before.tells → after.files ≡ before.files) ⊎ ((outcome : Outcome) × IsRun before after source target now outcome)
+  pub quiet : after.disk_faults ≡ before.disk_faults
   pub said : Said before after memory_line 103 result
 
 -- a run for a source ends in one of three ways: it comes to its outcome, the disk fails, or memory runs out
 abbrev pub EndsInOneWay : Outside → Outside → Source → Target → ℤ → ℕ → Type 0
 EndsInOneWay before after source target now result =
-    Completes before after source target now result ⊎ (FailsOnDisk before after result ⊎ RunsDry before after source target now result)
+    Completes before after source target now result ⊎ (FailsOnDisk before after source target now result ⊎ RunsDry before after source target now result)
 
 pub record IsUpdate (before after : Outside) (source : Source) (target : Target) (now : ℤ) (result : ℕ) : Type 0 where
   pub way : EndsInOneWay before after source target now result
@@ -97,24 +111,20 @@ pub record IsUpdate (before after : Outside) (source : Source) (target : Target)
 abbrev pub is_status : ℕ → Bool
 is_status result = list_any (λ status. result == status) (0 ∷ 100 ∷ 102 ∷ 103 ∷ 105 ∷ [])
 
--- the method failed at the Release or at the list, within a run over these counts of faults
-pub record FailedWithin (low high : ℕ) (target : Target) (outcome : Outcome) : Type 0 where
+-- the method failed at the Release or at the list, and the outcome tells its counts of faults before and after the run
+pub record FailedWithin (before after : ℕ) (target : Target) (outcome : Outcome) : Type 0 where
   pub path : List ℕ
-  pub first : ℕ
-  pub last : ℕ
   pub where_it_failed : (path ≡ codes "Release") ⊎ (path ≡ target.path)
-  pub told : outcome ≡ Kept (Method path 0 first last)
-  pub since : low ≤ first
-  pub rose : Rose first last
-  pub until : last ≤ high
+  pub told : outcome ≡ Kept (Method path 0 before after)
+  pub rose : Rose before after
 
 abbrev pub MethodFailed : Outside → Outside → Target → Outcome → Type 0
 MethodFailed before after target outcome = FailedWithin before.method_faults after.method_faults target outcome
 
--- the outcome is the one that the mirror's answers define, or the method failed
+-- the outcome is the one that the mirror's answers define, and the method didn't fail; or it failed
 abbrev pub ByMirror : Outside → Outside → World → Source → Target → ℤ → Outcome → Type 0
 ByMirror before after world source target now outcome =
-    (outcome ≡ mirror_outcome world source target (installed_date (before.files source.release_name.0)) now)
+    ((outcome ≡ mirror_outcome world source target (installed_date (before.files source.release_name.0)) now) × (after.method_faults ≡ before.method_faults))
     ⊎ MethodFailed before after target outcome
 
 -- over a mirror and a disk that are told: what is printed, the status and the files are those of one outcome
@@ -143,9 +153,9 @@ LeavesWholeSet before after source target now =
 abbrev pub ForRun : Option Source → Option ℤ → (Source → Target → ℤ → Type 0) → Type 0
 ForRun named moment P = IfSome named (λ source. IfSome (slice_get source.targets 0) (λ target. IfSome moment (P source target)))
 
--- P of the method that fetches, before and after the run
-abbrev pub ForMethod : {M : Type 0} → List M → List M → (M → M → Type 0) → Type 0
-ForMethod before after P = IfSome (slice_get before 0) (λ old. IfSome (slice_get after 0) (P old))
+-- P of the first method, which is the one that fetches, before and after the run
+abbrev pub ForFirst : {M : Type 0} → List M → List M → (M → M → Type 0) → Type 0
+ForFirst before after P = IfSome (slice_get before 0) (λ old. IfSome (slice_get after 0) (P old))
 
 -- the outside but for the method, which adds its count of faults and its mirror
 abbrev pub seen_with : ℕ → Bool → Files → ℕ → Option (List ℕ) → ℕ → Option World → Outside
@@ -153,12 +163,12 @@ seen_with disk_faults tells files sink_faults written method_faults world = seen
 
 -- a run by the first of some methods
 pub record IsUpdateBy {M : Type 0} (faults : M → ℕ) (world : M → Option World) (before after : ℕ → Option World → Outside) (old new : List M) (source : Source) (target : Target) (now : ℤ) (result : ℕ) : Type 0 where
-  pub ended : ForMethod old new (λ was is. IsUpdate (before (faults was) (world was)) (after (faults is) (world is)) source target now result)
+  pub ended : ForFirst old new (λ was is. IsUpdate (before (faults was) (world was)) (after (faults is) (world is)) source target now result)
 
 -- what refused words give: their line, unless memory ran out as they were read
 abbrev pub IsRefused : ℕ → ℕ → Option (List ℕ) → Option (List ℕ) → ℕ → Type 0
-IsRefused low high before after result =
-    SaidBy low high before after words_line 100 result ⊎ SaidBy low high before after memory_line 103 result
+IsRefused faults_before faults_after before after result =
+    SaidBy faults_before faults_after before after words_line 100 result ⊎ SaidBy faults_before faults_after before after memory_line 103 result
 
 -- the moment was read for this run, or memory ran out before it
 pub record ReadsMoment (given_before given_after : ℕ) (last : Option ℤ) : Type 0 where

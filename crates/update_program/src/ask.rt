@@ -56,7 +56,6 @@ fn finish<M: Method>(
     }
 }
 
-#[tactic(auto, using(crate::proofs::HeardLemmas::hearing))]
 fn ask_release<M: Method>(alloc: Global, source: &Source, method: &mut M) -> Result<End, NoMemory>
     requires { IsSound source.now.release }
     ensures count { M.faults method.old ≤ M.faults method.new }
@@ -73,7 +72,6 @@ fn ask_release<M: Method>(alloc: Global, source: &Source, method: &mut M) -> Res
     release_end(alloc, reply)
 }
 
-#[tactic(auto, using(crate::proofs::HeardLemmas::hearing))]
 fn ask_list<M: Method>(
     alloc: Global,
     target: &Target,

@@ -1,4 +1,4 @@
-ghost use Rattle.std.specs.Prelude.{◌≡◌, ◌≢◌, ℕ, ◌≤◌, List, IsTrue, OnOk, OnErr};
+ghost use Rattle.std.specs.Prelude.{◌≡◌, ◌≢◌, ℕ, ◌≤◌, List, Option, IsTrue, OnOk, OnErr};
 ghost use Rattle.acq_outside.specs.Count.{Rose};
 ghost use Rattle.acq_outside.specs.Disk.{IsName};
 ghost use Rattle.update_program.specs.Files.{files_after, with_list, ChangesOnlyNames};
@@ -20,6 +20,8 @@ pub fn install<D: Disk>(
     requires list { IsName target.now.name.0 }
     ensures count { D.faults disk.old ≤ D.faults disk.new }
     ensures fault { OnErr result (Rose (D.faults disk.old) (D.faults disk.new)) }
+    ensures quiet { OnOk result (D.faults disk.new ≡ D.faults disk.old) }
+    ensures new_set { OnErr result ((release : List ℕ) × (list : Option (List ℕ)) × (outcome.now ≡ Outcome.Installs release list)) }
     ensures telling { D.tells disk.new ≡ D.tells disk.old }
     ensures ok { IsTrue (D.tells disk.old) → OnOk result (D.files disk.new ≡ files_after source.now target.now outcome.now (D.files disk.old)) }
     ensures others { IsTrue (D.tells disk.old) → ChangesOnlyNames source.now target.now (D.files disk.old) (D.files disk.new) }
@@ -39,6 +41,7 @@ fn put_list<D: Disk>(disk: &mut D, target: &Target, list: &Option<Bytes>) -> Res
     requires { IsName target.now.name.0 }
     ensures count { D.faults disk.old ≤ D.faults disk.new }
     ensures fault { OnErr result (Rose (D.faults disk.old) (D.faults disk.new)) }
+    ensures quiet { OnOk result (D.faults disk.new ≡ D.faults disk.old) }
     ensures telling { D.tells disk.new ≡ D.tells disk.old }
     ensures ok { IsTrue (D.tells disk.old) → OnOk result (D.files disk.new ≡ with_list target.now.name.0 list.now (D.files disk.old)) }
     ensures others { IsTrue (D.tells disk.old) → (other : List ℕ) → other ≢ target.now.name.0 → D.files disk.new other ≡ D.files disk.old other }

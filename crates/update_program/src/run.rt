@@ -1,9 +1,9 @@
-ghost use Rattle.std.specs.Prelude.{◌≡◌, ◌≤◌, IsTrue, IfOk, IsErrOf};
+ghost use Rattle.std.specs.Prelude.{OnOk, ◌≡◌, ◌≤◌, IsTrue, IfOk, IsErrOf};
 ghost use Rattle.acq_base.specs.Uri.{IsSound};
 ghost use Rattle.acq_outside.specs.Count.{Rose};
 ghost use Rattle.acq_outside.specs.Disk.{IsName};
 ghost use Rattle.update_program.specs.Files.{files_after, ChangesOnlyNames};
-ghost use Rattle.update_program.specs.Run.{Ran};
+ghost use Rattle.update_program.specs.Run.{LeftByFault, Ran};
 
 use crate::Outcome;
 use crate::ask::obtain;
@@ -35,7 +35,7 @@ impl fmt::Display for RunError {
 impl Error for RunError {}
 
 impl From<NoMemory> for RunError {
-    ghost use Rattle.std.specs.Prelude.{◌≡◌};
+    ghost use Rattle.std.specs.Prelude.{OnOk, ◌≡◌};
     ghost use Rattle.update_program.specs.declared.run.RunError.TheVariants.{NoMemory};
 
     ghost from_gives = { λ _ error. error ≡ NoMemory };
@@ -46,7 +46,7 @@ impl From<NoMemory> for RunError {
 }
 
 impl From<Fault> for RunError {
-    ghost use Rattle.std.specs.Prelude.{◌≡◌};
+    ghost use Rattle.std.specs.Prelude.{OnOk, ◌≡◌};
     ghost use Rattle.update_program.specs.declared.run.RunError.TheVariants.{DiskFault};
 
     ghost from_gives = { λ _ error. error ≡ DiskFault };
@@ -58,7 +58,7 @@ impl From<Fault> for RunError {
 
 impl From<OutError> for RunError {
     ghost use Rattle.update_program.specs.Files.{run_error};
-    ghost use Rattle.std.specs.Prelude.{◌≡◌};
+    ghost use Rattle.std.specs.Prelude.{OnOk, ◌≡◌};
 
     ghost from_gives = { λ given error. error ≡ run_error given };
 
@@ -72,8 +72,9 @@ impl From<OutError> for RunError {
 
 /// Fetches a source's set and puts it in place, where there is a new one.
 ///
-/// `now` is the moment, in seconds since 1970. After a fault of the disk the source's two names may
-/// hold anything; where memory runs out, nothing was put in place.
+/// `now` is the moment, in seconds since 1970. After a fault of the disk all files are as they were, unless a new set
+/// was being put in place: then the source's two names may hold anything. Where memory runs out, nothing was put in
+/// place.
 pub fn run<D: Disk, M: Method>(
     alloc: Global,
     source: &Source,
@@ -88,6 +89,9 @@ pub fn run<D: Disk, M: Method>(
     requires list_name { IsName target.now.name.0 }
     ensures disk_count { D.faults disk.old ≤ D.faults disk.new }
     ensures disk_fault { IsErrOf result RunError.DiskFault → Rose (D.faults disk.old) (D.faults disk.new) }
+    ensures disk_quiet { OnOk result (D.faults disk.new ≡ D.faults disk.old) }
+    ensures dry { IsErrOf result RunError.NoMemory → D.faults disk.new ≡ D.faults disk.old }
+    ensures left { IsErrOf result RunError.DiskFault → LeftByFault (M.faults method.old) (M.faults method.new) (M.world method.old) (D.tells disk.old) (D.files disk.old) (D.files disk.new) source.now target.now now }
     ensures memory { IsErrOf result RunError.NoMemory → D.files disk.new ≡ D.files disk.old }
     ensures telling { D.tells disk.new ≡ D.tells disk.old }
     ensures method_count { M.faults method.old ≤ M.faults method.new }

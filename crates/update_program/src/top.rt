@@ -1,11 +1,11 @@
-ghost use Rattle.std.specs.Prelude.{◌≡◌, ◌≢◌, ◌≤◌, ◌⊎◌, None, Some, map, vec_len, string_bytes, IsTrue, IfSome, IfNone};
+ghost use Rattle.std.specs.Prelude.{◌≡◌, ◌≢◌, ◌≤◌, ◌⊎◌, None, Some, drop, map, vec_len, string_bytes, IsTrue, IfSome, IfNone};
 ghost use Rattle.acq_base.specs.Uri.{IsSound};
 ghost use Rattle.acq_outside.specs.Count.{Rose};
 ghost use Rattle.acq_outside.specs.Disk.{IsName};
 ghost use Rattle.update_program.specs.Words.{source_of_words};
 ghost use Rattle.update_program.specs.Request.{IsRequest};
 ghost use Rattle.update_program.specs.Files.{ChangesOnlyNames};
-ghost use Rattle.update_program.specs.Run.{ForRun, ForMethod, IsUpdateBy, seen_with, FollowsMirror, LeavesWholeSet, ReadsMoment, IsRefused, SaidBy, seen, is_status, memory_line};
+ghost use Rattle.update_program.specs.Run.{ForRun, ForFirst, IsUpdateBy, seen_with, FollowsMirror, LeavesWholeSet, ReadsMoment, IsRefused, SaidBy, seen, is_status, memory_line};
 ghost use Rattle.update_program.specs.Served.{EndsAsServed};
 
 use crate::Status;
@@ -13,6 +13,7 @@ use crate::update::{say, update_source};
 use crate::words::read_words;
 use acq_base::{NoMemory, Source, Target};
 use acq_outside::{Clock, Disk, Etc, Method, Sink};
+use release_file::judged_is_admissible;
 use std::alloc::Global;
 
 /// Updates a source that the words name from the first method's mirror, and tells what became of it.
@@ -29,10 +30,13 @@ fn update_request<D: Disk, M: Method, C: Clock, S: Sink>(
     ensures disk_count { D.faults disk.old ≤ D.faults disk.new }
     ensures sink_count { S.faults out.old ≤ S.faults out.new }
     ensures methods_kept { vec_len methods.new ≡ vec_len methods.old }
+    ensures later_methods { drop 1 methods.new.items ≡ drop 1 methods.old.items }
     ensures moment { ReadsMoment (C.given clock.old) (C.given clock.new) (C.last clock.new) }
     ensures status { IsTrue (is_status result.0) }
     ensures disk_fault { result.0 ≡ 102 → Rose (D.faults disk.old) (D.faults disk.new) }
     ensures sink_fault { result.0 ≡ 105 → Rose (S.faults out.old) (S.faults out.new) }
+    ensures disk_quiet { result.0 ≢ 102 → result.0 ≢ 105 → D.faults disk.new ≡ D.faults disk.old }
+    ensures sink_quiet { result.0 ≢ 105 → S.faults out.new ≡ S.faults out.old }
     ensures ended { ForRun (Some source.now) (C.last clock.new) (λ source target now. IsUpdateBy M.faults M.world
         (seen_with (D.faults disk.old) (D.tells disk.old) (D.files disk.old) (S.faults out.old) (S.written out.old))
         (seen_with (D.faults disk.new) (D.tells disk.new) (D.files disk.new) (S.faults out.new) (S.written out.new))
@@ -65,9 +69,12 @@ fn update_by_first<D: Disk, M: Method, S: Sink>(
     ensures disk_count { D.faults disk.old ≤ D.faults disk.new }
     ensures sink_count { S.faults out.old ≤ S.faults out.new }
     ensures methods_kept { vec_len methods.new ≡ vec_len methods.old }
+    ensures later_methods { drop 1 methods.new.items ≡ drop 1 methods.old.items }
     ensures status { IsTrue (is_status result.0) }
     ensures disk_fault { result.0 ≡ 102 → Rose (D.faults disk.old) (D.faults disk.new) }
     ensures sink_fault { result.0 ≡ 105 → Rose (S.faults out.old) (S.faults out.new) }
+    ensures disk_quiet { result.0 ≢ 102 → result.0 ≢ 105 → D.faults disk.new ≡ D.faults disk.old }
+    ensures sink_quiet { result.0 ≢ 105 → S.faults out.new ≡ S.faults out.old }
     ensures ended { IsUpdateBy M.faults M.world
         (seen_with (D.faults disk.old) (D.tells disk.old) (D.files disk.old) (S.faults out.old) (S.written out.old))
         (seen_with (D.faults disk.new) (D.tells disk.new) (D.files disk.new) (S.faults out.new) (S.written out.new))
@@ -90,12 +97,15 @@ fn attempt<D: Disk, M: Method, C: Clock, S: Sink>(
 ) -> Status
     requires { 1 ≤ vec_len methods.old }
     ensures methods_kept { vec_len methods.new ≡ vec_len methods.old }
+    ensures later_methods { drop 1 methods.new.items ≡ drop 1 methods.old.items }
     ensures moment { IfSome (source_of_words (map string_bytes words.now)) (λ _. ReadsMoment (C.given clock.old) (C.given clock.new) (C.last clock.new)
         ⊎ ((disk.new ≡ disk.old) × (methods.new.items ≡ methods.old.items) × (clock.new ≡ clock.old)
         × SaidBy (S.faults out.old) (S.faults out.new) (S.written out.old) (S.written out.new) memory_line 103 result.0)) }
     ensures status { IsTrue (is_status result.0) }
     ensures disk_fault { result.0 ≡ 102 → Rose (D.faults disk.old) (D.faults disk.new) }
     ensures sink_fault { result.0 ≡ 105 → Rose (S.faults out.old) (S.faults out.new) }
+    ensures disk_quiet { result.0 ≢ 102 → result.0 ≢ 105 → D.faults disk.new ≡ D.faults disk.old }
+    ensures sink_quiet { result.0 ≢ 105 → S.faults out.new ≡ S.faults out.old }
     ensures words_refused { IfNone (source_of_words (map string_bytes words.now))
         ((disk.new ≡ disk.old) × (methods.new.items ≡ methods.old.items) × (clock.new ≡ clock.old)
         × IsRefused (S.faults out.old) (S.faults out.new) (S.written out.old) (S.written out.new) result.0) }
@@ -119,7 +129,8 @@ fn attempt<D: Disk, M: Method, C: Clock, S: Sink>(
 ///
 /// The status is 0 for a new set or for a mirror that is older than what is installed, 100 for refused words or a kept
 /// source, 102 where the disk failed, 103 where memory ran out, and 105 where the output failed. After a fault of the
-/// disk (102, or 105 in its place) the source's two names may hold anything.
+/// disk (102, or 105 in its place) all files are as they were, unless a new set was being put in place: then the source's
+/// two names may hold anything. Methods beyond the first aren't used.
 pub fn update_call<R: AllocGlobal, E: Etc, D: Disk, M: Method + Send + 'static, C: Clock, S: Sink>(
     rt: &R,
     words: &[String],
@@ -132,16 +143,19 @@ pub fn update_call<R: AllocGlobal, E: Etc, D: Disk, M: Method + Send + 'static, 
     requires { (1 ≤ vec_len methods.old) × (vec_len methods.old ≤ 9) }
     ensures configuration { etc.new ≡ etc.old }
     ensures methods_kept { vec_len methods.new ≡ vec_len methods.old }
+    ensures later_methods { drop 1 methods.new.items ≡ drop 1 methods.old.items }
 
     // Accepted words read the moment once, unless memory runs out before that.
     ensures moment { IfSome (source_of_words (map string_bytes words.now)) (λ _. ReadsMoment (C.given clock.old) (C.given clock.new) (C.last clock.new)
         ⊎ ((disk.new ≡ disk.old) × (methods.new.items ≡ methods.old.items) × (clock.new ≡ clock.old)
         × SaidBy (S.faults out.old) (S.faults out.new) (S.written out.old) (S.written out.new) memory_line 103 result.0)) }
 
-    // Each status has its cause; 103 is want of memory.
+    // Each status has its cause, which is 103's want of memory, and no fault of the disk or the output goes untold.
     ensures status { IsTrue (is_status result.0) }
     ensures disk_fault { result.0 ≡ 102 → Rose (D.faults disk.old) (D.faults disk.new) }
     ensures sink_fault { result.0 ≡ 105 → Rose (S.faults out.old) (S.faults out.new) }
+    ensures disk_quiet { result.0 ≢ 102 → result.0 ≢ 105 → D.faults disk.new ≡ D.faults disk.old }
+    ensures sink_quiet { result.0 ≢ 105 → S.faults out.new ≡ S.faults out.old }
 
     // Refused words touch nothing but the output.
     ensures words_refused { IfNone (source_of_words (map string_bytes words.now))
@@ -156,7 +170,7 @@ pub fn update_call<R: AllocGlobal, E: Etc, D: Disk, M: Method + Send + 'static, 
 
     // Where the mirror and the disk tell, and neither disk, output nor memory failed, the line, the status and the
     // files are those that the mirror's answers define, or the method failed within this call.
-    ensures mirror { ForRun (source_of_words (map string_bytes words.now)) (C.last clock.new) (λ source target now. ForMethod methods.old.items methods.new.items (λ before after. IfSome (M.world before) (λ world.
+    ensures mirror { ForRun (source_of_words (map string_bytes words.now)) (C.last clock.new) (λ source target now. ForFirst methods.old.items methods.new.items (λ before after. IfSome (M.world before) (λ world.
         IsTrue (D.tells disk.old) → result.0 ≢ 102 → result.0 ≢ 103 → result.0 ≢ 105 → FollowsMirror
         (seen (D.faults disk.old) (D.tells disk.old) (D.files disk.old) (M.faults before) (M.world before) (S.faults out.old) (S.written out.old))
         (seen (D.faults disk.new) (D.tells disk.new) (D.files disk.new) (M.faults after) (M.world after) (S.faults out.new) (S.written out.new))
@@ -165,7 +179,7 @@ pub fn update_call<R: AllocGlobal, E: Etc, D: Disk, M: Method + Send + 'static, 
     // The same in the mirror's words: exactly where it serves an admissible Release, and whole the list that this wants,
     // the source ends with these bytes and the line is Get, unless it tells a fault of the method within this call; else
     // the source keeps its former set.
-    ensures serves { ForRun (source_of_words (map string_bytes words.now)) (C.last clock.new) (λ source target now. ForMethod methods.old.items methods.new.items (λ before after. IfSome (M.world before) (λ world.
+    ensures serves { ForRun (source_of_words (map string_bytes words.now)) (C.last clock.new) (λ source target now. ForFirst methods.old.items methods.new.items (λ before after. IfSome (M.world before) (λ world.
         IsTrue (D.tells disk.old) → result.0 ≢ 102 → result.0 ≢ 103 → result.0 ≢ 105 → EndsAsServed
         (seen (D.faults disk.old) (D.tells disk.old) (D.files disk.old) (M.faults before) (M.world before) (S.faults out.old) (S.written out.old))
         (seen (D.faults disk.new) (D.tells disk.new) (D.files disk.new) (M.faults after) (M.world after) (S.faults out.new) (S.written out.new))
@@ -178,5 +192,6 @@ pub fn update_call<R: AllocGlobal, E: Etc, D: Disk, M: Method + Send + 'static, 
     ensures others { ForRun (source_of_words (map string_bytes words.now)) (C.last clock.new) (λ source target now. IsTrue (D.tells disk.old) → ChangesOnlyNames source target (D.files disk.old) (D.files disk.new)) }
 {
     let _ = etc;
+    judged_is_admissible();
     attempt(rt.alloc(), words, disk, methods, clock, out)
 }

@@ -12,6 +12,7 @@ use crate::run::{RunError, run};
 use crate::{Outcome, Status};
 use acq_base::{NoMemory, Source, Target};
 use acq_outside::{Disk, Method, Sink};
+use release_file::judged_is_admissible;
 use std::alloc::Global;
 
 /// Updates one source from its mirror and tells what became of it.
@@ -43,6 +44,7 @@ pub fn update_source<D: Disk, M: Method, S: Sink>(
     ensures others { IsTrue (D.tells disk.old) → ChangesOnlyNames source.now target.now (D.files disk.old) (D.files disk.new) }
     ensures whole { IsTrue (D.tells disk.old) → Rose (D.faults disk.old) (D.faults disk.new) ⊎ LeavesWholeSet (D.files disk.old) (D.files disk.new) source.now target.now now }
 {
+    judged_is_admissible();
     attempt(alloc, source, target, disk, method, now, out)
 }
 

@@ -9,24 +9,99 @@ type Texts = [Option<&'static [u8]>; 4];
 /// A change of Origin, Label, Suite and Codename, the head before, the head after, and the first field that is refused.
 type Case = ([bool; 4], Texts, Texts, Option<HeadField>);
 
-const DEBIAN: Texts = [Some(b"Debian"), Some(b"Debian"), Some(b"stable"), Some(b"bookworm")];
+const DEBIAN: Texts = [
+    Some(b"Debian"),
+    Some(b"Debian"),
+    Some(b"stable"),
+    Some(b"bookworm"),
+];
 
 const CASES: [Case; 13] = [
     ([false; 4], DEBIAN, DEBIAN, None),
     ([false; 4], [None; 4], [None; 4], None),
-    ([false; 4], DEBIAN, [Some(b"Other"), Some(b"Debian"), Some(b"stable"), Some(b"bookworm")], Some(HeadField::Origin)),
-    ([false; 4], DEBIAN, [Some(b"Debian"), Some(b"Other"), Some(b"stable"), Some(b"bookworm")], Some(HeadField::Label)),
-    ([false; 4], DEBIAN, [Some(b"Debian"), Some(b"Debian"), Some(b"oldstable"), Some(b"bookworm")], Some(HeadField::Suite)),
-    ([false; 4], DEBIAN, [Some(b"Debian"), Some(b"Debian"), Some(b"stable"), Some(b"trixie")], Some(HeadField::Codename)),
+    (
+        [false; 4],
+        DEBIAN,
+        [
+            Some(b"Other"),
+            Some(b"Debian"),
+            Some(b"stable"),
+            Some(b"bookworm"),
+        ],
+        Some(HeadField::Origin),
+    ),
+    (
+        [false; 4],
+        DEBIAN,
+        [
+            Some(b"Debian"),
+            Some(b"Other"),
+            Some(b"stable"),
+            Some(b"bookworm"),
+        ],
+        Some(HeadField::Label),
+    ),
+    (
+        [false; 4],
+        DEBIAN,
+        [
+            Some(b"Debian"),
+            Some(b"Debian"),
+            Some(b"oldstable"),
+            Some(b"bookworm"),
+        ],
+        Some(HeadField::Suite),
+    ),
+    (
+        [false; 4],
+        DEBIAN,
+        [
+            Some(b"Debian"),
+            Some(b"Debian"),
+            Some(b"stable"),
+            Some(b"trixie"),
+        ],
+        Some(HeadField::Codename),
+    ),
     // An absent text differs from each that is there, an empty one too.
     ([false; 4], DEBIAN, [None; 4], Some(HeadField::Origin)),
-    ([false; 4], [None; 4], [None, Some(b""), None, None], Some(HeadField::Label)),
+    (
+        [false; 4],
+        [None; 4],
+        [None, Some(b""), None, None],
+        Some(HeadField::Label),
+    ),
     // Letter case counts.
-    ([false; 4], DEBIAN, [Some(b"debian"), Some(b"Debian"), Some(b"stable"), Some(b"bookworm")], Some(HeadField::Origin)),
+    (
+        [false; 4],
+        DEBIAN,
+        [
+            Some(b"debian"),
+            Some(b"Debian"),
+            Some(b"stable"),
+            Some(b"bookworm"),
+        ],
+        Some(HeadField::Origin),
+    ),
     // What is switched on may change, and nothing else.
-    ([true, false, false, false], DEBIAN, [None; 4], Some(HeadField::Label)),
-    ([true, true, false, true], DEBIAN, [None; 4], Some(HeadField::Suite)),
-    ([true, true, true, false], DEBIAN, [None; 4], Some(HeadField::Codename)),
+    (
+        [true, false, false, false],
+        DEBIAN,
+        [None; 4],
+        Some(HeadField::Label),
+    ),
+    (
+        [true, true, false, true],
+        DEBIAN,
+        [None; 4],
+        Some(HeadField::Suite),
+    ),
+    (
+        [true, true, true, false],
+        DEBIAN,
+        [None; 4],
+        Some(HeadField::Codename),
+    ),
     ([true; 4], DEBIAN, [None; 4], None),
 ];
 
@@ -59,8 +134,16 @@ fn changed_heads(rt: HostRuntime) -> Result<(), Fail> {
         };
         let old = head(rt.alloc(), old)?;
         let new = head(rt.alloc(), new)?;
-        assert_eq!(rt; refused_field(&change, &old, &new), refused, "{change:?} {old:?} {new:?}");
-        assert_eq!(rt; is_allowed(&change, &old, &new), refused.is_none(), "{change:?} {old:?} {new:?}");
+        assert_eq!(rt;
+            refused_field(&change, &old, &new),
+            refused,
+            "{change:?} {old:?} {new:?}"
+        );
+        assert_eq!(rt;
+            is_allowed(&change, &old, &new),
+            refused.is_none(),
+            "{change:?} {old:?} {new:?}"
+        );
     }
     Ok(())
 }

@@ -27,6 +27,8 @@ pub const MOMENT: i64 = 1_686_387_313;
 pub enum Served {
     /// These two texts, one after the other.
     Text(&'static str, &'static str),
+    /// A text of so many line feeds.
+    Lines(usize),
     Absent(u16),
     Moved,
 }

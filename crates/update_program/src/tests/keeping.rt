@@ -1,5 +1,10 @@
-use crate::tests::cases::{Case, DATE_BEFORE, SUMS, Served, UNTIL, kept};
+use crate::tests::cases::{Case, DATE_BEFORE, GOOD, SUMS, Served, UNTIL, kept};
+use crate::tests::objects::{disk_of, only, words};
 use crate::tests::running::run;
+use crate::{Status, update_call};
+use acq_base::{Job, Reply, Row};
+use acq_outside::{FixedClock, MemEtc, MemSink, Method};
+use std::alloc::Global;
 use std::test::Fail;
 
 #[test]
@@ -22,6 +27,11 @@ fn keeps_a_source_with_its_cause(rt: HostRuntime) -> Result<(), Fail> {
         ..kept("Keep http://m.example/d/ s bad release 3 line 1\n")
     };
     run(&rt, "no control text", refused)?;
+    let two_paragraphs = Case {
+        release: Served::Text("Date: x\n\n", "Date: y\n"),
+        ..kept("Keep http://m.example/d/ s bad release 12 line 0\n")
+    };
+    run(&rt, "two paragraphs", two_paragraphs)?;
     let moved = Case {
         release: Served::Moved,
         ..kept("Keep http://m.example/d/ s later\n")
@@ -32,6 +42,60 @@ fn keeps_a_source_with_its_cause(rt: HostRuntime) -> Result<(), Fail> {
         ..kept("Keep http://m.example/d/ s later\n")
     };
     run(&rt, "a moved list", list_moved)
+}
+
+#[test]
+fn keeps_a_source_whose_release_is_too_big(rt: HostRuntime) -> Result<(), Fail> {
+    let greatest = Case {
+        release: Served::Lines(16_777_216),
+        ..kept("Keep http://m.example/d/ s bad release 12 line 0\n")
+    };
+    run(&rt, "no paragraph in the most bytes", greatest)?;
+    let too_big = Case {
+        release: Served::Lines(16_777_217),
+        ..kept("Keep http://m.example/d/ s later\n")
+    };
+    run(&rt, "a byte too many", too_big)
+}
+
+/// A method whose peer breaks its protocol.
+#[derive(Drop)]
+struct Garbling;
+
+impl Method for Garbling {
+    ghost use Rattle.std.specs.Prelude.{None};
+
+    ghost faults = { λ _. 0 };
+
+    ghost world = { λ _. None };
+
+    fn faults(&self) -> u64 {
+        0
+    }
+
+    fn fetch(&mut self, _alloc: Global, _job: &Job) -> Reply {
+        Reply::Garbled(7)
+    }
+}
+
+#[test]
+fn keeps_a_source_whose_release_is_garbled(rt: HostRuntime) -> Result<(), Fail> {
+    let alloc = rt.alloc();
+    let mut disk = disk_of(&rt, &GOOD)?;
+    let mut methods = vec![in alloc; Garbling]?;
+    let mut out = MemSink::new(alloc, only(alloc, 0)?);
+    let status = update_call(
+        &rt,
+        words(alloc, "update http://m.example/d/ s main amd64")?.as_slice(),
+        &mut MemEtc::new(Row::new(alloc), Row::new(alloc)),
+        &mut disk,
+        &mut methods,
+        &mut FixedClock::new(GOOD.moment),
+        &mut out,
+    );
+    assert_eq!(rt; status, Status(100));
+    assert_eq!(rt; out.written().as_slice(), b"Keep http://m.example/d/ s later\n".as_slice());
+    Ok(())
 }
 
 #[test]

@@ -24,12 +24,18 @@ pub fn bytes(alloc: Global, parts: (&str, &str)) -> Result<Bytes, NoMemory> {
     Ok(Row::from(Vec::from_slice(alloc, text.as_bytes())?))
 }
 
+/// So many line feeds.
+pub fn lines(alloc: Global, count: usize) -> Result<Bytes, NoMemory> {
+    Ok(Row::from(Vec::from_elem(alloc, b'\n', count)?))
+}
+
 /// The mirror's answer where it has this.
 pub fn answer(alloc: Global, served: Served) -> Result<Answer, NoMemory>
     ensures { IfOk result IsSoundAnswer }
 {
     match served {
         Served::Text(first, second) => Ok(Answer::Served(bytes(alloc, (first, second))?)),
+        Served::Lines(count) => Ok(Answer::Served(lines(alloc, count)?)),
         Served::Absent(status) => Ok(Answer::Absent(status)),
         Served::Moved => Ok(Answer::Moved(None)),
     }

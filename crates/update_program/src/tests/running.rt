@@ -1,7 +1,7 @@
 //! Runs a case and compares all that it leaves.
 
 use crate::tests::cases::{Case, LIST_NAME, RELEASE_NAME, SUMS, Served};
-use crate::tests::objects::{bytes, disk_of, method_of, only, words};
+use crate::tests::objects::{bytes, disk_of, lines, method_of, only, words};
 use crate::{Status, update_call};
 use acq_base::{Bytes, NoMemory, Row};
 use acq_outside::{FixedClock, MapMethod, MemDisk, MemEtc, MemSink, Method, read_whole};
@@ -102,6 +102,7 @@ fn installed_bytes(alloc: Global, case: &Case, sums: &str) -> Result<Option<Byte
 fn served_bytes(alloc: Global, served: Served) -> Result<Option<Bytes>, NoMemory> {
     match served {
         Served::Text(first, second) => Ok(Some(bytes(alloc, (first, second))?)),
+        Served::Lines(count) => Ok(Some(lines(alloc, count)?)),
         Served::Absent(_) | Served::Moved => Ok(None),
     }
 }

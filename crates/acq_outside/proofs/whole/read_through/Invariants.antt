@@ -6,6 +6,9 @@ abbrev pub invariant-loop-content : goal.invariant-loop-content
 invariant-loop-content g l =
     record {
       count : g.D.Disk.faults l.fn.disk ≤ g.D.Disk.faults l.disk;
+      quiet : g.D.Disk.faults l.disk ≡ g.D.Disk.faults l.fn.disk;
+      held : g.D.Disk.held l.disk ≡ g.D.Disk.held l.fn.disk;
+      still : g.D.Disk.trace l.disk ≡ g.D.Disk.trace l.fn.disk;
       telling : g.D.Disk.tells l.disk ≡ g.D.Disk.tells l.fn.disk;
       same : g.D.Disk.files l.disk ≡ g.D.Disk.files l.fn.disk;
       room : 1 ≤ length l.piece;

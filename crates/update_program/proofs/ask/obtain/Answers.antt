@@ -9,4 +9,4 @@ pub returns-clause-outcome : goal.returns-clause-outcome
 returns-clause-outcome g c =
     let stage : c.in_ok-stage.stage ≡ stage_of c.args.target.now.path c.args.installed c.args.now c.in_ok-end.end = simp (to_z-of_z, c.ranges.now) at c.in_ok-stage.ensures in
     ends_as_if_ok _ _ _ _ _ c.args.source.now c.args.target.now c.args.installed c.args.now c.in_ok-end.end _ _
-    c.in_ok-end.ensures.heard c.ask_release.ensures.count c.finish.ensures.count c.ask_release.ensures.same stage c.finish.ensures.outcome
+    c.in_ok-end.ensures.heard c.ask_release.ensures.same stage c.finish.ensures.outcome

@@ -1,5 +1,5 @@
 -- Each status has its cause, whichever way the run ended.
-use Rattle.update_program.proofs.UpdateLemmas.{update-status, update-disk_fault, update-sink_fault, first-update}
+use Rattle.update_program.proofs.UpdateLemmas.{update-status, update-disk_fault, update-sink_fault, update-disk_quiet, update-sink_quiet, first-update}
 use Rattle.std.proofs.lemmas.Int.{to_z-of_z}
 use Rattle.update_program.proofs.top.update_by_first.Goals as goal
 
@@ -19,3 +19,9 @@ returns-clause-disk_fault g c = update-disk_fault _ _ _ _ _ _ c.update_source.en
 
 pub returns-clause-sink_fault : goal.returns-clause-sink_fault
 returns-clause-sink_fault g c = update-sink_fault _ _ _ _ _ _ c.update_source.ensures.ended.way
+
+pub returns-clause-disk_quiet : goal.returns-clause-disk_quiet
+returns-clause-disk_quiet g c = update-disk_quiet _ _ _ _ _ _ c.update_source.ensures.ended.way
+
+pub returns-clause-sink_quiet : goal.returns-clause-sink_quiet
+returns-clause-sink_quiet g c = update-sink_quiet _ _ _ _ _ _ c.update_source.ensures.ended.way

@@ -14,7 +14,7 @@ returns-clause-mirror g c =
 
 pub returns-clause-serves : goal.returns-clause-serves
 returns-clause-serves g c =
-    words-ends g.M.Method.faults g.M.Method.world (map string_bytes c.args.words.now) (g.C.Clock.last c.attempt.new.clock) c.args.methods.now.items c.attempt.new.methods.items
+    words-ends c.judged_is_admissible.ensures g.M.Method.faults g.M.Method.world (map string_bytes c.args.words.now) (g.C.Clock.last c.attempt.new.clock) c.args.methods.now.items c.attempt.new.methods.items
     (g.D.Disk.faults c.args.disk.now) (g.D.Disk.tells c.args.disk.now) (g.D.Disk.files c.args.disk.now) (g.S.Sink.faults c.args.out.now) (g.S.Sink.written c.args.out.now)
     (g.D.Disk.faults c.attempt.new.disk) (g.D.Disk.tells c.attempt.new.disk) (g.D.Disk.files c.attempt.new.disk) (g.S.Sink.faults c.attempt.new.out) (g.S.Sink.written c.attempt.new.out)
     c.attempt.result.0 (returns-clause-mirror g c)

@@ -10,4 +10,4 @@ returns-clause-ended g c = simp (to_z-of_z, c.ranges.now) at c.attempt.ensures.e
 pub returns-clause-whole : goal.returns-clause-whole
 returns-clause-whole g c =
     let ended = simp (to_z-of_z, c.ranges.now) at c.attempt.ensures.ended in
-    λ tells. update-whole _ _ _ _ _ _ ended.way (λ same. c.requires.distinct (sym same)) tells
+    λ tells. update-whole c.judged_is_admissible.ensures _ _ _ _ _ _ ended.way (λ same. c.requires.distinct (sym same)) tells

@@ -1,0 +1,23 @@
+-- Which names a real disk lists.
+use Rattle.std.specs.Prelude.{ℕ, if◌then◌else◌, List, [], ◌∷◌, ◌++◌, codes, Contains}
+use Rattle.acq_outside.specs.Disk.{IsName}
+use Rattle.acq_real.specs.Folder.{IsInside}
+use Rattle.acq_real.specs.declared.listing.Entry.{Entry}
+
+-- an entry's name below the disk's folder: one in `partial` has that folder before its own
+abbrev pub listed_name : Entry → List ℕ
+listed_name entry = if entry.is_partial then codes "partial/" ++ entry.name else entry.name
+
+-- the names of the plain files
+abbrev pub plain_names : List Entry → List (List ℕ)
+plain_names [] = []
+plain_names (entry ∷ entries) = if entry.is_plain then listed_name entry ∷ plain_names entries else plain_names entries
+
+-- a name that the calls of a real disk take
+abbrev pub IsTaken : List ℕ → Type 0
+IsTaken name = IsName name × IsInside name
+
+-- those of some names that the calls of a real disk take, and no others
+pub record Keeps (names kept : List (List ℕ)) : Type 0 where
+  pub sound : (name : List ℕ) → Contains kept name → Contains names name × IsTaken name
+  pub complete : (name : List ℕ) → Contains names name → IsTaken name → Contains kept name
