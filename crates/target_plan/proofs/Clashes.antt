@@ -1,6 +1,6 @@
 -- Files of one name, and the places of names.
-use Rattle.std.proofs.Common.{◌≡◌, ℕ, ◌+◌, ◌<◌, ◌≤◌, zero, suc, length, take, drop, slice_index_or, Bool, true, false, cond, List, [], ◌∷◌, ◌++◌, Option, Some, None, refl, sym, ap, ◌∙◌, arith}
-use Rattle.std.specs.BTreeMap.{BTreeMap, get}
+use Rattle.std.proofs.Common.{◌≡◌, ℕ, ◌+◌, ◌<◌, ◌≤◌, zero, suc, length, take, drop, slice_index_or, Bool, true, false, cond, List, [], ◌∷◌, ◌++◌, Option, Some, None, refl, sym, ap, ◌∙◌, subst, arith}
+use Rattle.std.specs.BTreeMap.{BTreeMap, get, Updates}
 use Rattle.std.specs.Cmp.Lexicographic.{slice_cmp}
 use Rattle.std.specs.Ordering.{is_eq, nat_cmp}
 use Rattle.std.specs.Str.{bytes_eq}
@@ -10,7 +10,7 @@ use Rattle.std.proofs.lemmas.Map.Text.{is_eq-slice_cmp}
 use Rattle.target_plan.specs.declared.checks.File.{File}
 use Rattle.target_plan.specs.declared.error.PlanError.{PlanError}
 use Rattle.target_plan.specs.Planning.{or_else, clash_of, clash_with, clash_behind, clash}
-use Rattle.target_plan.proofs.Grouping.{place_from, none_or_some, some_inside, place-bound, place-within, laws_of_keys, HasPlaces}
+use Rattle.target_plan.proofs.Grouping.{place_from, none_or_some, some_inside, place-bound, place-within, laws_of_keys, HasPlaces, places_append}
 
 abbrev pub file_name : File → List ℕ
 file_name file = file.name.0
@@ -45,27 +45,38 @@ clash-some n (suc at) (f ∷ fs) x d e = by (is_same_file f x) refl (clash-some 
   by true k rest = absurd (omega (arith, some_inside (sym (ap (λ (b : Bool). cond b (Some n) (place_from is_same_file (n + 1) fs x)) k) ∙ e)))
   by false k rest = ap (λ (b : Bool). cond b (Some (clash_of f x)) (clash_with fs x)) k ∙ rest (sym (ap (λ (b : Bool). cond b (Some n) (place_from is_same_file (n + 1) fs x)) k) ∙ e ∙ ap Some (omega arith))
 
+item_at : (files : List File) (at : ℕ) (x : File) → at < length files → x ≡ slice_index_or files at x → drop at files ≡ x ∷ drop (at + 1) files
+item_at files at x within is = drop_more files at x within ∙ ap (λ (f : File). f ∷ drop (at + 1) files) (sym is)
+
+items_to : (files : List File) (at : ℕ) (x : File) → at < length files → x ≡ slice_index_or files at x → take at files ++ x ∷ [] ≡ take (at + 1) files
+items_to files at x within is = ap (λ (f : File). take at files ++ f ∷ []) is ∙ sym (take_more files at x within)
+
 zero_and : (n : ℕ) → n ≡ 0 + n
 zero_and n = omega arith
 
-pub clash_absent : (files : List File) (at : ℕ) (d : File) (m : BTreeMap (List ℕ) ℕ) → at < length files → HasNames m (take at files) → get (slice_cmp nat_cmp) m (file_name (slice_index_or files at d)) ≡ None
+pub clash_absent : (files : List File) (at : ℕ) (x : File) (m : BTreeMap (List ℕ) ℕ) → at < length files → x ≡ slice_index_or files at x → HasNames m (take at files) → get (slice_cmp nat_cmp) m (file_name x) ≡ None
     → clash_behind (take at files) (drop at files) ≡ clash_behind (take (at + 1) files) (drop (at + 1) files)
 unfolding clash_behind
-clash_absent files at d m within places absent =
-    let x = slice_index_or files at d in
-    ap (clash_behind (take at files)) (drop_more files at d within)
+clash_absent files at x m within is places absent =
+    ap (clash_behind (take at files)) (item_at files at x within is)
     ∙ ap (λ (o : Option PlanError). or_else o (clash_behind (take at files ++ x ∷ []) (drop (at + 1) files))) (clash-none 0 (take at files) x (sym (places x) ∙ absent))
-    ∙ ap (λ (earlier : List File). clash_behind earlier (drop (at + 1) files)) (sym (take_more files at d within))
+    ∙ ap (λ (earlier : List File). clash_behind earlier (drop (at + 1) files)) (items_to files at x within is)
 
 pub clash_within : (files : List File) (at first : ℕ) (x : File) (m : BTreeMap (List ℕ) ℕ) → at < length files → HasNames m (take at files) → get (slice_cmp nat_cmp) m (file_name x) ≡ Some first → first < at
 clash_within files at first x m within places found =
     omega (arith, within, length-take-le at files (omega (arith, within)), place-within is_same_file (laws_of_keys is_same_file (slice_cmp nat_cmp) nat_list_cmp_total file_name same_file) 0 (take at files) x first (sym (places x) ∙ found))
 
-pub clash_present : (files : List File) (at first : ℕ) (d e : File) (m : BTreeMap (List ℕ) ℕ) → at < length files → HasNames m (take at files) → get (slice_cmp nat_cmp) m (file_name (slice_index_or files at d)) ≡ Some first
-    → clash_behind (take at files) (drop at files) ≡ Some (clash_of (slice_index_or files first e) (slice_index_or files at d))
+pub clash_present : (files : List File) (at first : ℕ) (x : File) (m : BTreeMap (List ℕ) ℕ) → at < length files → x ≡ slice_index_or files at x → HasNames m (take at files) → get (slice_cmp nat_cmp) m (file_name x) ≡ Some first
+    → clash_behind (take at files) (drop at files) ≡ Some (clash_of (slice_index_or files first x) x)
 unfolding clash_behind
-clash_present files at first d e m within places found =
-    let x = slice_index_or files at d in
-    ap (clash_behind (take at files)) (drop_more files at d within)
-    ∙ ap (λ (o : Option PlanError). or_else o (clash_behind (take at files ++ x ∷ []) (drop (at + 1) files))) (clash-some 0 first (take at files) x e (sym (places x) ∙ found ∙ ap Some (zero_and first)))
-    ∙ ap (λ (f : File). Some (clash_of f x)) (get_or-take files at first e (clash_within files at first x m within places found))
+clash_present files at first x m within is places found =
+    ap (clash_behind (take at files)) (item_at files at x within is)
+    ∙ ap (λ (o : Option PlanError). or_else o (clash_behind (take at files ++ x ∷ []) (drop (at + 1) files))) (clash-some 0 first (take at files) x x (sym (places x) ∙ found ∙ ap Some (zero_and first)))
+    ∙ ap (λ (f : File). Some (clash_of f x)) (get_or-take at files first x (clash_within files at first x m within places found))
+
+pub names_more : (files : List File) (at : ℕ) (x : File) (k : List ℕ) (m m' : BTreeMap (List ℕ) ℕ) → at < length files → x ≡ slice_index_or files at x → k ≡ file_name x → HasNames m (take at files) → get (slice_cmp nat_cmp) m (file_name x) ≡ None
+    → Updates (slice_cmp nat_cmp) m m' k (Some at) → HasNames m' (take (at + 1) files)
+names_more files at x k m m' within is key places absent updates =
+    subst (HasNames m') (items_to files at x within is)
+    (places_append is_same_file (slice_cmp nat_cmp) nat_list_cmp_total file_name same_file m m' (take at files) x at (sym (length-take-le at files (omega (arith, within)))) places absent
+    (subst (λ (q : List ℕ). Updates (slice_cmp nat_cmp) m m' q (Some at)) key updates))

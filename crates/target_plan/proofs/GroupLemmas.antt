@@ -1,5 +1,8 @@
 -- The keys of sources, components and names.
-use Rattle.std.proofs.Common.{◌≡◌, ℕ, ◌==◌, Bool, true, false, ◌&&◌, List, refl, sym, ap, ◌∙◌}
+use Rattle.std.proofs.Common.{◌≡◌, ℕ, ◌<◌, ◌==◌, Bool, true, false, ◌&&◌, List, [], ◌∷◌, ◌++◌, length, map, Option, Some, None, IsSome, IfSome, refl, sym, ap, ◌∙◌, subst}
+use Rattle.std.specs.Global.{Vec}
+use Rattle.std.specs.BTreeMap.{BTreeMap, get, Updates, IsUnchanged}
+use Rattle.std.proofs.lemmas.List.{length-map}
 use Rattle.std.specs.Cmp.{IsTotalOrder, unsigned_tied, bool_cmp_total, tied_then}
 use Rattle.std.specs.Cmp.Lexicographic.{slice_cmp}
 use Rattle.std.specs.Ordering.{is_eq, nat_cmp, bool_cmp, ordering_then}
@@ -13,9 +16,12 @@ use Rattle.acq_base.specs.declared.uri.Scheme.TheVariants.{Http, File}
 use Rattle.source_lists.specs.declared.entry.Entry.{Entry}
 use Rattle.target_plan.specs.Offers.{Mention, is_same_component}
 use Rattle.target_plan.specs.Drafts.{is_same_source, is_same_name, name_of}
-use Rattle.target_plan.specs.Seen.{is_file, key_of, key_cmp}
+use Rattle.target_plan.specs.Groups.{entered}
+use Rattle.target_plan.specs.Seen.{is_file, key_of, key_cmp, seen, seen_group}
 use Rattle.target_plan.specs.declared.draft.Planned.{Planned}
 use Rattle.target_plan.specs.declared.groups.SourceKey.{SourceKey}
+use Rattle.target_plan.proofs.Grouping.{AreGrouped, group_within, group_entered}
+use Rattle.target_plan.proofs.Vectors.{seen_through}
 
 pub key_total : IsTotalOrder key_cmp
 key_total =
@@ -59,3 +65,16 @@ same_component a b = is_eq-slice_cmp a.0 b.0
 
 pub same_name : (a b : Planned) → is_eq (slice_cmp nat_cmp (name_of a) (name_of b)) ≡ is_same_name a b
 same_name a b = is_eq-slice_cmp (name_of a) (name_of b)
+
+-- ---- a vector of groups and the map of their places, one item further
+
+module _ {T X K : Type 0} (f : T → X) (same : X → X → Bool) (cmp : K → K → Ordering) (total : IsTotalOrder cmp) (key : X → K) (link : (a b : X) → is_eq (cmp (key a) (key b)) ≡ same a b) where
+  pub grouped_within : (m : BTreeMap K ℕ) (old : List (T × Vec T)) (xs : List X) (y : X) (k : K) (found : Option ℕ) → k ≡ key y → AreGrouped same cmp total key link m (map (seen_group f) old) xs → found ≡ get cmp m k → IfSome found (λ at. at < length old)
+  grouped_within m old xs y k found of_item so_far is =
+    subst (λ (n : ℕ). IfSome found (λ at. at < n)) (length-map old (seen_group f)) (group_within same cmp total key link m (map (seen_group f) old) xs y found so_far (is ∙ ap (get cmp m) of_item))
+
+  pub grouped_more : (m m' : BTreeMap K ℕ) (old new : List (T × Vec T)) (xs : List X) (item : T) (k : K) (found : Option ℕ) (len : ℕ) → k ≡ key (f item) → len ≡ length old → AreGrouped same cmp total key link m (map (seen_group f) old) xs → found ≡ get cmp m k
+    → (IsSome found → IsUnchanged m m') → (found ≡ None → Updates cmp m m' k (Some len)) → map (seen_group seen) new ≡ entered found item (map (seen_group seen) old) → AreGrouped same cmp total key link m' (map (seen_group f) new) (xs ++ f item ∷ [])
+  grouped_more m m' old new xs item k found len of_item is_len so_far is unchanged updates enters =
+    group_entered same cmp total key link m m' (map (seen_group f) old) (map (seen_group f) new) xs (f item) found len (is_len ∙ sym (length-map old (seen_group f))) so_far (is ∙ ap (get cmp m) of_item) unchanged
+    (λ none. subst (λ (q : K). Updates cmp m m' q (Some len)) of_item (updates none)) (seen_through f found item old new enters)

@@ -5,6 +5,7 @@ use Rattle.std.specs.Cmp.{IsEquivalence, IsTotalOrder}
 use Rattle.std.specs.Ordering.{is_eq, eq_by_cmp}
 use Rattle.std.specs.BTreeMap.{BTreeMap, get, is_at, Updates, IsUnchanged}
 use Rattle.std.specs.Map.{lookup}
+use Rattle.std.specs.Option.{is_some}
 use Rattle.std.specs.declared.cmp.Ordering.{Ordering}
 use mathlib.Core.Bool.{true≢false}
 use Rattle.std.proofs.lemmas.Cmp.{eq_by_cmp_equiv}
@@ -140,7 +141,7 @@ module _ {T : Type 0} (same : T → T → Bool) (laws : IsEquivalence same) wher
   others-differ f x (g ∷ fs) e a =
     (λ i. (laws.symm g x ∙ sym (laws.congr f x g e) ∙ a.0) i || others-differ f x fs e a.1 i)
 
-  place-bound : (n : ℕ) (fs : List T) (x : T) (at : ℕ) → place_from same n fs x ≡ Some at → n ≤ at
+  pub place-bound : (n : ℕ) (fs : List T) (x : T) (at : ℕ) → place_from same n fs x ≡ Some at → n ≤ at
   place-bound n [] x at e = absurd (none_or_some None at refl e)
   place-bound n (f ∷ fs) x at e = by (same f x) refl (place-bound (n + 1) fs x at) where
     by : (b : Bool) → same f x ≡ b → (place_from same (n + 1) fs x ≡ Some at → n + 1 ≤ at) → n ≤ at
@@ -163,21 +164,21 @@ module _ {T : Type 0} (same : T → T → Bool) (laws : IsEquivalence same) wher
       (λ i. group-other xs x f k i ∷ rest later i)
       ∙ sym (ap (λ (b : Bool). cond b ((f, filter (same f) xs ++ x ∷ []) ∷ map (group xs) fs) (group xs f ∷ added_from (n + 1) at x (map (group xs) fs))) (not_equal n at (omega (arith, place-bound (n + 1) fs x at later))))
 
-  place-absent : (n : ℕ) (fs : List T) (x : T) → place_from same n fs x ≡ None → has same fs x ≡ false
+  pub place-absent : (n : ℕ) (fs : List T) (x : T) → place_from same n fs x ≡ None → has same fs x ≡ false
   place-absent n [] x e = refl
   place-absent n (f ∷ fs) x e = by (same f x) refl (place-absent (n + 1) fs x) where
     by : (b : Bool) → same f x ≡ b → (place_from same (n + 1) fs x ≡ None → has same fs x ≡ false) → (same f x || has same fs x) ≡ false
     by true k rest = absurd (none_or_some (place_from same n (f ∷ fs) x) n e (ap (λ (b : Bool). cond b (Some n) (place_from same (n + 1) fs x)) k))
     by false k rest = ap (λ (b : Bool). b || has same fs x) k ∙ rest (sym (ap (λ (b : Bool). cond b (Some n) (place_from same (n + 1) fs x)) k) ∙ e)
 
-  place-present : (n : ℕ) (fs : List T) (x : T) (at : ℕ) → place_from same n fs x ≡ Some at → has same fs x ≡ true
+  pub place-present : (n : ℕ) (fs : List T) (x : T) (at : ℕ) → place_from same n fs x ≡ Some at → has same fs x ≡ true
   place-present n [] x at e = absurd (none_or_some None at refl e)
   place-present n (f ∷ fs) x at e = by (same f x) refl (place-present (n + 1) fs x at) where
     by : (b : Bool) → same f x ≡ b → (place_from same (n + 1) fs x ≡ Some at → has same fs x ≡ true) → (same f x || has same fs x) ≡ true
     by true k rest = ap (λ (b : Bool). b || has same fs x) k
     by false k rest = ap (λ (b : Bool). b || has same fs x) k ∙ rest (sym (ap (λ (b : Bool). cond b (Some n) (place_from same (n + 1) fs x)) k) ∙ e)
 
-  place-within : (n : ℕ) (fs : List T) (x : T) (at : ℕ) → place_from same n fs x ≡ Some at → at < n + length fs
+  pub place-within : (n : ℕ) (fs : List T) (x : T) (at : ℕ) → place_from same n fs x ≡ Some at → at < n + length fs
   place-within n [] x at e = absurd (none_or_some None at refl e)
   place-within n (f ∷ fs) x at e = by (same f x) refl (place-within (n + 1) fs x at) where
     by : (b : Bool) → same f x ≡ b → (place_from same (n + 1) fs x ≡ Some at → at < n + 1 + length fs) → at < n + suc (length fs)
@@ -245,6 +246,20 @@ module _ {T K : Type 0} (same : T → T → Bool) (cmp : K → K → Ordering) (
     places = places_append m m' fs x len e so_far.places absent updates
   }
 
+  pub none_first : (m : BTreeMap K ℕ) (fs : List T) → m.entries ≡ [] → fs ≡ [] → AreFirst m fs []
+  unfolding first_of_each
+  none_first m fs empty none = record { firsts = none; places = λ q. no_places m empty q ∙ sym (ap (λ (gs : List T). place_from same 0 gs q) none) }
+
+  pub first_stays : (m m' : BTreeMap K ℕ) (fs xs : List T) (x : T) (k : K) (found : Option ℕ) → is_some found ≡ true → k ≡ key x → AreFirst m fs xs → found ≡ get cmp m k → (IsSome found → IsUnchanged m m') → AreFirst m' fs (xs ++ x ∷ [])
+  first_stays m m' fs xs x k None there of_x so_far is unchanged = absurd (true≢false (sym there))
+  first_stays m m' fs xs x k (Some at) there of_x so_far is unchanged = first_seen m m' fs xs x at so_far (sym (is ∙ ap (get cmp m) of_x)) (unchanged refl)
+
+  pub first_grows : (m m' : BTreeMap K ℕ) (fs xs : List T) (x : T) (k : K) (found : Option ℕ) (len : ℕ) → is_some found ≡ false → k ≡ key x → len ≡ length fs → AreFirst m fs xs → found ≡ get cmp m k
+    → (found ≡ None → Updates cmp m m' k (Some len)) → AreFirst m' (fs ++ x ∷ []) (xs ++ x ∷ [])
+  first_grows m m' fs xs x k None len absent of_x is_len so_far is updates =
+    first_new m m' fs xs x len is_len so_far (sym (is ∙ ap (get cmp m) of_x)) (subst (λ (q : K). Updates cmp m m' q (Some len)) of_x (updates refl))
+  first_grows m m' fs xs x k (Some at) len absent of_x is_len so_far is updates = absurd (true≢false absent)
+
   -- ---- groups
 
   pub record AreGrouped (m : BTreeMap K ℕ) (groups : List (T × List T)) (xs : List T) : Type 0 where
@@ -285,3 +300,7 @@ module _ {T K : Type 0} (same : T → T → Bool) (cmp : K → K → Ordering) (
         ∙ ap (map (λ first. (first, filter (same first) (xs ++ x ∷ [])))) (sym firsts);
       first = subst (λ (gs : List T). AreFirst m' gs (xs ++ x ∷ [])) (sym firsts) (first_seen m m' fs xs x at so_far.first (sym e) (unchanged refl))
     }
+
+  pub no_groups : (m : BTreeMap K ℕ) (groups : List (T × List T)) → m.entries ≡ [] → groups ≡ [] → AreGrouped m groups []
+  unfolding together first_of_each
+  no_groups m groups empty none = record { grouped = none; first = none_first m [] empty refl }

@@ -10,7 +10,7 @@ use Rattle.target_plan.specs.declared.checks.File.{File}
 use Rattle.target_plan.specs.declared.draft.Draft.{Draft}
 use Rattle.target_plan.specs.declared.error.PlanError.{PlanError}
 use Rattle.target_plan.specs.declared.error.PlanError.TheVariants.{NoMemory}
-use Rattle.target_plan.specs.Drafts.{drafts_of, files_of, files_in, finished}
+use Rattle.target_plan.specs.Drafts.{drafts_of, file_of, files_of, files_in, finished}
 use Rattle.target_plan.specs.Planning.{or_else, name_refusal, long_name, clash, too_many, refusal_of, unless, plan_of}
 
 or_else-assoc : (a b c : Option PlanError) → or_else (or_else a b) c ≡ or_else a (or_else b c)
@@ -45,6 +45,22 @@ drafts_more a d before here = long-drafts a [] d ∙ (λ i. or_else (before i) (
 
 pub drafts_refused : (a b : List Draft) (d : Draft) (e : PlanError) → long_name (files_in a) ≡ None → long_name (files_of d) ≡ Some e → long_name (files_in (a ++ d ∷ b)) ≡ Some e
 drafts_refused a b d e before here = long-drafts a b d ∙ (λ i. or_else (before i) (or_else (here i) (long_name (files_in b))))
+
+-- ---- a draft
+
+pub draft_named : (d : Draft) (e : PlanError) → (e ≡ NoMemory) ⊎ (name_refusal d.source.release_name ≡ Some e) → (e ≡ NoMemory) ⊎ (long_name (files_of d) ≡ Some e)
+unfolding files_of long_name
+draft_named d e (inl is) = inl is
+draft_named d e (inr long) = inr (ap (λ (o : Option PlanError). or_else o (long_name (map file_of d.lists))) long)
+
+pub draft_listed : (d : Draft) (e : PlanError) → name_refusal d.source.release_name ≡ None → (e ≡ NoMemory) ⊎ (long_name (map file_of d.lists) ≡ Some e) → (e ≡ NoMemory) ⊎ (long_name (files_of d) ≡ Some e)
+unfolding files_of long_name
+draft_listed d e short (inl is) = inl is
+draft_listed d e short (inr long) = inr (λ i. or_else (short i) (long i))
+
+pub draft_short : (d : Draft) → name_refusal d.source.release_name ≡ None → long_name (map file_of d.lists) ≡ None → long_name (files_of d) ≡ None
+unfolding files_of long_name
+draft_short d short shorts = λ i. or_else (short i) (shorts i)
 
 -- ---- the whole plan
 

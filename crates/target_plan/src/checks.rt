@@ -1,4 +1,4 @@
-ghost use Rattle.std.specs.Prelude.{◌≡◌, ◌++◌, IfOk, OnOk, map};
+ghost use Rattle.std.specs.Prelude.{◌≡◌, ◌<◌, ◌++◌, IfOk, OnOk, length, map, slice_index_or};
 ghost use Rattle.target_plan.specs.Drafts.{files_of as files_of_draft, file_of};
 ghost use Rattle.target_plan.specs.Planning as spec;
 
@@ -74,18 +74,25 @@ pub fn check_clashes(alloc: Global, files: &[File]) -> Result<(), PlanError>
 {
     let mut places = BTreeMap::new(alloc);
     for at in 0..files.len() {
-        if let Some(first) = enter(&mut places, files[at].name.0.copy(alloc)?, at)? {
-            return Err(clash(alloc, &files[first], &files[at])?);
+        let file = &files[at];
+        if let Some(first) = enter(&mut places, file.name.0.copy(alloc)?, at)? {
+            return Err(clash(alloc, files, first, file)?);
         }
     }
     Ok(())
 }
 
-fn clash(alloc: Global, first: &File, second: &File) -> Result<PlanError, NoMemory>
-    ensures { IfOk result (λ error. error ≡ spec.clash_of first.now second.now) }
+fn clash(
+    alloc: Global,
+    files: &[File],
+    first: usize,
+    second: &File,
+) -> Result<PlanError, NoMemory>
+    requires { first < length files.now }
+    ensures { IfOk result (λ error. error ≡ spec.clash_of (slice_index_or files.now first second.now) second.now) }
 {
     Ok(PlanError::Clash {
-        first: first.origin.copy(alloc)?,
+        first: files[first].origin.copy(alloc)?,
         second: second.origin.copy(alloc)?,
     })
 }

@@ -12,6 +12,6 @@ invariant-loop-mention-2 l = l.offers.items ≡ l.fn.offers.items ++ flat_map (�
     ++ flat_map (λ mention. sources_offers l.component mention.1) (map seen_mention (take l.mention-index l.mentions.items))
 
 abbrev pub invariant-loop-mention-3 : goal.invariant-loop-mention-3
-invariant-loop-mention-3 l = l.offers.items ≡ l.fn.offers.items ++ flat_map (λ mention. packages_offers l.settings l.component mention.1) (map seen_mention l.mentions.items)
-    ++ flat_map (λ mention. sources_offers l.component mention.1) (map seen_mention l.mentions.items)
-    ++ flat_map (λ mention. translation_offers l.settings l.component mention.1) (map seen_mention (take l.mention-index l.mentions.items))
+invariant-loop-mention-3 l = l.offers.items ≡ l.fn.offers.items ++ flat_map (λ mention. packages_offers l.settings l.component mention.1) (map seen_mention l.group.1.items)
+    ++ flat_map (λ mention. sources_offers l.component mention.1) (map seen_mention l.group.1.items)
+    ++ flat_map (λ mention. translation_offers l.settings l.component mention.1) (map seen_mention (take l.mention-index l.group.1.items))
