@@ -1,12 +1,16 @@
 -- The refusals of parts of a plan, and of the whole.
-use Rattle.std.proofs.Common.{◌≡◌, ◌⊎◌, inl, inr, List, [], ◌∷◌, ◌++◌, map, Option, Some, None, Result, Ok, Err, refl, sym, ap, ◌∙◌}
+use Rattle.std.proofs.Common.{◌≡◌, ◌⊎◌, inl, inr, ℕ, ◌+◌, ◌<◌, length, get_or, take, drop, List, [], ◌∷◌, ◌++◌, map, Option, Some, None, Result, Ok, Err, refl, sym, ap, ◌∙◌}
 use Rattle.std.specs.List.{flat_map}
+use Rattle.std.proofs.lemmas.List.{take-append-drop, drop_more, map_more, map-append}
 use Rattle.std.proofs.lemmas.List.Concat.{flat_map-append}
 use Rattle.acq_base.specs.declared.plan.Plan.{Plan}
 use Rattle.acq_base.specs.declared.settings.Pick.{Pick}
 use Rattle.acq_base.specs.declared.settings.Settings.{Settings}
 use Rattle.source_lists.specs.declared.entry.Entry.{Entry}
 use Rattle.target_plan.specs.declared.checks.File.{File}
+use Rattle.acq_base.specs.declared.plan.Source.{Source}
+use Rattle.target_plan.specs.declared.error.Place.{Place}
+use Rattle.target_plan.specs.declared.draft.Planned.{Planned}
 use Rattle.target_plan.specs.declared.draft.Draft.{Draft}
 use Rattle.target_plan.specs.declared.error.PlanError.{PlanError}
 use Rattle.target_plan.specs.declared.error.PlanError.TheVariants.{NoMemory}
@@ -36,7 +40,7 @@ long-drafts a b d =
     ap long_name (files-append a (d ∷ b) ∙ ap (λ (fs : List File). files_in a ++ fs) (files-cons d b)) ∙ long-append (files_in a) (files_of d ++ files_in b)
     ∙ ap (or_else (long_name (files_in a))) (long-append (files_of d) (files_in b))
 
-no_files : long_name (files_in []) ≡ None
+pub no_files : long_name (files_in []) ≡ None
 unfolding long_name files_in
 no_files = refl
 
@@ -48,19 +52,49 @@ drafts_refused a b d e before here = long-drafts a b d ∙ (λ i. or_else (befor
 
 -- ---- a draft
 
-pub draft_named : (d : Draft) (e : PlanError) → (e ≡ NoMemory) ⊎ (name_refusal d.source.release_name ≡ Some e) → (e ≡ NoMemory) ⊎ (long_name (files_of d) ≡ Some e)
+pub draft_named : (d : Draft) (s : Source) (e : PlanError) → s ≡ d.source → (e ≡ NoMemory) ⊎ (name_refusal s.release_name ≡ Some e) → (e ≡ NoMemory) ⊎ (long_name (files_of d) ≡ Some e)
 unfolding files_of long_name
-draft_named d e (inl is) = inl is
-draft_named d e (inr long) = inr (ap (λ (o : Option PlanError). or_else o (long_name (map file_of d.lists))) long)
+draft_named d s e made (inl is) = inl is
+draft_named d s e made (inr long) = inr (ap (λ (o : Option PlanError). or_else o (long_name (map file_of d.lists))) (ap (λ (t : Source). name_refusal t.release_name) (sym made) ∙ long))
 
-pub draft_listed : (d : Draft) (e : PlanError) → name_refusal d.source.release_name ≡ None → (e ≡ NoMemory) ⊎ (long_name (map file_of d.lists) ≡ Some e) → (e ≡ NoMemory) ⊎ (long_name (files_of d) ≡ Some e)
+pub draft_listed : (d : Draft) (s : Source) (lists : List Planned) (e : PlanError) → s ≡ d.source → lists ≡ d.lists → name_refusal s.release_name ≡ None → (e ≡ NoMemory) ⊎ (long_name (map file_of lists) ≡ Some e)
+    → (e ≡ NoMemory) ⊎ (long_name (files_of d) ≡ Some e)
 unfolding files_of long_name
-draft_listed d e short (inl is) = inl is
-draft_listed d e short (inr long) = inr (λ i. or_else (short i) (long i))
+draft_listed d s lists e made listed short (inl is) = inl is
+draft_listed d s lists e made listed short (inr long) =
+    inr (λ i. or_else ((ap (λ (t : Source). name_refusal t.release_name) (sym made) ∙ short) i) ((ap (λ (ls : List Planned). long_name (map file_of ls)) (sym listed) ∙ long) i))
 
-pub draft_short : (d : Draft) → name_refusal d.source.release_name ≡ None → long_name (map file_of d.lists) ≡ None → long_name (files_of d) ≡ None
+pub draft_short : (d : Draft) (s : Source) (lists : List Planned) → s ≡ d.source → lists ≡ d.lists → name_refusal s.release_name ≡ None → long_name (map file_of lists) ≡ None → long_name (files_of d) ≡ None
 unfolding files_of long_name
-draft_short d short shorts = λ i. or_else (short i) (shorts i)
+draft_short d s lists made listed short shorts =
+    λ i. or_else ((ap (λ (t : Source). name_refusal t.release_name) (sym made) ∙ short) i) ((ap (λ (ls : List Planned). long_name (map file_of ls)) (sym listed) ∙ shorts) i)
+
+pub draft_made : (d : Draft) (s : Source) (o : Place) (lists : List Planned) → s ≡ d.source → o ≡ d.origin → lists ≡ d.lists → record { source = s; origin = o; lists = lists } ≡ d
+draft_made d s o lists made stands listed = λ i. record { source = made i; origin = stands i; lists = listed i }
+
+-- ---- drafts in a loop
+
+module _ {G H : Type 0} (draft : H → Draft) (item : G → H) (groups : List G) (i : ℕ) (x : G) (within : i < length groups) (is : x ≡ get_or groups i x) where
+  drafts-split : (so_far : List Draft) → so_far ≡ map draft (map item (take i groups)) → map draft (map item groups) ≡ so_far ++ draft (item x) ∷ map draft (map item (drop (i + 1) groups))
+  drafts-split so_far same =
+      ap (λ (gs : List G). map draft (map item gs)) (sym (take-append-drop i groups) ∙ ap (λ (back : List G). take i groups ++ back) (drop_more groups i x within ∙ ap (λ (y : G). y ∷ drop (i + 1) groups) (sym is)))
+      ∙ ap (map draft) (map-append item (take i groups) (x ∷ drop (i + 1) groups)) ∙ map-append draft (map item (take i groups)) (item x ∷ map item (drop (i + 1) groups))
+      ∙ ap (λ (front : List Draft). front ++ draft (item x) ∷ map draft (map item (drop (i + 1) groups))) (sym same)
+
+  pub drafts_stop : (so_far : List Draft) (e : PlanError) → so_far ≡ map draft (map item (take i groups)) → long_name (files_in so_far) ≡ None → (e ≡ NoMemory) ⊎ (long_name (files_of (draft (item x))) ≡ Some e)
+    → (e ≡ NoMemory) ⊎ (long_name (files_in (map draft (map item groups))) ≡ Some e)
+  drafts_stop so_far e same before (inl memory) = inl memory
+  drafts_stop so_far e same before (inr long) =
+      inr (ap (λ (ds : List Draft). long_name (files_in ds)) (drafts-split so_far same) ∙ drafts_refused so_far (map draft (map item (drop (i + 1) groups))) (draft (item x)) e before long)
+
+  pub drafts_grow : (so_far now : List Draft) (d : Draft) → so_far ≡ map draft (map item (take i groups)) → now ≡ so_far ++ d ∷ [] → d ≡ draft (item x) → now ≡ map draft (map item (take (i + 1) groups))
+  drafts_grow so_far now d same more made =
+      more ∙ (λ i. same i ++ made i ∷ []) ∙ sym (map-append draft (map item (take i groups)) (item x ∷ []))
+      ∙ ap (map draft) (ap (λ (y : G). map item (take i groups) ++ item y ∷ []) is ∙ sym (map_more item groups i x within))
+
+  pub drafts_fit : (so_far now : List Draft) (d : Draft) → now ≡ so_far ++ d ∷ [] → d ≡ draft (item x) → long_name (files_in so_far) ≡ None → long_name (files_of (draft (item x))) ≡ None → long_name (files_in now) ≡ None
+  drafts_fit so_far now d more made before here =
+      ap (λ (ds : List Draft). long_name (files_in ds)) (more ∙ ap (λ (y : Draft). so_far ++ y ∷ []) made) ∙ drafts_more so_far (draft (item x)) before here
 
 -- ---- the whole plan
 

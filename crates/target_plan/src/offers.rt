@@ -1,4 +1,5 @@
 ghost use Rattle.std.specs.Prelude.{◌≡◌, ◌++◌, ◌∷◌, [], IfOk, OnOk, map, unwrap_or, codes};
+ghost use Rattle.std.specs.List.{flat_map};
 ghost use Rattle.target_plan.specs.Offers as spec;
 ghost use Rattle.target_plan.specs.Seen.{seen_entry, seen_mention, seen_group};
 
@@ -157,13 +158,54 @@ fn component_offers(
 {
     let (first, mentions) = group;
     let component = first.component.as_bytes();
-    for mention in mentions.as_slice() {
+    all_packages(alloc, settings, component, mentions.as_slice(), offers)?;
+    all_sources(alloc, component, mentions.as_slice(), offers)?;
+    all_translations(alloc, settings, component, mentions.as_slice(), offers)?;
+    Ok(())
+}
+
+fn all_packages(
+    alloc: Global,
+    settings: &Settings,
+    component: &[u8],
+    mentions: &[Mention<'_>],
+    offers: &mut Vec<Offer>,
+) -> Result<(), NoMemory>
+    ensures { OnOk result (offers.new.items ≡ offers.old.items
+        ++ flat_map (λ mention. spec.packages_offers settings.now component.now mention.1) (map seen_mention mentions.now)) }
+{
+    for mention in mentions {
         packages(alloc, settings, component, mention.entry, offers)?;
     }
-    for mention in mentions.as_slice() {
+    Ok(())
+}
+
+fn all_sources(
+    alloc: Global,
+    component: &[u8],
+    mentions: &[Mention<'_>],
+    offers: &mut Vec<Offer>,
+) -> Result<(), NoMemory>
+    ensures { OnOk result (offers.new.items ≡ offers.old.items
+        ++ flat_map (λ mention. spec.sources_offers component.now mention.1) (map seen_mention mentions.now)) }
+{
+    for mention in mentions {
         sources(alloc, component, mention.entry, offers)?;
     }
-    for mention in mentions.as_slice() {
+    Ok(())
+}
+
+fn all_translations(
+    alloc: Global,
+    settings: &Settings,
+    component: &[u8],
+    mentions: &[Mention<'_>],
+    offers: &mut Vec<Offer>,
+) -> Result<(), NoMemory>
+    ensures { OnOk result (offers.new.items ≡ offers.old.items
+        ++ flat_map (λ mention. spec.translation_offers settings.now component.now mention.1) (map seen_mention mentions.now)) }
+{
+    for mention in mentions {
         translations(alloc, settings, component, mention.entry, offers)?;
     }
     Ok(())
