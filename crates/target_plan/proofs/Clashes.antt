@@ -1,5 +1,5 @@
 -- Files of one name, and the places of names.
-use Rattle.std.proofs.Common.{◌≡◌, ℕ, ◌+◌, ◌<◌, ◌≤◌, zero, suc, length, take, drop, slice_index_or, Bool, true, false, cond, List, [], ◌∷◌, ◌++◌, Option, Some, None, refl, sym, ap, ◌∙◌, subst, arith}
+use Rattle.std.proofs.Common.{◌≡◌, ℕ, ◌+◌, ◌<◌, zero, suc, length, take, drop, slice_index_or, Bool, true, false, cond, List, [], ◌∷◌, ◌++◌, Option, Some, None, refl, sym, ap, ◌∙◌, subst, arith}
 use Rattle.std.specs.BTreeMap.{BTreeMap, get, Updates}
 use Rattle.std.specs.Cmp.Lexicographic.{slice_cmp}
 use Rattle.std.specs.Ordering.{is_eq, nat_cmp}
@@ -9,7 +9,7 @@ use Rattle.std.proofs.lemmas.List.{drop_more, take_more, get_or-take, length-tak
 use Rattle.std.proofs.lemmas.Map.Text.{is_eq-slice_cmp}
 use Rattle.target_plan.specs.declared.checks.File.{File}
 use Rattle.target_plan.specs.declared.error.PlanError.{PlanError}
-use Rattle.target_plan.specs.Planning.{or_else, clash_of, clash_with, clash_behind, clash}
+use Rattle.target_plan.specs.Planning.{or_else, clash_of, clash_with, clash_behind}
 use Rattle.target_plan.proofs.Grouping.{place_from, none_or_some, some_inside, place-bound, place-within, laws_of_keys, HasPlaces, places_append}
 
 abbrev pub file_name : File → List ℕ

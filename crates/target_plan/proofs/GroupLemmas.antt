@@ -71,10 +71,10 @@ same_name a b = is_eq-slice_cmp (name_of a) (name_of b)
 module _ {T X K : Type 0} (f : T → X) (same : X → X → Bool) (cmp : K → K → Ordering) (total : IsTotalOrder cmp) (key : X → K) (link : (a b : X) → is_eq (cmp (key a) (key b)) ≡ same a b) where
   pub grouped_within : (m : BTreeMap K ℕ) (old : List (T × Vec T)) (xs : List X) (y : X) (k : K) (found : Option ℕ) → k ≡ key y → AreGrouped same cmp total key link m (map (seen_group f) old) xs → found ≡ get cmp m k → IfSome found (λ at. at < length old)
   grouped_within m old xs y k found of_item so_far is =
-    subst (λ (n : ℕ). IfSome found (λ at. at < n)) (length-map old (seen_group f)) (group_within same cmp total key link m (map (seen_group f) old) xs y found so_far (is ∙ ap (get cmp m) of_item))
+      subst (λ (n : ℕ). IfSome found (λ at. at < n)) (length-map old (seen_group f)) (group_within same cmp total key link m (map (seen_group f) old) xs y found so_far (is ∙ ap (get cmp m) of_item))
 
   pub grouped_more : (m m' : BTreeMap K ℕ) (old new : List (T × Vec T)) (xs : List X) (item : T) (k : K) (found : Option ℕ) (len : ℕ) → k ≡ key (f item) → len ≡ length old → AreGrouped same cmp total key link m (map (seen_group f) old) xs → found ≡ get cmp m k
-    → (IsSome found → IsUnchanged m m') → (found ≡ None → Updates cmp m m' k (Some len)) → map (seen_group seen) new ≡ entered found item (map (seen_group seen) old) → AreGrouped same cmp total key link m' (map (seen_group f) new) (xs ++ f item ∷ [])
+      → (IsSome found → IsUnchanged m m') → (found ≡ None → Updates cmp m m' k (Some len)) → map (seen_group seen) new ≡ entered found item (map (seen_group seen) old) → AreGrouped same cmp total key link m' (map (seen_group f) new) (xs ++ f item ∷ [])
   grouped_more m m' old new xs item k found len of_item is_len so_far is unchanged updates enters =
-    group_entered same cmp total key link m m' (map (seen_group f) old) (map (seen_group f) new) xs (f item) found len (is_len ∙ sym (length-map old (seen_group f))) so_far (is ∙ ap (get cmp m) of_item) unchanged
-    (λ none. subst (λ (q : K). Updates cmp m m' q (Some len)) of_item (updates none)) (seen_through f found item old new enters)
+      group_entered same cmp total key link m m' (map (seen_group f) old) (map (seen_group f) new) xs (f item) found len (is_len ∙ sym (length-map old (seen_group f))) so_far (is ∙ ap (get cmp m) of_item) unchanged
+      (λ none. subst (λ (q : K). Updates cmp m m' q (Some len)) of_item (updates none)) (seen_through f found item old new enters)

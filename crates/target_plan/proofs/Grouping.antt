@@ -2,7 +2,7 @@
 use Rattle.std.proofs.Common.{◌≡◌, ℕ, ◌+◌, ◌<◌, ◌≤◌, ◌==◌, suc, length, map, Bool, true, false, not, ◌||◌, cond, List, [], ◌∷◌, ◌++◌, Option, Some, None, IsSome, IfSome, is_none, unwrap_or, eq-eqb, eqb-true, refl, sym, ap, ◌∙◌, arith, subst}
 use Rattle.std.specs.List.{filter}
 use Rattle.std.specs.Cmp.{IsEquivalence, IsTotalOrder}
-use Rattle.std.specs.Ordering.{is_eq, eq_by_cmp}
+use Rattle.std.specs.Ordering.{is_eq}
 use Rattle.std.specs.BTreeMap.{BTreeMap, get, is_at, Updates, IsUnchanged}
 use Rattle.std.specs.Map.{lookup}
 use Rattle.std.specs.Option.{is_some}
@@ -92,7 +92,7 @@ module _ {T : Type 0} (same : T → T → Bool) (laws : IsEquivalence same) wher
   has-first [] x = refl
   has-first (y ∷ ys) x = at (same y x) refl (has-first ys x) where
     at : (b : Bool) → same y x ≡ b → has same (first_of_each same ys) x ≡ has same ys x
-      → (same y x || has same (filter (differs y) (first_of_each same ys)) x) ≡ (same y x || has same ys x)
+        → (same y x || has same (filter (differs y) (first_of_each same ys)) x) ≡ (same y x || has same ys x)
     at true e rest = rw e refl
     at false e rest = ap (λ (b : Bool). same y x || b) (has-filter y x (first_of_each same ys) e ∙ rest)
 
@@ -110,9 +110,10 @@ module _ {T : Type 0} (same : T → T → Bool) (laws : IsEquivalence same) wher
   first-append (y ∷ ys) x = at (same y x) refl (has same (first_of_each same ys) x) refl (first-append ys x) where
     firsts : List T
     firsts = first_of_each same ys
+
     at : (b : Bool) → same y x ≡ b → (h : Bool) → has same (first_of_each same ys) x ≡ h
-      → first_of_each same (ys ++ x ∷ []) ≡ cond (has same (first_of_each same ys) x) (first_of_each same ys) (first_of_each same ys ++ x ∷ [])
-      → (y ∷ filter (differs y) (first_of_each same (ys ++ x ∷ []))) ≡ cond (same y x || has same (filter (differs y) (first_of_each same ys)) x) (y ∷ filter (differs y) (first_of_each same ys)) (y ∷ filter (differs y) (first_of_each same ys) ++ x ∷ [])
+        → first_of_each same (ys ++ x ∷ []) ≡ cond (has same (first_of_each same ys) x) (first_of_each same ys) (first_of_each same ys ++ x ∷ [])
+        → (y ∷ filter (differs y) (first_of_each same (ys ++ x ∷ []))) ≡ cond (same y x || has same (filter (differs y) (first_of_each same ys)) x) (y ∷ filter (differs y) (first_of_each same ys)) (y ∷ filter (differs y) (first_of_each same ys) ++ x ∷ [])
     at true e true k rest = rw e (ap (λ (fs : List T). y ∷ filter (differs y) fs) (rest ∙ rw k refl))
     at true e false k rest = rw e (ap (λ (fs : List T). y ∷ filter (differs y) fs) (rest ∙ rw k refl) ∙ ap (λ (fs : List T). y ∷ fs) (filter-append (differs y) (first_of_each same ys) (x ∷ []) ∙ rw e (append-nil (filter (differs y) (first_of_each same ys)))))
     at false e true k rest = rw (has-filter y x (first_of_each same ys) e ∙ k) (rw e (ap (λ (fs : List T). y ∷ filter (differs y) fs) (rest ∙ rw k refl)))
@@ -139,7 +140,7 @@ module _ {T : Type 0} (same : T → T → Bool) (laws : IsEquivalence same) wher
   others-differ : (f x : T) (fs : List T) → same f x ≡ true → AllDiffer f fs → has same fs x ≡ false
   others-differ f x [] e a = refl
   others-differ f x (g ∷ fs) e a =
-    (λ i. (laws.symm g x ∙ sym (laws.congr f x g e) ∙ a.0) i || others-differ f x fs e a.1 i)
+      (λ i. (laws.symm g x ∙ sym (laws.congr f x g e) ∙ a.0) i || others-differ f x fs e a.1 i)
 
   pub place-bound : (n : ℕ) (fs : List T) (x : T) (at : ℕ) → place_from same n fs x ≡ Some at → n ≤ at
   place-bound n [] x at e = absurd (none_or_some None at refl e)
@@ -154,15 +155,15 @@ module _ {T : Type 0} (same : T → T → Bool) (laws : IsEquivalence same) wher
   groups-present n [] xs x at apart e = absurd (none_or_some None at refl e)
   groups-present n (f ∷ fs) xs x at apart e = by (same f x) refl (groups-present (n + 1) fs xs x at apart.1) where
     by : (b : Bool) → same f x ≡ b → (place_from same (n + 1) fs x ≡ Some at → map (group (xs ++ x ∷ [])) fs ≡ added_from (n + 1) at x (map (group xs) fs))
-      → map (group (xs ++ x ∷ [])) (f ∷ fs) ≡ cond (n == at) ((f, filter (same f) xs ++ x ∷ []) ∷ map (group xs) fs) (group xs f ∷ added_from (n + 1) at x (map (group xs) fs))
+        → map (group (xs ++ x ∷ [])) (f ∷ fs) ≡ cond (n == at) ((f, filter (same f) xs ++ x ∷ []) ∷ map (group xs) fs) (group xs f ∷ added_from (n + 1) at x (map (group xs) fs))
     by true k rest =
-      let here : n ≡ at = some_inside (sym (ap (λ (b : Bool). cond b (Some n) (place_from same (n + 1) fs x)) k) ∙ e) in
-      (λ i. group-same xs x f k i ∷ groups-absent fs xs x (others-differ f x fs k apart.0) i)
-      ∙ sym (ap (λ (b : Bool). cond b ((f, filter (same f) xs ++ x ∷ []) ∷ map (group xs) fs) (group xs f ∷ added_from (n + 1) at x (map (group xs) fs))) (eq-eqb n at here))
+        let here : n ≡ at = some_inside (sym (ap (λ (b : Bool). cond b (Some n) (place_from same (n + 1) fs x)) k) ∙ e) in
+        (λ i. group-same xs x f k i ∷ groups-absent fs xs x (others-differ f x fs k apart.0) i)
+        ∙ sym (ap (λ (b : Bool). cond b ((f, filter (same f) xs ++ x ∷ []) ∷ map (group xs) fs) (group xs f ∷ added_from (n + 1) at x (map (group xs) fs))) (eq-eqb n at here))
     by false k rest =
-      let later : place_from same (n + 1) fs x ≡ Some at = sym (ap (λ (b : Bool). cond b (Some n) (place_from same (n + 1) fs x)) k) ∙ e in
-      (λ i. group-other xs x f k i ∷ rest later i)
-      ∙ sym (ap (λ (b : Bool). cond b ((f, filter (same f) xs ++ x ∷ []) ∷ map (group xs) fs) (group xs f ∷ added_from (n + 1) at x (map (group xs) fs))) (not_equal n at (omega (arith, place-bound (n + 1) fs x at later))))
+        let later : place_from same (n + 1) fs x ≡ Some at = sym (ap (λ (b : Bool). cond b (Some n) (place_from same (n + 1) fs x)) k) ∙ e in
+        (λ i. group-other xs x f k i ∷ rest later i)
+        ∙ sym (ap (λ (b : Bool). cond b ((f, filter (same f) xs ++ x ∷ []) ∷ map (group xs) fs) (group xs f ∷ added_from (n + 1) at x (map (group xs) fs))) (not_equal n at (omega (arith, place-bound (n + 1) fs x at later))))
 
   pub place-absent : (n : ℕ) (fs : List T) (x : T) → place_from same n fs x ≡ None → has same fs x ≡ false
   place-absent n [] x e = refl
@@ -190,17 +191,17 @@ module _ {T : Type 0} (same : T → T → Bool) (laws : IsEquivalence same) wher
   place-append n [] x q e = ap (λ (m : ℕ). cond (same x q) (Some m) None) (omega arith)
   place-append n (f ∷ fs) x q e = by (same f x) refl (same f q) refl (same x q) refl (place-append (n + 1) fs x q) where
     by : (b : Bool) → same f x ≡ b → (c : Bool) → same f q ≡ c → (d : Bool) → same x q ≡ d
-      → (place_from same (n + 1) fs x ≡ None → place_from same (n + 1) (fs ++ x ∷ []) q ≡ cond (same x q) (Some (n + 1 + length fs)) (place_from same (n + 1) fs q))
-      → cond (same f q) (Some n) (place_from same (n + 1) (fs ++ x ∷ []) q) ≡ cond (same x q) (Some (n + suc (length fs))) (cond (same f q) (Some n) (place_from same (n + 1) fs q))
+        → (place_from same (n + 1) fs x ≡ None → place_from same (n + 1) (fs ++ x ∷ []) q ≡ cond (same x q) (Some (n + 1 + length fs)) (place_from same (n + 1) fs q))
+        → cond (same f q) (Some n) (place_from same (n + 1) (fs ++ x ∷ []) q) ≡ cond (same x q) (Some (n + suc (length fs))) (cond (same f q) (Some n) (place_from same (n + 1) fs q))
     by true k c l d m rest = absurd (none_or_some (place_from same n (f ∷ fs) x) n e (ap (λ (b : Bool). cond b (Some n) (place_from same (n + 1) fs x)) k))
     by false k true l true m rest = absurd (true≢false (sym l ∙ laws.symm f q ∙ sym (laws.congr x q f m) ∙ laws.symm x f ∙ k))
     by false k true l false m rest = rw l (rw m refl)
     by false k false l true m rest =
-      let later = rest (sym (ap (λ (b : Bool). cond b (Some n) (place_from same (n + 1) fs x)) k) ∙ e) in
-      ap (λ (b : Bool). cond b (Some n) (place_from same (n + 1) (fs ++ x ∷ []) q)) l ∙ later ∙ rw m (ap Some (omega arith))
+        let later = rest (sym (ap (λ (b : Bool). cond b (Some n) (place_from same (n + 1) fs x)) k) ∙ e) in
+        ap (λ (b : Bool). cond b (Some n) (place_from same (n + 1) (fs ++ x ∷ []) q)) l ∙ later ∙ rw m (ap Some (omega arith))
     by false k false l false m rest =
-      let later = rest (sym (ap (λ (b : Bool). cond b (Some n) (place_from same (n + 1) fs x)) k) ∙ e) in
-      ap (λ (b : Bool). cond b (Some n) (place_from same (n + 1) (fs ++ x ∷ []) q)) l ∙ later ∙ rw m (rw l refl)
+        let later = rest (sym (ap (λ (b : Bool). cond b (Some n) (place_from same (n + 1) fs x)) k) ∙ e) in
+        ap (λ (b : Bool). cond b (Some n) (place_from same (n + 1) (fs ++ x ∷ []) q)) l ∙ later ∙ rw m (rw l refl)
 
 -- ---- a map from the keys of different items to their places
 
@@ -209,7 +210,7 @@ module _ {T K : Type 0} (same : T → T → Bool) (cmp : K → K → Ordering) (
   laws_of_keys = record {
     refl = λ x. sym (link x x) ∙ (eq_by_cmp_equiv total).refl (key x);
     symm = λ x y. sym (link x y) ∙ (eq_by_cmp_equiv total).symm (key x) (key y) ∙ link y x;
-    congr = λ x y z e. sym (link x z) ∙ (eq_by_cmp_equiv total).congr (key x) (key y) (key z) (link x y ∙ e) ∙ link y z
+    congr = λ x y z e. sym (link x z) ∙ (eq_by_cmp_equiv total).congr (key x) (key y) (key z) (link x y ∙ e) ∙ link y z;
   }
 
   -- the map has the place of each of these items, and nothing else
@@ -221,9 +222,9 @@ module _ {T K : Type 0} (same : T → T → Bool) (cmp : K → K → Ordering) (
 
   pub places_append : (m m' : BTreeMap K ℕ) (fs : List T) (x : T) (len : ℕ) → len ≡ length fs → HasPlaces m fs → get cmp m (key x) ≡ None → Updates cmp m m' (key x) (Some len) → HasPlaces m' (fs ++ x ∷ [])
   places_append m m' fs x len e places absent updates q =
-    updates.0 (key q)
-    ∙ (λ i. cond (link x q i) (Some ((e ∙ zero_more (length fs)) i)) (places q i))
-    ∙ sym (place-append same laws_of_keys 0 fs x q (sym (places x) ∙ absent))
+      updates.0 (key q)
+      ∙ (λ i. cond (link x q i) (Some ((e ∙ zero_more (length fs)) i)) (places q i))
+      ∙ sym (place-append same laws_of_keys 0 fs x q (sym (places x) ∙ absent))
 
   pub places_stay : (m m' : BTreeMap K ℕ) (fs : List T) → HasPlaces m fs → IsUnchanged m m' → HasPlaces m' fs
   places_stay m m' fs places same_entries q = ap (λ (es : List (K × ℕ)). lookup (is_at (cmp (key q))) es) same_entries ∙ places q
@@ -237,13 +238,13 @@ module _ {T K : Type 0} (same : T → T → Bool) (cmp : K → K → Ordering) (
   pub first_seen : (m m' : BTreeMap K ℕ) (fs xs : List T) (x : T) (at : ℕ) → AreFirst m fs xs → get cmp m (key x) ≡ Some at → IsUnchanged m m' → AreFirst m' fs (xs ++ x ∷ [])
   first_seen m m' fs xs x at so_far found unchanged = record {
     firsts = so_far.firsts ∙ sym (first-append same laws_of_keys xs x ∙ rw (ap (λ (gs : List T). has same gs x) (sym so_far.firsts) ∙ place-present same laws_of_keys 0 fs x at (sym (so_far.places x) ∙ found)) refl);
-    places = places_stay m m' fs so_far.places unchanged
+    places = places_stay m m' fs so_far.places unchanged;
   }
 
   pub first_new : (m m' : BTreeMap K ℕ) (fs xs : List T) (x : T) (len : ℕ) → len ≡ length fs → AreFirst m fs xs → get cmp m (key x) ≡ None → Updates cmp m m' (key x) (Some len) → AreFirst m' (fs ++ x ∷ []) (xs ++ x ∷ [])
   first_new m m' fs xs x len e so_far absent updates = record {
     firsts = ap (λ (gs : List T). gs ++ x ∷ []) so_far.firsts ∙ sym (first-append same laws_of_keys xs x ∙ rw (ap (λ (gs : List T). has same gs x) (sym so_far.firsts) ∙ place-absent same laws_of_keys 0 fs x (sym (so_far.places x) ∙ absent)) refl);
-    places = places_append m m' fs x len e so_far.places absent updates
+    places = places_append m m' fs x len e so_far.places absent updates;
   }
 
   pub none_first : (m : BTreeMap K ℕ) (fs : List T) → m.entries ≡ [] → fs ≡ [] → AreFirst m fs []
@@ -255,9 +256,9 @@ module _ {T K : Type 0} (same : T → T → Bool) (cmp : K → K → Ordering) (
   first_stays m m' fs xs x k (Some at) there of_x so_far is unchanged = first_seen m m' fs xs x at so_far (sym (is ∙ ap (get cmp m) of_x)) (unchanged refl)
 
   pub first_grows : (m m' : BTreeMap K ℕ) (fs xs : List T) (x : T) (k : K) (found : Option ℕ) (len : ℕ) → is_some found ≡ false → k ≡ key x → len ≡ length fs → AreFirst m fs xs → found ≡ get cmp m k
-    → (found ≡ None → Updates cmp m m' k (Some len)) → AreFirst m' (fs ++ x ∷ []) (xs ++ x ∷ [])
+      → (found ≡ None → Updates cmp m m' k (Some len)) → AreFirst m' (fs ++ x ∷ []) (xs ++ x ∷ [])
   first_grows m m' fs xs x k None len absent of_x is_len so_far is updates =
-    first_new m m' fs xs x len is_len so_far (sym (is ∙ ap (get cmp m) of_x)) (subst (λ (q : K). Updates cmp m m' q (Some len)) of_x (updates refl))
+      first_new m m' fs xs x len is_len so_far (sym (is ∙ ap (get cmp m) of_x)) (subst (λ (q : K). Updates cmp m m' q (Some len)) of_x (updates refl))
   first_grows m m' fs xs x k (Some at) len absent of_x is_len so_far is updates = absurd (true≢false absent)
 
   -- ---- groups
@@ -270,36 +271,36 @@ module _ {T K : Type 0} (same : T → T → Bool) (cmp : K → K → Ordering) (
   unfolding together
   group_within m groups xs x None so_far e = tt
   group_within m groups xs x (Some at) so_far e =
-    omega (arith, ap length so_far.grouped ∙ length-map (first_of_each same xs) (λ first. (first, filter (same first) xs)), place-within same laws_of_keys 0 (first_of_each same xs) x at (sym (so_far.first.places x) ∙ sym e))
+      omega (arith, ap length so_far.grouped ∙ length-map (first_of_each same xs) (λ first. (first, filter (same first) xs)), place-within same laws_of_keys 0 (first_of_each same xs) x at (sym (so_far.first.places x) ∙ sym e))
 
   pub group_entered : (m m' : BTreeMap K ℕ) (groups groups' : List (T × List T)) (xs : List T) (x : T) (found : Option ℕ) (len : ℕ) → len ≡ length groups → AreGrouped m groups xs → found ≡ get cmp m (key x)
-    → (IsSome found → IsUnchanged m m') → (found ≡ None → Updates cmp m m' (key x) (Some len)) → groups' ≡ entered found x groups → AreGrouped m' groups' (xs ++ x ∷ [])
+      → (IsSome found → IsUnchanged m m') → (found ≡ None → Updates cmp m m' (key x) (Some len)) → groups' ≡ entered found x groups → AreGrouped m' groups' (xs ++ x ∷ [])
   unfolding together entered
   group_entered m m' groups groups' xs x None len is_len so_far e unchanged updates enters =
-    let fs = first_of_each same xs in
-    let absent : place_from same 0 fs x ≡ None = sym (so_far.first.places x) ∙ sym e in
-    let none : has same fs x ≡ false = place-absent same laws_of_keys 0 fs x absent in
-    let firsts : first_of_each same (xs ++ x ∷ []) ≡ fs ++ x ∷ [] = first-append same laws_of_keys xs x ∙ rw none refl in
-    let long : len ≡ length fs = is_len ∙ ap length so_far.grouped ∙ length-map fs (λ first. (first, filter (same first) xs)) in
-    record {
-      grouped =
-        enters ∙ ap (λ (gs : List (T × List T)). gs ++ (x, x ∷ []) ∷ []) (so_far.grouped ∙ sym (groups-absent same laws_of_keys fs xs x none))
-        ∙ ap (λ (members : List T). map (λ first. (first, filter (same first) (xs ++ x ∷ []))) fs ++ (x, members) ∷ [])
-          (sym (filter-append (same x) xs (x ∷ []) ∙ (λ i. filter-none same laws_of_keys xs x (sym (has-first same laws_of_keys xs x) ∙ none) i ++ filter (same x) (x ∷ [])) ∙ rw (laws_of_keys.refl x) refl))
-        ∙ sym (map-append (λ first. (first, filter (same first) (xs ++ x ∷ []))) fs (x ∷ []))
-        ∙ ap (map (λ first. (first, filter (same first) (xs ++ x ∷ [])))) (sym firsts);
-      first = subst (λ (gs : List T). AreFirst m' gs (xs ++ x ∷ [])) (sym firsts) (first_new m m' fs xs x len long so_far.first (sym e) (updates refl))
-    }
+      let fs = first_of_each same xs in
+      let absent : place_from same 0 fs x ≡ None = sym (so_far.first.places x) ∙ sym e in
+      let none : has same fs x ≡ false = place-absent same laws_of_keys 0 fs x absent in
+      let firsts : first_of_each same (xs ++ x ∷ []) ≡ fs ++ x ∷ [] = first-append same laws_of_keys xs x ∙ rw none refl in
+      let long : len ≡ length fs = is_len ∙ ap length so_far.grouped ∙ length-map fs (λ first. (first, filter (same first) xs)) in
+      record {
+        grouped =
+            enters ∙ ap (λ (gs : List (T × List T)). gs ++ (x, x ∷ []) ∷ []) (so_far.grouped ∙ sym (groups-absent same laws_of_keys fs xs x none))
+            ∙ ap (λ (members : List T). map (λ first. (first, filter (same first) (xs ++ x ∷ []))) fs ++ (x, members) ∷ [])
+            (sym (filter-append (same x) xs (x ∷ []) ∙ (λ i. filter-none same laws_of_keys xs x (sym (has-first same laws_of_keys xs x) ∙ none) i ++ filter (same x) (x ∷ [])) ∙ rw (laws_of_keys.refl x) refl))
+            ∙ sym (map-append (λ first. (first, filter (same first) (xs ++ x ∷ []))) fs (x ∷ []))
+            ∙ ap (map (λ first. (first, filter (same first) (xs ++ x ∷ [])))) (sym firsts);
+        first = subst (λ (gs : List T). AreFirst m' gs (xs ++ x ∷ [])) (sym firsts) (first_new m m' fs xs x len long so_far.first (sym e) (updates refl));
+      }
   group_entered m m' groups groups' xs x (Some at) len is_len so_far e unchanged updates enters =
-    let fs = first_of_each same xs in
-    let present : place_from same 0 fs x ≡ Some at = sym (so_far.first.places x) ∙ sym e in
-    let firsts : first_of_each same (xs ++ x ∷ []) ≡ fs = first-append same laws_of_keys xs x ∙ rw (place-present same laws_of_keys 0 fs x at present) refl in
-    record {
-      grouped =
-        enters ∙ ap (added_from 0 at x) so_far.grouped ∙ sym (groups-present same laws_of_keys 0 fs xs x at (first_apart same laws_of_keys xs) present)
-        ∙ ap (map (λ first. (first, filter (same first) (xs ++ x ∷ [])))) (sym firsts);
-      first = subst (λ (gs : List T). AreFirst m' gs (xs ++ x ∷ [])) (sym firsts) (first_seen m m' fs xs x at so_far.first (sym e) (unchanged refl))
-    }
+      let fs = first_of_each same xs in
+      let present : place_from same 0 fs x ≡ Some at = sym (so_far.first.places x) ∙ sym e in
+      let firsts : first_of_each same (xs ++ x ∷ []) ≡ fs = first-append same laws_of_keys xs x ∙ rw (place-present same laws_of_keys 0 fs x at present) refl in
+      record {
+        grouped =
+            enters ∙ ap (added_from 0 at x) so_far.grouped ∙ sym (groups-present same laws_of_keys 0 fs xs x at (first_apart same laws_of_keys xs) present)
+            ∙ ap (map (λ first. (first, filter (same first) (xs ++ x ∷ [])))) (sym firsts);
+        first = subst (λ (gs : List T). AreFirst m' gs (xs ++ x ∷ [])) (sym firsts) (first_seen m m' fs xs x at so_far.first (sym e) (unchanged refl));
+      }
 
   pub no_groups : (m : BTreeMap K ℕ) (groups : List (T × List T)) → m.entries ≡ [] → groups ≡ [] → AreGrouped m groups []
   unfolding together first_of_each

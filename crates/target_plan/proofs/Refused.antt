@@ -1,6 +1,5 @@
 -- The refusals of parts of a plan, and of the whole.
 use Rattle.std.proofs.Common.{◌≡◌, ◌⊎◌, inl, inr, ℕ, ◌+◌, ◌<◌, length, get_or, take, drop, List, [], ◌∷◌, ◌++◌, map, Option, Some, None, Result, Ok, Err, refl, sym, ap, ◌∙◌}
-use Rattle.std.specs.List.{flat_map}
 use Rattle.std.proofs.lemmas.List.{take-append-drop, drop_more, map_more, map-append}
 use Rattle.std.proofs.lemmas.List.Concat.{flat_map-append}
 use Rattle.acq_base.specs.declared.plan.Plan.{Plan}
@@ -82,7 +81,7 @@ module _ {G H : Type 0} (draft : H → Draft) (item : G → H) (groups : List G)
       ∙ ap (λ (front : List Draft). front ++ draft (item x) ∷ map draft (map item (drop (i + 1) groups))) (sym same)
 
   pub drafts_stop : (so_far : List Draft) (e : PlanError) → so_far ≡ map draft (map item (take i groups)) → long_name (files_in so_far) ≡ None → (e ≡ NoMemory) ⊎ (long_name (files_of (draft (item x))) ≡ Some e)
-    → (e ≡ NoMemory) ⊎ (long_name (files_in (map draft (map item groups))) ≡ Some e)
+      → (e ≡ NoMemory) ⊎ (long_name (files_in (map draft (map item groups))) ≡ Some e)
   drafts_stop so_far e same before (inl memory) = inl memory
   drafts_stop so_far e same before (inr long) =
       inr (ap (λ (ds : List Draft). long_name (files_in ds)) (drafts-split so_far same) ∙ drafts_refused so_far (map draft (map item (drop (i + 1) groups))) (draft (item x)) e before long)

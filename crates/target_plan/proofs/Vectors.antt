@@ -30,7 +30,7 @@ group_set groups at new d x within is_new =
     let g = sg (slice_index_or groups at d) in
     let len : length front ≡ at = length-map (take at groups) sg ∙ length-take-le at groups (omega (arith, within)) in
     let split : map sg groups ≡ front ++ g ∷ back =
-      ap (map sg) (sym (take-append-drop at groups) ∙ ap (λ (gs : List _). take at groups ++ gs) (drop_more groups at d within)) ∙ map-append sg (take at groups) (slice_index_or groups at d ∷ drop (at + 1) groups) in
+    ap (map sg) (sym (take-append-drop at groups) ∙ ap (λ (gs : List _). take at groups ++ gs) (drop_more groups at d within)) ∙ map-append sg (take at groups) (slice_index_or groups at d ∷ drop (at + 1) groups) in
     ap (map sg) (set_split groups at new within) ∙ map-append sg (take at groups) (new ∷ drop (suc at) groups)
     ∙ ap (λ (n : ℕ). front ++ sg new ∷ map sg (drop n groups)) (one_more at)
     ∙ ap (λ (h : _). front ++ h ∷ back) is_new
@@ -54,7 +54,7 @@ unfolding added_from
 added-map f n at x [] = refl
 added-map f n at x (g ∷ groups) = by (n == at) refl (added-map f (n + 1) at x groups) where
   by : (b : Bool) → (n == at) ≡ b → map (group_map f) (added_from (n + 1) at x groups) ≡ added_from (n + 1) at (f x) (map (group_map f) groups)
-    → map (group_map f) (added_from n at x (g ∷ groups)) ≡ added_from n at (f x) (map (group_map f) (g ∷ groups))
+      → map (group_map f) (added_from n at x (g ∷ groups)) ≡ added_from n at (f x) (map (group_map f) (g ∷ groups))
   by true e rest = rw e (ap (λ (xs : List _). (f g.0, xs) ∷ map (group_map f) groups) (map-append f g.1 (x ∷ [])))
   by false e rest = rw e (ap (λ (gs : List _). group_map f g ∷ gs) rest)
 

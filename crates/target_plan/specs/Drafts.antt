@@ -1,5 +1,5 @@
 -- The sources that entries name, and the lists planned for each.
-use Rattle.std.specs.Prelude.{ℕ, ◌==◌, ◌&&◌, Bool, if◌then◌else◌, List, [], ◌∷◌, ◌++◌, map, filter, codes, bytes_eq, unwrap_or}
+use Rattle.std.specs.Prelude.{ℕ, ◌&&◌, Bool, if◌then◌else◌, List, [], ◌∷◌, ◌++◌, map, filter, codes, bytes_eq, unwrap_or}
 use Rattle.std.specs.List.{flat_map}
 use Rattle.acq_base.specs.declared.plan.ByHash.{ByHash}
 use Rattle.acq_base.specs.declared.plan.Target.{Target}
@@ -11,7 +11,6 @@ use Rattle.acq_base.specs.Uri.{same_uri, list_name}
 use Rattle.uri_names.specs.Folder.{below_of}
 use Rattle.kept_hooks.specs.Picking.{is_picked}
 use Rattle.source_lists.specs.declared.entry.Entry.{Entry}
-use Rattle.target_plan.specs.declared.error.Place.{Place}
 use Rattle.target_plan.specs.declared.offers.Offer.{Offer}
 use Rattle.target_plan.specs.declared.draft.Planned.{Planned}
 use Rattle.target_plan.specs.declared.draft.Draft.{Draft}
@@ -82,7 +81,7 @@ source_of settings entry entries =
       release_name = record { 0 = list_name release };
       by_hash = by_hash_of settings.by_hash entries;
       pdiffs = pdiffs_of settings.pdiffs entries;
-      targets = []
+      targets = [];
     }
 
 -- a source of a first entry and all its entries
@@ -90,7 +89,7 @@ unfoldable pub draft_of : Pick → Settings → Entry × List Entry → Draft
 draft_of pick settings group = record {
   source = source_of settings group.0 group.1;
   origin = place_of group.0;
-  lists = lists_of pick group.0 (offers_of settings group.0.suite group.1)
+  lists = lists_of pick group.0 (offers_of settings group.0.suite group.1);
 }
 
 -- all sources, in the order in which the entries first name them

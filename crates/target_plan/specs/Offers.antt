@@ -1,5 +1,5 @@
 -- What the entries of one source offer (sources.list(5)): lists by their paths below the folder of the Release.
-use Rattle.std.specs.Prelude.{ℕ, ◌==◌, Bool, if◌then◌else◌, List, [], ◌∷◌, ◌++◌, map, filter, codes, bytes_eq, Option, Some, None, unwrap_or}
+use Rattle.std.specs.Prelude.{ℕ, ◌==◌, Bool, if◌then◌else◌, List, [], ◌∷◌, ◌++◌, map, codes, bytes_eq, unwrap_or}
 use Rattle.std.specs.List.{flat_map, ends_with}
 use Rattle.acq_base.specs.declared.plan.Kind.{Kind}
 use Rattle.acq_base.specs.declared.plan.Kind.TheVariants.{Packages, Sources, Translation}

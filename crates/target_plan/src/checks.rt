@@ -82,12 +82,7 @@ pub fn check_clashes(alloc: Global, files: &[File]) -> Result<(), PlanError>
     Ok(())
 }
 
-fn clash(
-    alloc: Global,
-    files: &[File],
-    first: usize,
-    second: &File,
-) -> Result<PlanError, NoMemory>
+fn clash(alloc: Global, files: &[File], first: usize, second: &File) -> Result<PlanError, NoMemory>
     requires { first < length files.now }
     ensures { IfOk result (λ error. error ≡ spec.clash_of (slice_index_or files.now first second.now) second.now) }
 {

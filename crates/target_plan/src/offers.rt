@@ -89,11 +89,7 @@ fn exact_packages(
     Ok(())
 }
 
-fn exact_sources(
-    alloc: Global,
-    entry: &Entry,
-    offers: &mut Vec<Offer>,
-) -> Result<(), NoMemory>
+fn exact_sources(alloc: Global, entry: &Entry, offers: &mut Vec<Offer>) -> Result<(), NoMemory>
     ensures { OnOk result (offers.new.items ≡ offers.old.items ++ spec.exact_sources entry.now) }
 {
     if entry.source {

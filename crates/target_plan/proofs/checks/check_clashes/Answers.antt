@@ -1,8 +1,8 @@
-use Rattle.std.proofs.Common.{◌≡◌, ◌<◌, ◌∙◌, inr, Some, None, sym, ap, arith}
+use Rattle.std.proofs.Common.{◌∙◌, inr, Some, sym, ap, arith}
 use Rattle.std.specs.BTreeMap.{get}
 use Rattle.std.specs.Cmp.Lexicographic.{slice_cmp}
 use Rattle.std.specs.Ordering.{nat_cmp}
-use Rattle.target_plan.proofs.Clashes.{file_name, clash_absent, clash_within, clash_present, names_more}
+use Rattle.target_plan.proofs.Clashes.{clash_absent, clash_within, clash_present, names_more}
 use Rattle.target_plan.proofs.checks.check_clashes.Goals as goal
 
 pub clash-requires : goal.clash-requires
@@ -25,5 +25,5 @@ loop-at-preserved c =
     let absent = ap (get (slice_cmp nat_cmp) c.loop-at.places) (sym key) ∙ sym c.in_ok-first.ensures.found ∙ c.in_default.is in
     record {
       places = names_more c.args.files.now c.loop-at.at file c.in_ok-copy.field-0 c.loop-at.places c.enter.new.places c.loop-at-test.true c.index-files-at.is key c.loop-at.invariant.places absent (c.in_ok-first.ensures.entered c.in_default.is);
-      rest = sym (clash_absent c.args.files.now c.loop-at.at file c.loop-at.places c.loop-at-test.true c.index-files-at.is c.loop-at.invariant.places absent) ∙ c.loop-at.invariant.rest
+      rest = sym (clash_absent c.args.files.now c.loop-at.at file c.loop-at.places c.loop-at-test.true c.index-files-at.is c.loop-at.invariant.places absent) ∙ c.loop-at.invariant.rest;
     }

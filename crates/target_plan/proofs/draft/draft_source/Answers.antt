@@ -21,7 +21,7 @@ returns-in_err-check_names g c =
     let d = draft_of c.args.picker.now.pick c.args.settings.now (seen_group seen_entry c.args.group.now) in
     let made : c.in_ok-source.source ≡ d.source = c.in_ok-source.ensures ∙ (λ i. source_of c.args.settings.now first (map seen_entry (c.as_slice.ensures.value i))) in
     let listed : c.as_slice-4.result.now ≡ d.lists = c.as_slice-4.ensures ∙ c.in_ok-lists.ensures
-      ∙ ap (lists_of c.args.picker.now.pick first) (c.as_slice-3.ensures.value ∙ c.in_ok-offered.ensures ∙ (λ i. offers_of c.args.settings.now (c.as_bytes.ensures i) (map seen_entry (c.as_slice-2.ensures.value i)))) in
+    ∙ ap (lists_of c.args.picker.now.pick first) (c.as_slice-3.ensures.value ∙ c.in_ok-offered.ensures ∙ (λ i. offers_of c.args.settings.now (c.as_bytes.ensures i) (map seen_entry (c.as_slice-2.ensures.value i)))) in
     let p = err_from_is_err_and c.from_residual-in_err-check_names.result c.from_residual-in_err-check_names.ensures.1 in
     rw (p.1, p.2) (draft_listed d c.in_ok-source.source c.as_slice-4.result.now c.in_err-check_names.field-0.0 made listed c.in_ok-check_name.ensures c.in_err-check_names.ensures)
 
@@ -32,6 +32,7 @@ returns g c =
     let d = draft_of c.args.picker.now.pick c.args.settings.now (seen_group seen_entry c.args.group.now) in
     let made : c.in_ok-source.source ≡ d.source = c.in_ok-source.ensures ∙ (λ i. source_of c.args.settings.now first (map seen_entry (c.as_slice.ensures.value i))) in
     let listed : c.in_ok-lists.lists ≡ d.lists = c.in_ok-lists.ensures
-      ∙ ap (lists_of c.args.picker.now.pick first) (c.as_slice-3.ensures.value ∙ c.in_ok-offered.ensures ∙ (λ i. offers_of c.args.settings.now (c.as_bytes.ensures i) (map seen_entry (c.as_slice-2.ensures.value i)))) in
-    (draft_made d c.in_ok-source.source c.in_ok-place_of.field-0 c.in_ok-lists.lists made c.in_ok-place_of.ensures listed,
-     draft_short d c.in_ok-source.source c.as_slice-4.result.now made (c.as_slice-4.ensures ∙ listed) c.in_ok-check_name.ensures c.in_ok-check_names.ensures)
+    ∙ ap (lists_of c.args.picker.now.pick first) (c.as_slice-3.ensures.value ∙ c.in_ok-offered.ensures ∙ (λ i. offers_of c.args.settings.now (c.as_bytes.ensures i) (map seen_entry (c.as_slice-2.ensures.value i)))) in (
+      draft_made d c.in_ok-source.source c.in_ok-place_of.field-0 c.in_ok-lists.lists made c.in_ok-place_of.ensures listed,
+      draft_short d c.in_ok-source.source c.as_slice-4.result.now made (c.as_slice-4.ensures ∙ listed) c.in_ok-check_name.ensures c.in_ok-check_names.ensures,
+    )

@@ -1,4 +1,4 @@
-use Rattle.std.proofs.Common.{◌≡◌, ◌∙◌, ◌+◌, ◌++◌, ◌∷◌, [], take, sym, ap, map, subst}
+use Rattle.std.proofs.Common.{◌≡◌, ◌∙◌, ◌+◌, ◌++◌, ◌∷◌, [], take, sym, ap, subst}
 use Rattle.std.specs.Cmp.Lexicographic.{slice_cmp}
 use Rattle.std.specs.Ordering.{nat_cmp}
 use Rattle.std.proofs.lemmas.Cmp.{nat_list_cmp_total}
@@ -23,8 +23,9 @@ loop-planned-preserved c =
     let upto : before ++ x ∷ [] ≡ take (at + 1) lists = ap (λ p. take at lists ++ p ∷ []) c.planned-item.is ∙ sym (take_more lists at x c.loop-planned-test.true) in
     subst (λ xs. AreFirst is_same_name (slice_cmp nat_cmp) nat_list_cmp_total name_of same_name m' c.if-is_none.firsts xs) upto
     (elim c.if-is_none.branch [
-      then-is_none+in_ok-copy+in_ok-push w ↦ subst (λ firsts. AreFirst is_same_name (slice_cmp nat_cmp) nat_list_cmp_total name_of same_name m' firsts (before ++ x ∷ []))
-        (sym (w.firsts-is ∙ w.in_ok-push.ensures ∙ ap (λ p. c.loop-planned.firsts ++ p ∷ []) w.in_ok-copy.ensures))
-        (first_grows is_same_name (slice_cmp nat_cmp) nat_list_cmp_total name_of same_name m m' c.loop-planned.firsts before x c.in_ok-name.name c.in_ok-found.found c.len.result w.if-is_none.ensures c.in_ok-name.ensures c.len.ensures c.loop-planned.invariant c.in_ok-found.ensures.found c.in_ok-found.ensures.entered)
+      | then-is_none+in_ok-copy+in_ok-push w ↦ subst (λ firsts. AreFirst is_same_name (slice_cmp nat_cmp) nat_list_cmp_total name_of same_name m' firsts (before ++ x ∷ []))
+          (sym (w.firsts-is ∙ w.in_ok-push.ensures ∙ ap (λ p. c.loop-planned.firsts ++ p ∷ []) w.in_ok-copy.ensures))
+          (first_grows is_same_name (slice_cmp nat_cmp) nat_list_cmp_total name_of same_name m m' c.loop-planned.firsts before x c.in_ok-name.name c.in_ok-found.found c.len.result w.if-is_none.ensures c.in_ok-name.ensures c.len.ensures c.loop-planned.invariant c.in_ok-found.ensures.found c.in_ok-found.ensures.entered)
       | else-is_none w ↦ subst (λ firsts. AreFirst is_same_name (slice_cmp nat_cmp) nat_list_cmp_total name_of same_name m' firsts (before ++ x ∷ [])) (sym w.firsts-is)
-        (first_stays is_same_name (slice_cmp nat_cmp) nat_list_cmp_total name_of same_name m m' c.loop-planned.firsts before x c.in_ok-name.name c.in_ok-found.found w.if-is_none.ensures c.in_ok-name.ensures c.loop-planned.invariant c.in_ok-found.ensures.found c.in_ok-found.ensures.known) ])
+          (first_stays is_same_name (slice_cmp nat_cmp) nat_list_cmp_total name_of same_name m m' c.loop-planned.firsts before x c.in_ok-name.name c.in_ok-found.found w.if-is_none.ensures c.in_ok-name.ensures c.loop-planned.invariant c.in_ok-found.ensures.found c.in_ok-found.ensures.known)
+    ])

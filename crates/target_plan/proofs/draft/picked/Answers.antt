@@ -24,5 +24,6 @@ loop-offer-preserved g c =
     let before = filter p (map (planned_of c.args.first.now) (take c.loop-offer.offer-index c.args.offers.now)) in
     let more = one_more p (planned_of c.args.first.now) c.args.offers.now c.loop-offer.offer-index c.offer-item.result c.in_ok-planned.planned c.loop-offer-test.true c.offer-item.is c.in_ok-planned.ensures in
     (elim c.if-pick.branch [
-      then-pick+in_ok-push w ↦ (ap (λ lists. lists.items) w.lists-is ∙ w.in_ok-push.ensures.items ∙ (λ i. c.loop-offer.invariant i ++ picked-yes p c.in_ok-planned.planned (sym c.pick.ensures ∙ w.if-pick.true) i))
-      | else-pick w ↦ (ap (λ lists. lists.items) w.lists-is ∙ c.loop-offer.invariant ∙ sym (append-nil before) ∙ ap (λ more. before ++ more) (picked-no p c.in_ok-planned.planned (sym c.pick.ensures ∙ w.if-pick.false))) ]) ∙ sym more
+      | then-pick+in_ok-push w ↦ (ap (λ lists. lists.items) w.lists-is ∙ w.in_ok-push.ensures.items ∙ (λ i. c.loop-offer.invariant i ++ picked-yes p c.in_ok-planned.planned (sym c.pick.ensures ∙ w.if-pick.true) i))
+      | else-pick w ↦ (ap (λ lists. lists.items) w.lists-is ∙ c.loop-offer.invariant ∙ sym (append-nil before) ∙ ap (λ more. before ++ more) (picked-no p c.in_ok-planned.planned (sym c.pick.ensures ∙ w.if-pick.false)))
+    ]) ∙ sym more

@@ -26,4 +26,4 @@ loop-mention-preserved c =
     subst (λ xs. AreGrouped is_same_component (slice_cmp nat_cmp) nat_list_cmp_total component_of same_component c.enter.new.places (map (seen_group seen_mention) c.add.new.groups.items) xs)
     (ap (λ m. map seen_mention (take c.loop-mention.mention-index c.args.mentions.now) ++ seen_mention m ∷ []) c.mention-item.is ∙ sym (map_more seen_mention c.args.mentions.now c.loop-mention.mention-index x c.loop-mention-test.true))
     (grouped_more seen_mention is_same_component (slice_cmp nat_cmp) nat_list_cmp_total component_of same_component c.loop-mention.places c.enter.new.places c.loop-mention.groups.items c.add.new.groups.items before x
-      c.in_ok-copy.field-0 c.in_ok-found.found c.len.result c.in_ok-copy.ensures (omega (arith, c.len.ensures, c.loop-mention.groups.ok.0)) c.loop-mention.invariant e.found e.known e.entered c.in_ok-add.ensures)
+    c.in_ok-copy.field-0 c.in_ok-found.found c.len.result c.in_ok-copy.ensures (omega (arith, c.len.ensures, c.loop-mention.groups.ok.0)) c.loop-mention.invariant e.found e.known e.entered c.in_ok-add.ensures)

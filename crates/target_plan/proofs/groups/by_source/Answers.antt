@@ -24,4 +24,4 @@ loop-entry-preserved c =
     subst (λ xs. AreGrouped is_same_source key_cmp key_total key_of same_key c.enter.new.places (map (seen_group seen_entry) c.add.new.groups.items) xs)
     (ap (λ entry. take at entries ++ entry ∷ []) c.entry-item.is ∙ sym (take_more entries at x c.loop-entry-test.true))
     (grouped_more seen_entry is_same_source key_cmp key_total key_of same_key c.loop-entry.places c.enter.new.places c.loop-entry.groups.items c.add.new.groups.items (take at entries) _
-      c.in_ok-source_key.field-0 c.in_ok-found.found c.len.result c.in_ok-source_key.ensures (omega (arith, c.len.ensures, c.loop-entry.groups.ok.0)) c.loop-entry.invariant e.found e.known e.entered c.in_ok-add.ensures)
+    c.in_ok-source_key.field-0 c.in_ok-found.found c.len.result c.in_ok-source_key.ensures (omega (arith, c.len.ensures, c.loop-entry.groups.ok.0)) c.loop-entry.invariant e.found e.known e.entered c.in_ok-add.ensures)
