@@ -3,3 +3,4 @@ mod Vectors
 mod GroupLemmas
 mod Clashes
 mod Refused
+mod PlanNames

@@ -1,4 +1,5 @@
-ghost use Rattle.std.specs.Prelude.{◌≡◌, ◌⊎◌, Err, map, OnOk, IfOk};
+ghost use Rattle.std.specs.Prelude.{◌≡◌, ◌≢◌, ◌≤◌, ◌⊎◌, Err, map, length, All, AllPairs, OnOk, IfOk};
+ghost use Rattle.acq_base.specs.Plan.{plan_names};
 ghost use Rattle.target_plan.specs.declared.error.PlanError.TheVariants.{NoMemory as OutOfMemory};
 ghost use Rattle.target_plan.specs.Drafts as spec;
 ghost use Rattle.target_plan.specs.Planning.{plan_of, GivesDrafts};
@@ -27,6 +28,10 @@ pub fn plan(
     picker: &Picker,
 ) -> Result<Plan, PlanError>
     ensures value { (result ≡ Err OutOfMemory) ⊎ (result ≡ plan_of picker.now.pick settings.now entries.now) }
+    // No two of its sources and lists have one name.
+    ensures distinct { IfOk result (λ plan. AllPairs (λ a b. a ≢ b) (plan_names plan)) }
+    ensures short { IfOk result (λ plan. All (λ name. length name ≤ 240) (plan_names plan)) }
+    ensures few { IfOk result (λ plan. length (plan_names plan) ≤ 4096) }
 {
     let groups = by_source(alloc, entries.as_slice())?;
     let drafts = drafts(alloc, groups.as_slice(), settings, picker)?;

@@ -1,0 +1,22 @@
+use Rattle.std.proofs.Common.{◌≡◌, ◌∙◌, map, sym, ap}
+use Rattle.target_plan.specs.Drafts.{files_in, finished}
+use Rattle.target_plan.specs.Planning.{long_name, clash, too_many}
+use Rattle.target_plan.proofs.PlanNames.{distinct_names, few_names, no_long_names}
+use Rattle.target_plan.proofs.planning.plan.Goals as goal
+
+pub returns-clause-distinct : goal.returns-clause-distinct
+returns-clause-distinct g c =
+    distinct_names c.in_ok-drafts.drafts.items c.in_ok-files.files.items c.in_ok-sources.field-0 (c.in_ok-files.ensures ∙ ap files_in c.as_slice-3.ensures.value) (c.in_ok-sources.ensures ∙ ap (map finished) c.as_slice-6.ensures.value)
+    (ap clash (sym c.as_slice-4.ensures.value) ∙ c.in_ok-check_clashes.ensures)
+
+pub returns-clause-short : goal.returns-clause-short
+returns-clause-short g c =
+    let drafts = c.in_ok-drafts.drafts.items in
+    let are_files : c.in_ok-files.files.items ≡ files_in drafts = c.in_ok-files.ensures ∙ ap files_in c.as_slice-3.ensures.value in
+    no_long_names drafts c.in_ok-files.files.items c.in_ok-sources.field-0 are_files (c.in_ok-sources.ensures ∙ ap (map finished) c.as_slice-6.ensures.value)
+    (ap long_name (are_files ∙ ap files_in c.in_ok-drafts.ensures.0) ∙ c.in_ok-drafts.ensures.1)
+
+pub returns-clause-few : goal.returns-clause-few
+returns-clause-few g c =
+    few_names c.in_ok-drafts.drafts.items c.in_ok-files.files.items c.in_ok-sources.field-0 (c.in_ok-files.ensures ∙ ap files_in c.as_slice-3.ensures.value) (c.in_ok-sources.ensures ∙ ap (map finished) c.as_slice-6.ensures.value)
+    (ap too_many (sym c.as_slice-5.ensures.value) ∙ c.in_ok-check_count.ensures)
