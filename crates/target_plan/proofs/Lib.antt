@@ -4,3 +4,4 @@ mod GroupLemmas
 mod Clashes
 mod Refused
 mod PlanNames
+mod PlanTargets

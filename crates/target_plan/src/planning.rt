@@ -2,6 +2,7 @@ ghost use Rattle.std.specs.Prelude.{◌≡◌, ◌≢◌, ◌≤◌, ◌⊎◌, 
 ghost use Rattle.acq_base.specs.Plan.{plan_names};
 ghost use Rattle.target_plan.specs.declared.error.PlanError.TheVariants.{NoMemory as OutOfMemory};
 ghost use Rattle.target_plan.specs.Drafts as spec;
+ghost use Rattle.target_plan.specs.Planned.{HasPicked, HasNames};
 ghost use Rattle.target_plan.specs.Planning.{plan_of, GivesDrafts};
 ghost use Rattle.target_plan.specs.Seen.{seen_entry, seen_group};
 
@@ -28,6 +29,8 @@ pub fn plan(
     picker: &Picker,
 ) -> Result<Plan, PlanError>
     ensures value { (result ≡ Err OutOfMemory) ⊎ (result ≡ plan_of picker.now.pick settings.now entries.now) }
+    ensures picked { IfOk result (λ plan. All (HasPicked picker.now.pick) plan.sources) }
+    ensures named { IfOk result (λ plan. All HasNames plan.sources) }
     // No two of its sources and lists have one name.
     ensures distinct { IfOk result (λ plan. AllPairs (λ a b. a ≢ b) (plan_names plan)) }
     ensures short { IfOk result (λ plan. All (λ name. length name ≤ 240) (plan_names plan)) }

@@ -1,8 +1,20 @@
 use Rattle.std.proofs.Common.{◌≡◌, ◌∙◌, map, sym, ap}
 use Rattle.target_plan.specs.Drafts.{files_in, finished}
 use Rattle.target_plan.specs.Planning.{long_name, clash, too_many}
+use Rattle.target_plan.specs.Seen.{seen_entry, seen_group}
+use Rattle.target_plan.proofs.PlanTargets.{picked_sources, named_sources}
 use Rattle.target_plan.proofs.PlanNames.{distinct_names, few_names, no_long_names}
 use Rattle.target_plan.proofs.planning.plan.Goals as goal
+
+pub returns-clause-picked : goal.returns-clause-picked
+returns-clause-picked g c =
+    picked_sources c.args.picker.now.pick c.args.settings.now (map (seen_group seen_entry) c.as_slice-2.result.now) c.in_ok-sources.field-0
+    (c.in_ok-sources.ensures ∙ ap (map finished) (c.as_slice-6.ensures.value ∙ c.in_ok-drafts.ensures.0))
+
+pub returns-clause-named : goal.returns-clause-named
+returns-clause-named g c =
+    named_sources c.args.picker.now.pick c.args.settings.now (map (seen_group seen_entry) c.as_slice-2.result.now) c.in_ok-sources.field-0
+    (c.in_ok-sources.ensures ∙ ap (map finished) (c.as_slice-6.ensures.value ∙ c.in_ok-drafts.ensures.0))
 
 pub returns-clause-distinct : goal.returns-clause-distinct
 returns-clause-distinct g c =
