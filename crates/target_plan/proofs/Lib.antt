@@ -5,3 +5,4 @@ mod Clashes
 mod Refused
 mod PlanNames
 mod PlanTargets
+mod PlanSources

@@ -22,7 +22,7 @@ module _ {X : Type 0} (P : X → Type 0) where
     by true e rest = rw e (All-cons P x (filter p xs) (All-head P x xs a) rest)
     by false e rest = rw e rest
 
-  all-first : (same : X → X → Bool) (xs : List X) → All P xs → All P (first_of_each same xs)
+  pub all-first : (same : X → X → Bool) (xs : List X) → All P xs → All P (first_of_each same xs)
   unfolding first_of_each
   all-first same [] a = All-nil P
   all-first same (x ∷ xs) a =
@@ -32,7 +32,7 @@ module _ {X : Type 0} (P : X → Type 0) where
   all-map f [] each = All-nil P
   all-map f (y ∷ ys) each = All-cons P (f y) (map f ys) (each y) (all-map f ys each)
 
-  all-map-from : {Y : Type 0} (f : Y → X) (ys : List Y) → All (λ (y : Y). P (f y)) ys → All P (map f ys)
+  pub all-map-from : {Y : Type 0} (f : Y → X) (ys : List Y) → All (λ (y : Y). P (f y)) ys → All P (map f ys)
   all-map-from {Y} f [] a = All-nil P
   all-map-from {Y} f (y ∷ ys) a = All-cons P (f y) (map f ys) (All-head (λ (z : Y). P (f z)) y ys a) (all-map-from f ys (All-tail (λ (z : Y). P (f z)) y ys a))
 

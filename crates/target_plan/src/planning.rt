@@ -1,8 +1,9 @@
-ghost use Rattle.std.specs.Prelude.{◌≡◌, ◌≢◌, ◌≤◌, ◌⊎◌, Err, map, length, All, AllPairs, OnOk, IfOk};
+ghost use Rattle.std.specs.Prelude.{◌≡◌, ◌≢◌, ◌≤◌, ◌⊎◌, Err, map, length, true, All, AllPairs, OnOk, IfOk};
+ghost use Rattle.std.specs.List.{list_any};
 ghost use Rattle.acq_base.specs.Plan.{plan_names};
 ghost use Rattle.target_plan.specs.declared.error.PlanError.TheVariants.{NoMemory as OutOfMemory};
 ghost use Rattle.target_plan.specs.Drafts as spec;
-ghost use Rattle.target_plan.specs.Planned.{HasPicked, HasNames};
+ghost use Rattle.target_plan.specs.Planned.{names, HasPicked, HasNames};
 ghost use Rattle.target_plan.specs.Planning.{plan_of, GivesDrafts};
 ghost use Rattle.target_plan.specs.Seen.{seen_entry, seen_group};
 
@@ -29,6 +30,9 @@ pub fn plan(
     picker: &Picker,
 ) -> Result<Plan, PlanError>
     ensures value { (result ≡ Err OutOfMemory) ⊎ (result ≡ plan_of picker.now.pick settings.now entries.now) }
+    // A source is planned exactly where some entry names it.
+    ensures each_entry { IfOk result (λ plan. All (λ entry. list_any (λ source. names source entry) plan.sources ≡ true) entries.now) }
+    ensures each_source { IfOk result (λ plan. All (λ source. list_any (names source) entries.now ≡ true) plan.sources) }
     ensures picked { IfOk result (λ plan. All (HasPicked picker.now.pick) plan.sources) }
     ensures named { IfOk result (λ plan. All HasNames plan.sources) }
     // No two of its sources and lists have one name.

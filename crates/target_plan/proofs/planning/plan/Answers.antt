@@ -1,10 +1,24 @@
 use Rattle.std.proofs.Common.{◌≡◌, ◌∙◌, map, sym, ap}
-use Rattle.target_plan.specs.Drafts.{files_in, finished}
+use Rattle.target_plan.specs.Groups.{together}
+use Rattle.target_plan.specs.Drafts.{is_same_source, draft_of, files_in, finished}
 use Rattle.target_plan.specs.Planning.{long_name, clash, too_many}
 use Rattle.target_plan.specs.Seen.{seen_entry, seen_group}
+use Rattle.target_plan.proofs.PlanSources.{each_entry, each_source}
 use Rattle.target_plan.proofs.PlanTargets.{picked_sources, named_sources}
 use Rattle.target_plan.proofs.PlanNames.{distinct_names, few_names, no_long_names}
 use Rattle.target_plan.proofs.planning.plan.Goals as goal
+
+pub returns-clause-each_entry : goal.returns-clause-each_entry
+returns-clause-each_entry g c =
+    each_entry c.args.picker.now.pick c.args.settings.now c.args.entries.now c.in_ok-sources.field-0
+    (c.in_ok-sources.ensures ∙ ap (map finished) (c.as_slice-6.ensures.value ∙ c.in_ok-drafts.ensures.0
+    ∙ ap (map (draft_of c.args.picker.now.pick c.args.settings.now)) (ap (map (seen_group seen_entry)) c.as_slice-2.ensures.value ∙ c.in_ok-groups.ensures ∙ ap (together is_same_source) c.as_slice.ensures)))
+
+pub returns-clause-each_source : goal.returns-clause-each_source
+returns-clause-each_source g c =
+    each_source c.args.picker.now.pick c.args.settings.now c.args.entries.now c.in_ok-sources.field-0
+    (c.in_ok-sources.ensures ∙ ap (map finished) (c.as_slice-6.ensures.value ∙ c.in_ok-drafts.ensures.0
+    ∙ ap (map (draft_of c.args.picker.now.pick c.args.settings.now)) (ap (map (seen_group seen_entry)) c.as_slice-2.ensures.value ∙ c.in_ok-groups.ensures ∙ ap (together is_same_source) c.as_slice.ensures)))
 
 pub returns-clause-picked : goal.returns-clause-picked
 returns-clause-picked g c =
