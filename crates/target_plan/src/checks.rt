@@ -1,3 +1,5 @@
+//! The three refusals of a plan. It may take memory, and touches nothing else.
+
 ghost use Rattle.std.specs.Prelude.{◌≡◌, ◌<◌, ◌++◌, IfOk, OnOk, length, map, slice_index_or};
 ghost use Rattle.target_plan.specs.Drafts.{files_of as files_of_draft, file_of};
 ghost use Rattle.target_plan.specs.Planning as spec;

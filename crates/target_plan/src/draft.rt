@@ -1,3 +1,5 @@
+//! One source of a plan, drafted. It may take memory, and touches nothing else.
+
 ghost use Rattle.std.specs.Prelude.{◌≡◌, IfOk, map};
 ghost use Rattle.target_plan.specs.Drafts as spec;
 ghost use Rattle.target_plan.specs.Groups.{first_of_each as first_of_each_of};

@@ -1,3 +1,5 @@
+//! Why there is no plan.
+
 use acq_base::{ListName, NoMemory as OutOfMemory, Refusal, Text, TryCopy};
 use std::alloc::{AllocFailed, Global};
 use std::error::Error;

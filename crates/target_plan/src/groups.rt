@@ -1,3 +1,5 @@
+//! Entries in groups, in the order in which each is first named. It may take memory, and touches nothing else.
+
 ghost use Rattle.std.specs.Prelude.{◌≡◌, ◌<◌, IfOk, OnOk, IfSome, length, map, ◌∷◌, []};
 ghost use Rattle.target_plan.specs.Drafts.{is_same_source};
 ghost use Rattle.target_plan.specs.Groups.{together, entered};

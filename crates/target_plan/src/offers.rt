@@ -1,3 +1,5 @@
+//! The lists that entries offer, component by component. It may take memory, and touches nothing else.
+
 ghost use Rattle.std.specs.Prelude.{◌≡◌, ◌++◌, ◌∷◌, [], IfOk, OnOk, map, unwrap_or, codes};
 ghost use Rattle.std.specs.List.{flat_map};
 ghost use Rattle.target_plan.specs.Offers as spec;

@@ -1,3 +1,5 @@
+//! Places by key, looked up in n log n time. It may take memory, and touches nothing else.
+
 ghost use Rattle.std.specs.Prelude.{◌≡◌, IfOk, OnOk, Some, None, IsSome, IfNone, IfSome};
 ghost use Rattle.std.specs.BTreeMap.{get, Updates, IsUnchanged};
 

@@ -1,3 +1,5 @@
+//! The plan of entries. It may take memory, and touches nothing else.
+
 ghost use Rattle.std.specs.Prelude.{◌≡◌, ◌≢◌, ◌≤◌, ◌⊎◌, Err, map, length, true, All, AllPairs, OnOk, IfOk};
 ghost use Rattle.std.specs.List.{list_any};
 ghost use Rattle.acq_base.specs.Plan.{plan_names};
