@@ -1,7 +1,9 @@
+-- What the public clauses cite: why there is no plan, what entries offer, and the plan.
 pub mod Refusals
 pub mod Groups
 pub mod Offers
 pub mod Drafts
 pub mod Planned
-pub mod Seen
 pub mod Planning
+-- What serves the crate's own functions: entries as groups see them.
+pub mod Seen
