@@ -127,7 +127,7 @@ fn what_is_no_plain_file_and_a_name_outside_are_faults(rt: HostRuntime) -> Resul
         assert_eq!(rt; disk.remove(name), Err(Fault));
         assert_eq!(rt; disk.rename(name, OTHER), Err(Fault));
         assert_eq!(rt; disk.rename(OTHER, name), Err(Fault));
-        assert_eq!(rt; disk.faults(), before + 8);
+        assert_eq!(rt; disk.faults(), before.saturating_add(8));
     }
     for name in OUTSIDE {
         assert_eq!(rt; disk.size(name), Err(Fault));
