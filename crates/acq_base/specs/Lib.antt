@@ -6,3 +6,4 @@ pub mod Words
 pub mod Mirror
 pub mod Fetch
 pub mod Plan
+pub mod Settings

@@ -5,7 +5,8 @@
 //!
 //! The definitions that the contracts of all layers cite stand in specs/: `Digits` has numbers as texts write them, `Sum`
 //! a file's sum and the texts of one, `Uri` a URI's text, its list name and what makes it sound, `Mirror` the answer that
-//! a mirror has under a URI, `Plan` and `Fetch` what makes plans, mirrors and replies sound, `Words` blanks and words.
+//! a mirror has under a URI, `Plan`, `Fetch` and `Settings` what makes plans, mirrors, replies and settings sound, `Words`
+//! blanks and words.
 #![tactic(auto)]
 
 pub use blank::{is_blank, listed_words, trim_blanks, trim_blanks_end, trim_blanks_start, words};

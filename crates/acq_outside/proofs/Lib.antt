@@ -6,9 +6,10 @@ pub mod Worlds
 pub mod SampleUri
 pub mod Named
 pub mod Trace
-pub mod Crashes
 pub mod Choices
 pub mod Cells
 pub mod NameMap
 pub mod Replaying
 pub mod Images
+pub mod MapWords
+pub mod Joining

@@ -7,6 +7,8 @@ pub mod Crash
 pub mod Moments
 pub mod Choice
 pub mod Mirror
+pub mod Word
+pub mod Tree
 pub mod Sink
 -- Cited by public clauses of the objects in memory alone.
 pub mod Failing
@@ -14,12 +16,16 @@ pub mod FixedClock
 pub mod MemSink
 pub mod MapMethod
 pub mod MemEtc
+pub mod MemTree
 pub mod History
 pub mod MemDisk
 -- The laws of the disk that may crash: what its trait asks each disk to show, and the proofs for the one in memory.
 pub mod Outcomes
 pub mod NamesApart
 pub mod Traces
+-- Laws for the proofs of the crates above: what a crash leaves after a call, and what holds at every moment of calls.
+pub mod Crashes
+pub mod Going
 -- Cited by this crate's own functions and proofs alone.
 pub mod Held
 pub mod Whole

@@ -1,8 +1,9 @@
 -- Moments of a disk: what holds of it now, and at each moment since another.
-use Rattle.std.specs.Prelude.{◌≡◌, ℕ, List, [], ◌∷◌, ◌++◌, length, Some, option_map}
+use Rattle.std.specs.Prelude.{◌≡◌, ◌⊎◌, ℕ, List, [], ◌∷◌, ◌++◌, length, Some, option_map}
 use Rattle.acq_outside.specs.Disk.{Files}
-use Rattle.acq_outside.specs.Crash.{State, IsImage, IsApart, IsTorn, all_renamed, file_at, names_of, after}
-use Rattle.acq_outside.specs.declared.change.Change.TheVariants.{Sync, SyncNames}
+use Rattle.acq_outside.specs.Crash.{State, IsImage, IsApart, IsTorn, all_renamed, file_at, names_of, after, changed_file}
+use Rattle.acq_outside.specs.declared.change.Change.{Change}
+use Rattle.acq_outside.specs.declared.change.Change.TheVariants.{Write, Cut, Sync, Rename, Remove, SyncNames}
 
 -- the disk tells its states
 abbrev pub IsTold : List State → Type 0
@@ -30,6 +31,11 @@ pub record Since (old new : List State) (P : State → Type 0) : Type 0 where
   pub untold : old ≡ [] → new ≡ []
   pub each : Each P states
 
+-- what t is to the disk's state at an earlier moment, where it told
+abbrev pub From : (State → State → Type 0) → List State → State → Type 0
+From R [] t = Unit {0}
+From R (s ∷ past) t = R s t
+
 -- What a crash leaves, in the words of the calls.
 
 -- once a file is synced, a crash leaves of it what reads give, under whatever name
@@ -51,3 +57,24 @@ LeavesApart s = (image : Files) (left : IsImage s image) → IsApart (all_rename
 -- a crash leaves of a call that failed in its midst what it may leave of the call that is done
 abbrev pub LeavesAsDone : State → Type 0
 LeavesAsDone done = (file : _) (torn : State) (image : Files) → IsTorn file done torn → IsImage torn image → IsImage done image
+
+abbrev pub IsSync : Change → Type 0
+IsSync (Write name at bytes) = ⊥
+IsSync (Cut name len) = ⊥
+IsSync (Sync name) = Unit {0}
+IsSync (Rename from to) = ⊥
+IsSync (Remove name) = ⊥
+IsSync SyncNames = Unit {0}
+
+-- a call that is no sync may be lost: what a crash may leave before it, it may leave after it
+abbrev pub MayBeLost : State → Type 0
+MayBeLost s = (call : Change) → (IsSync call → ⊥) → (image : Files) → IsImage s image → IsImage (after s call) image
+
+-- what a crash leaves in the midst of a call, whatever the call would have answered: it isn't done, or done in any part
+abbrev pub IsLeftWithin : State → Change → Files → Type 0
+IsLeftWithin s call image = IsImage s image ⊎ ((torn : State) × IsTorn (changed_file s call) (after s call) torn × IsImage torn image)
+
+-- in the midst of a sync it leaves what it may leave before, and in the midst of another call what it may leave of the call
+-- that is done, also where the call fails and nothing of it is done
+abbrev pub LeavesWithin : State → Type 0
+LeavesWithin s = (call : Change) (image : Files) → IsLeftWithin s call image → ((IsSync call → ⊥) → IsImage (after s call) image) × (IsSync call → IsImage s image)

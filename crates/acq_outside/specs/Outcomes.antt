@@ -26,11 +26,11 @@ pub only_synced : (bytes left : List ℕ) → IsOutcome (synced bytes) left → 
 only_synced bytes left outcome = only_kept bytes left outcome.long outcome.fits
 
 -- a list written at a place, step by step
-abbrev lay : {A : Type 0} → List A → List A → List A
+abbrev pub lay : {A : Type 0} → List A → List A → List A
 lay [] old = old
 lay (x ∷ new) old = x ∷ lay new (drop 1 old)
 
-abbrev over : {A : Type 0} → ℕ → List A → List A → List A
+abbrev pub over : {A : Type 0} → ℕ → List A → List A → List A
 over zero old new = lay new old
 over (suc at) [] new = new
 over (suc at) (x ∷ old) new = x ∷ over at old new
@@ -43,7 +43,7 @@ lay_is : {A : Type 0} (new old : List A) → new ++ drop (length new) old ≡ la
 lay_is [] old = refl
 lay_is (x ∷ new) old = ap (λ (rest : List _). x ∷ (new ++ rest)) (drop_one (length new) old) ∙ ap (λ (rest : List _). x ∷ rest) (lay_is new (drop 1 old))
 
-over_is : {A : Type 0} (at : ℕ) (old new : List A) → spliced old at new ≡ over at old new
+pub over_is : {A : Type 0} (at : ℕ) (old new : List A) → spliced old at new ≡ over at old new
 over_is zero old new = let none : 0 + length new ≡ length new = omega arith in rw none (lay_is new old)
 over_is (suc at) [] new = ap (λ (rest : List _). new ++ rest) (drop-nil (suc at + length new)) ∙ append-nil new
 over_is (suc at) (x ∷ old) new = let one : suc at + length new ≡ suc (at + length new) = omega arith in rw one (ap (λ (rest : List _). x ∷ rest) (over_is at old new))

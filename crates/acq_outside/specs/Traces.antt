@@ -111,7 +111,7 @@ on_file_reads s name (Some i) change g apart is gives = fun_ext (λ other. at ot
         let yes : same_name name other ≡ true = (bytes_eq-Decides name other).1 (apart.one name other i is (leads ∙ ap (λ (k : ℕ). Some k) same)) in
         let clash : true ≡ false = sym yes ∙ e in cc)))
 
-all_push : (m : Names) (changes : List NameChange) (change : NameChange) → all_renamed m (changes ++ change ∷ []) ≡ renamed (all_renamed m changes) change
+pub all_push : (m : Names) (changes : List NameChange) (change : NameChange) → all_renamed m (changes ++ change ∷ []) ≡ renamed (all_renamed m changes) change
 all_push m [] change = refl
 all_push m (first ∷ changes) change = all_push (renamed m first) changes change
 

@@ -1,7 +1,7 @@
 //! What a crash leaves of a disk, as laws that callers may rest on. It touches nothing.
 ghost use Rattle.acq_outside.specs.Choice.{ChoicesLeave};
 ghost use Rattle.acq_outside.specs.Crash.{State, IsImage, IsSound, reads};
-ghost use Rattle.acq_outside.specs.Moments.{SyncLasts, NamesLast, SyncsShrink, LeavesApart, LeavesAsDone};
+ghost use Rattle.acq_outside.specs.Moments.{SyncLasts, NamesLast, SyncsShrink, LeavesApart, LeavesAsDone, MayBeLost, LeavesWithin};
 
 /// What reads give may be left by a crash, and in nothing that a crash leaves do two names lead to one file.
 pub fn crash_leaves()
@@ -25,4 +25,11 @@ pub fn torn_is_done()
 /// The choices by which a crash may be tried leave what a crash may leave: all of that, and nothing else.
 pub fn choices_leave()
     ensures { (s : State) → IsSound s → ChoicesLeave s }
+{}
+
+/// A call that is no sync may be lost: what a crash may leave before it, it may leave after it. So in the midst of such a
+/// call a crash leaves what it may leave once it is done, and in the midst of a sync what it may leave before.
+pub fn calls_may_be_lost()
+    ensures lost { (s : State) → MayBeLost s }
+    ensures within { (s : State) → IsSound s → LeavesWithin s }
 {}

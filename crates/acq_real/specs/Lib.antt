@@ -3,6 +3,8 @@ pub mod Folder
 pub mod Listing
 pub mod RealClock
 pub mod RealDisk
+pub mod RealEtc
+pub mod RealTree
 -- Cited by this crate's own functions alone, but for what RealSink shows.
 pub mod Answer
 pub mod RealSink

@@ -116,7 +116,7 @@ pub fn read_at(
 }
 
 /// One read that a signal doesn't end.
-fn read_some(file: &File, at: u64, out: &mut [u8]) -> io::Result<usize>
+pub fn read_some(file: &File, at: u64, out: &mut [u8]) -> io::Result<usize>
     ensures { IfOk result (λ n. n ≤ length out.old) }
 {
     for _ in 0..u64::MAX {

@@ -1,4 +1,5 @@
-//! The outside as the operating system has it: a folder of lists, a clock and an output.
+//! The outside as the operating system has it: a folder of lists, a configuration folder,
+//! served files, a clock and an output.
 //!
 //! These adapters are the trusted edge. They tell no content; what is proved of them is that their count of faults rises
 //! just where a call answers a fault, that the disk takes no name that may lead out of its folder, and what is made of
@@ -7,14 +8,21 @@
 
 pub use clock::RealClock;
 pub use disk::RealDisk;
+pub use etc::RealEtc;
 pub use sink::RealSink;
+pub use tree::RealTree;
 
 mod answer;
 mod clock;
 mod disk;
+mod etc;
+mod etc_folder;
+#[cfg(test)]
+mod etc_tests;
 mod folder;
 mod listing;
 mod path;
 mod sink;
 #[cfg(test)]
 mod tests;
+mod tree;

@@ -41,7 +41,7 @@ fn is_inside(name: &[u8]) -> bool
 }
 
 /// Whether a name leads neither up nor further down.
-fn is_segment(name: &[u8]) -> bool
+pub fn is_segment(name: &[u8]) -> bool
     ensures { IsTrue result ↔ IsSegment name.now }
 {
     !is_same_or_up(name) && !has(name, b'/') && !has(name, b'\0')

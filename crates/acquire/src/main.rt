@@ -54,7 +54,7 @@ where
     let mirror = chosen_mirror(rt, alloc)?;
     let lists = variable(rt, alloc, "ACQUIRE_LISTS", LISTS)?;
     let mut methods = Vec::new(alloc);
-    let method = MapMethod::new(mirror, Row::new(alloc));
+    let method = MapMethod::new(mirror, Row::new(alloc), Row::new(alloc));
     methods.push(method).map_err(out_of_memory)?;
     let mut disk = RealDisk::new(alloc, rt, lists.as_str()).map_err(out_of_memory)?;
     let mut clock = RealClock::new(rt);

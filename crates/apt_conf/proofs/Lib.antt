@@ -11,3 +11,4 @@ pub mod RefusalLemmas
 pub mod PieceLemmas
 pub mod FindLemmas
 pub mod WrittenLemmas
+pub mod SoundSettings

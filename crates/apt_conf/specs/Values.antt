@@ -1,8 +1,8 @@
 -- What the values of settings read as, each on its own.
 use Rattle.std.specs.Prelude.{ℕ, ◌==◌, ◌&&◌, ◌||◌, not, nat_le, Bool, true, false, if◌then◌else◌, List, [], ◌∷◌, length, Option, Some, None, codes, bytes_eq}
 use Rattle.std.specs.List.{list_any, list_all}
-use Rattle.std.specs.Char.{is_ascii_alphanumeric}
 use Rattle.acq_base.specs.Digits.{number_of_digits}
+use Rattle.acq_base.specs.Settings.{is_architecture, is_language}
 use Rattle.acq_base.specs.Words.{is_blank_or_comma, words}
 use Rattle.acq_base.specs.declared.plan.ByHash.{ByHash}
 use Rattle.acq_base.specs.declared.plan.ByHash.TheVariants.{No, Yes, Force}
@@ -10,20 +10,6 @@ use Rattle.acq_base.specs.declared.settings.Pick.{Pick}
 use Rattle.apt_conf.specs.declared.values.Words.{Words}
 use Rattle.apt_conf.specs.declared.values.Words.TheVariants.{Architectures, Languages, Kinds}
 use Rattle.apt_conf.specs.Keys.{same_key}
-
--- letters, digits and `._-+~:`, and not the segment `..`
-abbrev pub is_architecture_character : ℕ → Bool
-is_architecture_character c = is_ascii_alphanumeric c || list_any (λ d. c == d) (codes "._-+~:")
-
-unfoldable pub is_architecture : List ℕ → Bool
-is_architecture text = not (length text == 0) && list_all is_architecture_character text && not (bytes_eq text (codes ".."))
-
--- letters, digits, `_` and `-`
-abbrev pub is_language_character : ℕ → Bool
-is_language_character c = is_ascii_alphanumeric c || c == 95 || c == 45
-
-unfoldable pub is_language : List ℕ → Bool
-is_language text = not (length text == 0) && list_all is_language_character text
 
 unfoldable pub is_picked_kind : List ℕ → Bool
 is_picked_kind text = bytes_eq text (codes "Packages") || bytes_eq text (codes "Sources") || bytes_eq text (codes "Translations")

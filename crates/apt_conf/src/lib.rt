@@ -6,7 +6,7 @@
 
 pub use conf::{Conf, get, new, read_conf, set};
 pub use error::ConfError;
-pub use table::settings;
+pub use table::{boolean, settings};
 
 mod conf;
 mod entry;

@@ -60,6 +60,7 @@ pub fn byte_at(text: &[u8], place: usize) -> u8
     }
 }
 
+/// Whether the text begins with a space, a tab or a line feed.
 pub fn is_space(text: &[u8]) -> bool
     ensures { result ≡ lexemes.is_space text.now }
 {
@@ -67,6 +68,7 @@ pub fn is_space(text: &[u8]) -> bool
     first == b' ' || first == b'\t' || first == b'\n'
 }
 
+/// Whether the text begins with a carriage return and a line feed.
 pub fn is_line_end(text: &[u8]) -> bool
     ensures { result ≡ lexemes.is_line_end text.now }
 {
@@ -80,6 +82,7 @@ fn is_delimiter(text: &[u8]) -> bool
     first == b'"' || first == b';' || first == b'{' || first == b'}'
 }
 
+/// Whether the text begins with the sign of a comment.
 pub fn opens_comment(text: &[u8]) -> bool
     ensures { result ≡ lexemes.opens_comment text.now }
 {
@@ -88,6 +91,7 @@ pub fn opens_comment(text: &[u8]) -> bool
     first == b'#' || (first == b'/' && (second == b'/' || second == b'*'))
 }
 
+/// Whether a word ends before the text.
 #[tactic(auto, unfolding(crate::specs::Lexemes::is_boundary))]
 pub fn is_boundary(text: &[u8]) -> bool
     ensures { result ≡ lexemes.is_boundary text.now }

@@ -1,6 +1,7 @@
 //! The settings, each with its key and its default. It may take memory, and touches nothing else.
 
 ghost use Rattle.std.specs.Prelude.{◌≡◌, ◌⊎◌, ◌≤◌, ◌∷◌, [], Err, IfOk};
+ghost use Rattle.acq_base.specs.Settings.{IsSound};
 ghost use Rattle.apt_conf.specs.Answers.{Gives};
 ghost use Rattle.apt_conf.specs.Settings as of;
 
@@ -33,7 +34,9 @@ use std::alloc::Global;
 /// in any case. The first value in this order that isn't allowed is refused with `BadValue` and its key; the only other
 /// error is `NoMemory`.
 pub fn settings(alloc: Global, conf: &Conf) -> Result<Settings, ConfError>
-    ensures { (result ≡ Err ConfError.NoMemory) ⊎ (result ≡ of.settings_of conf.now) }
+    ensures value { (result ≡ Err ConfError.NoMemory) ⊎ (result ≡ of.settings_of conf.now) }
+    // Architectures and languages that may become parts of paths, and at least one architecture.
+    ensures sound { IfOk result IsSound }
 {
     read_settings(alloc, conf)
 }
@@ -45,7 +48,7 @@ fn read_settings(alloc: Global, conf: &Conf) -> Result<Settings, ConfError>
     let lists = wanted_lists(alloc, conf)?;
     let dates = dates(alloc, conf)?;
     let ways = ways_to_fetch(alloc, conf)?;
-    let cleanup = boolean(alloc, conf, b"APT::Get::List-Cleanup", true)?;
+    let cleanup = read_boolean(alloc, conf, b"APT::Get::List-Cleanup", true)?;
     Ok(Settings {
         arch: lists.arch,
         archs: lists.archs,
@@ -111,7 +114,7 @@ fn ways_to_fetch(alloc: Global, conf: &Conf) -> Result<Fetching, ConfError>
 {
     let retries = small_number(alloc, conf, b"Acquire::Retries", 10, 1)?;
     let by_hash = by_hash(alloc, conf)?;
-    let pdiffs = boolean(alloc, conf, b"Acquire::PDiffs", true)?;
+    let pdiffs = read_boolean(alloc, conf, b"Acquire::PDiffs", true)?;
     let file_limit = small_number(alloc, conf, b"Acquire::PDiffs::FileLimit", 1000, 100)?;
     let size_limit = small_number(alloc, conf, b"Acquire::PDiffs::SizeLimit", 1000, 100)?;
     Ok(Fetching {
@@ -252,8 +255,16 @@ fn by_hash(alloc: Global, conf: &Conf) -> Result<ByHash, ConfError>
     }
 }
 
+/// The boolean that a configuration gives to a key last, or the default where it gives none (apt.conf(5)). A value that is no
+/// boolean is refused with `BadValue` and the key; the only other error is `NoMemory`.
+pub fn boolean(alloc: Global, conf: &Conf, key: &[u8], default: bool) -> Result<bool, ConfError>
+    ensures { (result ≡ Err ConfError.NoMemory) ⊎ (result ≡ of.boolean default conf.now key.now) }
+{
+    read_boolean(alloc, conf, key, default)
+}
+
 #[tactic(auto, unfolding(crate::specs::Settings::boolean))]
-fn boolean(alloc: Global, conf: &Conf, key: &[u8], default: bool) -> Result<bool, ConfError>
+fn read_boolean(alloc: Global, conf: &Conf, key: &[u8], default: bool) -> Result<bool, ConfError>
     ensures { Gives result (of.boolean default conf.now key.now) }
 {
     match get(conf, key) {

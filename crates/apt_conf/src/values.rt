@@ -2,6 +2,7 @@
 
 ghost use Rattle.std.specs.Prelude.{◌≡◌, ◌≤◌, IfOk, IfSome, bytes_eq, option_map};
 ghost use Rattle.std.specs.List.{list_all, list_any};
+ghost use Rattle.acq_base.specs.Settings as settings;
 ghost use Rattle.apt_conf.specs.Keys.{same_key};
 ghost use Rattle.apt_conf.specs.Values as values;
 
@@ -27,22 +28,22 @@ pub fn is_spelled(text: &[u8], word: &[u8]) -> bool
 }
 
 fn is_architecture_character(byte: u8) -> bool
-    ensures { result ≡ values.is_architecture_character byte }
+    ensures { result ≡ settings.is_architecture_character byte }
 {
     byte.is_ascii_alphanumeric() || b"._-+~:".contains(&byte)
 }
 
 fn all_architecture_characters(text: &[u8]) -> bool
-    ensures { result ≡ list_all values.is_architecture_character text.now }
+    ensures { result ≡ list_all settings.is_architecture_character text.now }
 {
     text.iter().all(|byte| is_architecture_character(*byte))
 }
 
 /// Whether a text is one architecture, as in `APT::Architecture` of apt.conf(5): letters, digits and `._-+~:`, at least
 /// one, and not `..`, since its name becomes a segment of a path.
-#[tactic(auto, unfolding(crate::specs::Values::is_architecture))]
+#[tactic(auto, unfolding(acq_base::specs::Settings::is_architecture))]
 pub fn is_architecture(text: &[u8]) -> bool
-    ensures { result ≡ values.is_architecture text.now }
+    ensures { result ≡ settings.is_architecture text.now }
 {
     if text.is_empty() || !all_architecture_characters(text) {
         return false;
@@ -51,20 +52,20 @@ pub fn is_architecture(text: &[u8]) -> bool
 }
 
 fn is_language_character(byte: u8) -> bool
-    ensures { result ≡ values.is_language_character byte }
+    ensures { result ≡ settings.is_language_character byte }
 {
     byte.is_ascii_alphanumeric() || byte == b'_' || byte == b'-'
 }
 
 fn all_language_characters(text: &[u8]) -> bool
-    ensures { result ≡ list_all values.is_language_character text.now }
+    ensures { result ≡ list_all settings.is_language_character text.now }
 {
     text.iter().all(|byte| is_language_character(*byte))
 }
 
-#[tactic(auto, unfolding(crate::specs::Values::is_language))]
+#[tactic(auto, unfolding(acq_base::specs::Settings::is_language))]
 fn is_language(text: &[u8]) -> bool
-    ensures { result ≡ values.is_language text.now }
+    ensures { result ≡ settings.is_language text.now }
 {
     if text.is_empty() {
         return false;

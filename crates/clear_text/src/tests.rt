@@ -1,5 +1,5 @@
 use crate::unframe;
-use acq_base::Refusal;
+use acq_base::{Bytes, Refusal};
 use std::test::Fail;
 
 /// An InRelease as Debian writes it, with lines that are escaped and blanks at the end of one.
@@ -167,4 +167,34 @@ fn refusals(rt: HostRuntime) {
         };
         assert_eq!(rt; refusal, (33, line), "at {bytes:?}");
     }
+}
+
+/// A line of 64 bytes.
+const LINE: &[u8] = b"-a line of 64 bytes; it begins with a dash and ends in blanks \t\n";
+
+/// The same line as it stands in a frame.
+const ESCAPED: &[u8] = b"- -a line of 64 bytes; it begins with a dash and ends in blanks \t\n";
+
+/// The line 262,144 times in one frame: 16 MiB of text, in which each 64th line is looked at.
+#[test]
+fn a_long_text_within_a_frame(rt: HostRuntime) -> Result<(), Fail> {
+    let mut framed = Bytes::new(rt.alloc());
+    framed.append(b"-----BEGIN PGP SIGNED MESSAGE-----\nHash: SHA512\n\n")?;
+    for _ in 0..262_144 {
+        framed.append(ESCAPED)?;
+    }
+    framed.append(b"-----BEGIN PGP SIGNATURE-----\n\nx\n-----END PGP SIGNATURE-----\n")?;
+    match unframe(rt.alloc(), framed.as_slice())? {
+        Some(text) => {
+            assert_eq!(rt; text.len(), 16_777_216);
+            assert!(rt;
+                text.as_slice()
+                    .chunks(4096)
+                    .all(|lines| lines.starts_with(LINE))
+            );
+            assert!(rt; text.as_slice().ends_with(LINE));
+        }
+        None => assert!(rt; false),
+    }
+    Ok(())
 }

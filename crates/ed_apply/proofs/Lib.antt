@@ -15,3 +15,7 @@ pub mod Theorem
 pub mod Merging
 pub mod Standing
 pub mod Chains
+pub mod Outside
+pub mod Walked
+pub mod SpelledBy
+pub mod SpelledBack

@@ -163,7 +163,7 @@ step-sound : (lines : List (List ℕ)) (at : ℕ) (script : Script) (next : Resu
 step-sound lines at script (Ok s) kept rest e = rest s (kept s refl) e
 step-sound lines at script (Err refusal) kept rest e = absurd (cc)
 
-scan-sound : (lines : List (List ℕ)) (state : State) (at : ℕ) (script : Script) → AreSound (hunks_in state.hunks state.phase) → scanned state at lines ≡ Ok script → IsSound script
+pub scan-sound : (lines : List (List ℕ)) (state : State) (at : ℕ) (script : Script) → AreSound (hunks_in state.hunks state.phase) → scanned state at lines ≡ Ok script → IsSound script
 scan-sound [] state at script sound e = end-sound state.hunks state.phase script sound e
 scan-sound (line ∷ lines) state at script sound e =
     step-sound lines (at + 1) script (on_line state at (without_feed line)) (λ s is. line-sound state.hunks state.phase at (without_feed line) s sound is) (λ s ss ee. scan-sound lines s (at + 1) script ss ee) e

@@ -1,5 +1,5 @@
 -- What an edit script makes of a file (`diff --ed`, and the commands a, c and d of ed, POSIX), in terms of lines.
-use Rattle.std.specs.Prelude.{◌≡◌, ◌⊎◌, ℕ, ◌+◌, ◌≤◌, ◌==◌, ◌&&◌, nat_le, if◌then◌else◌, List, [], ◌∷◌, ◌++◌, length, take, drop, All, Option, Some, None, option_map, option_and_then}
+use Rattle.std.specs.Prelude.{◌≡◌, ◌⊎◌, ℕ, ◌+◌, ◌<◌, ◌≤◌, ◌==◌, ◌&&◌, nat_le, if◌then◌else◌, List, [], ◌∷◌, ◌++◌, length, take, drop, All, Option, Some, None, option_map, option_and_then}
 use Rattle.std.specs.List.{concat}
 use Rattle.ed_apply.specs.declared.script.Hunk.{Hunk}
 use Rattle.ed_apply.specs.declared.script.Script.{Script}
@@ -87,6 +87,16 @@ applied_all old (script ∷ scripts) = option_and_then (λ new. applied_all new 
 abbrev pub first_outside : ℕ → List Hunk → Option ApplyError
 first_outside count [] = None
 first_outside count (hunk ∷ hunks) = if nat_le hunk.to count then first_outside count hunks else Some (Outside hunk.at)
+
+-- the hunk of this line is the first that reaches beyond so many lines
+pub record IsFirstOutside (count : ℕ) (hunks : List Hunk) (at : ℕ) : Type 0 where
+  pub before : List Hunk
+  pub hunk : Hunk
+  pub behind : List Hunk
+  pub cut : hunks ≡ before ++ hunk ∷ behind
+  pub inside : All (λ h. h.to ≤ count) before
+  pub beyond : count < hunk.to
+  pub line : hunk.at ≡ at
 
 -- why a script makes no file of this one, if it makes none
 unfoldable pub refusal : List ℕ → Script → Option ApplyError

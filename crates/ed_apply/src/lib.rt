@@ -4,7 +4,7 @@
 pub use applying::{apply, apply_all};
 pub use edit::Edit;
 pub use error::{ApplyError, ScriptError};
-pub use laws::applied_is_edited;
+pub use laws::{applied_is_edited, refused_where_none_is_applied};
 pub use reading::read_script;
 pub use script::{Hunk, Script};
 

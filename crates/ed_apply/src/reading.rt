@@ -1,9 +1,11 @@
 //! Reading a script line by line. It takes memory for the hunks and their texts.
 
-ghost use Rattle.std.specs.Prelude.{◌≡◌, ◌⊎◌, ◌++◌, ◌∷◌, [], Err, IfOk};
+ghost use Rattle.std.specs.Prelude.{◌≡◌, ◌⊎◌, ◌++◌, ◌∷◌, ℕ, [], Ok, Err, IfOk};
 ghost use Rattle.ed_apply.specs.Edits.{IsSound};
 ghost use Rattle.ed_apply.specs.Grammar.{script_of, at_end, on_line, on_text, on_command, goes_down, last_of, with_line, with_dot};
+ghost use Rattle.ed_apply.specs.Spelling.{IsSpelled, IsRefusedAt, IsUnended, lines_within};
 ghost use Rattle.ed_apply.specs.Taken.{Takes};
+ghost use Rattle.ed_apply.specs.declared.script.Script.{Script as AnyScript};
 
 use crate::command::{Command, read_command};
 use crate::lines::{first_line_len, without_feed};
@@ -37,6 +39,12 @@ pub enum Phase {
 pub fn read_script(alloc: Global, bytes: &[u8]) -> Result<Script, ScriptError>
     ensures value { (result ≡ Err ScriptError.NoMemory) ⊎ (result ≡ script_of bytes.now) }
     ensures sound { IfOk result (λ script. IsSound script) }
+    // What is read is spelled by the lines, and what they spell is read.
+    ensures spelled { IfOk result (λ script. IsSpelled (lines_within bytes.now) script) }
+    ensures grammar { (script : AnyScript) → IsSpelled (lines_within bytes.now) script → (result ≡ Err ScriptError.NoMemory) ⊎ (result ≡ Ok script) }
+    // The line that is refused is the first with which nothing is a script.
+    ensures refused { (at : ℕ) → (result ≡ Err (ScriptError.BadCommand at)) ⊎ (result ≡ Err (ScriptError.NotDown at)) → IsRefusedAt (lines_within bytes.now) at }
+    ensures no_dot { result ≡ Err ScriptError.NoDot → IsUnended (lines_within bytes.now) }
 {
     read_lines(alloc, bytes)
 }

@@ -1,3 +1,4 @@
 pub mod SumLemmas
 pub mod StepLemmas
 pub mod ChainLemmas
+pub mod Named

@@ -3,6 +3,7 @@
 ghost use Rattle.std.specs.Prelude.{◌≡◌, ◌⊎◌, Err, IfOk, option_copied};
 ghost use Rattle.std.specs.List.{sum_by};
 ghost use Rattle.pdiff_index.specs.Chain.{links, links_from, limited, patches_of, entry_on, lines_used, within, are_too_many, are_too_large};
+ghost use Rattle.pdiff_index.specs.Listed.{LeadsOn};
 
 use crate::sums::sums_by_name;
 use crate::{Index, NoChain, Step};
@@ -14,8 +15,24 @@ use std::alloc::Global;
 /// They are those of the history's lines from the last with the sum `have` on; where the patches are merged, that line's
 /// alone. `file_limit` is the most patches, and `size_limit` the most bytes together in percent of the wanted file's; 0
 /// is no limit. The causes why there is no chain are looked for in the order of [`NoChain`].
-#[tactic(auto, unfolding(crate::specs::Chain::links))]
 pub fn chain(
+    alloc: Global,
+    index: &Index,
+    have: &Sum,
+    want: &Sum,
+    file_limit: u32,
+    size_limit: u32,
+) -> Result<Row<Step>, NoChain>
+    ensures value { (result ≡ Err NoChain.NoMemory) ⊎ (result ≡ links index.now have.now want.now file_limit size_limit) }
+    // Each step is one of the patches, under the names of the history's lines in their order.
+    ensures listed { IfOk result (λ steps. LeadsOn index.now have.now steps) }
+{
+    chain_to(alloc, index, have, want, file_limit, size_limit)
+}
+
+/// The patches that lead to the file of the sum `want`.
+#[tactic(auto, unfolding(crate::specs::Chain::links))]
+fn chain_to(
     alloc: Global,
     index: &Index,
     have: &Sum,

@@ -1,7 +1,8 @@
 //! Reading an Index. What takes memory is handed an allocator.
 
-ghost use Rattle.std.specs.Prelude.{◌≡◌, ◌⊎◌, Err, IfOk, option_copied};
+ghost use Rattle.std.specs.Prelude.{◌≡◌, ◌≢◌, ◌⊎◌, Err, IfOk, AllPairs, option_copied};
 ghost use Rattle.pdiff_index.specs.Index.{index_of, index_of_paragraphs, index_of_fields, current_part, current_of, current_from, sum_of_line, steps_part, merged_of, are_merged, refused_line, lesser, index_of_parts, completed};
+ghost use Rattle.pdiff_index.specs.Listed.{AreNamed};
 
 use crate::steps::read_steps;
 use crate::{Index, IndexError, Step};
@@ -22,8 +23,19 @@ type Part<T> = Option<Result<T, u64>>;
 ///
 /// Of several refusals the first in this order is answered, unless memory runs out: the control text's, another count
 /// of paragraphs than one, the first line that isn't so or repeats a name of SHA256-Patches, a missing field.
-#[tactic(auto, unfolding(crate::specs::Index::index_of))]
 pub fn read_index(alloc: Global, bytes: &[u8]) -> Result<Index, IndexError>
+    ensures value { (result ≡ Err IndexError.NoMemory) ⊎ (result ≡ index_of bytes.now) }
+    // Each name is of the allowed form.
+    ensures named { IfOk result (λ index. AreNamed index.history × AreNamed index.patches) }
+    // No patch has the name of another.
+    ensures distinct { IfOk result (λ index. AllPairs (λ a b. a.name ≢ b.name) index.patches) }
+{
+    index_from(alloc, bytes)
+}
+
+/// The Index that the bytes are.
+#[tactic(auto, unfolding(crate::specs::Index::index_of))]
+fn index_from(alloc: Global, bytes: &[u8]) -> Result<Index, IndexError>
     ensures { (result ≡ Err IndexError.NoMemory) ⊎ (result ≡ index_of bytes.now) }
 {
     let paragraphs = read(alloc, bytes, false)?;

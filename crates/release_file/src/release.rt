@@ -1,6 +1,7 @@
 //! What a Release says. It may take memory for copies, and touches nothing else.
 
-use acq_base::{Row, Sum, Text};
+use acq_base::{NoMemory, Row, Sum, Text, TryCopy};
+use std::alloc::Global;
 
 /// What a Release says of itself. A text of several lines has a line feed between each two.
 #[derive(Debug, PartialEq, Drop)]
@@ -30,4 +31,15 @@ pub struct Release {
     pub head: Head,
     /// The files with their SHA-256 sums, in the order in which it first names each path. No path stands twice.
     pub files: Row<Listed>,
+}
+
+impl TryCopy for Head {
+    fn copy(&self, alloc: Global) -> Result<Head, NoMemory> {
+        Ok(Head {
+            origin: self.origin.copy(alloc)?,
+            label: self.label.copy(alloc)?,
+            suite: self.suite.copy(alloc)?,
+            codename: self.codename.copy(alloc)?,
+        })
+    }
 }

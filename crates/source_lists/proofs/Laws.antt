@@ -17,7 +17,7 @@ use Rattle.source_lists.specs.Steps.{◌>>=◌, each}
 use Rattle.source_lists.specs.Texts.{joined, given, all_entries, numbered_lines, list_entries, sources_entries, entries_of_stanzas, AreRead, IsFirstRefused, IsListRefusal, AreSources, IsTextRefused, IsStanzaRefused, IsSourcesRefusal}
 use Rattle.source_lists.proofs.Loops.{Gives, worked}
 
-bind_ok : {A B : Type 0} (read : Result A ListError) (f : A → Result B ListError) (y : B) → (read >>= f) ≡ Ok y → (x : A) × (read ≡ Ok x) × (f x ≡ Ok y)
+pub bind_ok : {A B : Type 0} (read : Result A ListError) (f : A → Result B ListError) (y : B) → (read >>= f) ≡ Ok y → (x : A) × (read ≡ Ok x) × (f x ≡ Ok y)
 bind_ok (Ok x) f y e = (x, refl, e)
 bind_ok (Err refusal) f y e = absurd (cc)
 

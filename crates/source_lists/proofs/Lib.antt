@@ -5,3 +5,4 @@ pub mod NextWords
 pub mod Replaced
 pub mod Choices
 pub mod ReadLines
+pub mod SoundEntries

@@ -1,3 +1,4 @@
+-- All of these are cited by public clauses, here and in the plan.
 pub mod Steps
 pub mod Values
 pub mod OneLine
@@ -5,3 +6,4 @@ pub mod Stanzas
 pub mod Texts
 pub mod Files
 pub mod Refused
+pub mod Sound

@@ -3,6 +3,7 @@ use Rattle.std.specs.Prelude.{ℕ, zero, suc, ◌==◌, ◌&&◌, ◌||◌, not,
 use Rattle.std.specs.List.{list_any, list_all, slice_split, starts_with, ends_with}
 use Rattle.std.specs.Char.{is_ascii_alphanumeric}
 use Rattle.std.specs.Str.{str_eq_ignore_ascii_case}
+use Rattle.acq_base.specs.Settings.{is_architecture}
 use Rattle.acq_base.specs.declared.plan.ByHash.{ByHash}
 use Rattle.acq_base.specs.declared.plan.ByHash.TheVariants.{No, Yes, Force}
 use Rattle.acq_base.specs.declared.uri.Uri.{Uri}
@@ -125,10 +126,6 @@ components_at at suites words =
     else Err (BadLine at)
 
 -- ---- architectures
-
--- an architecture becomes part of a segment: letters, digits and `._-+~:`, at least one, and not `..`
-unfoldable pub is_architecture : List ℕ → Bool
-is_architecture word = not (is_empty word) && list_all is_name_character word && not (is_dot_dot word)
 
 -- at least one, and each is one
 unfoldable pub architectures : List (List ℕ) → Option (List (List ℕ))

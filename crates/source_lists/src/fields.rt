@@ -1,8 +1,9 @@
 //! The fields of a stanza.
 
-ghost use Rattle.std.specs.Prelude.{◌≡◌, ◌⊎◌, Err, IfOk, option_copied};
+ghost use Rattle.std.specs.Prelude.{◌≡◌, ◌⊎◌, Err, All, IfOk, option_copied};
 ghost use Rattle.std.specs.List.{flat_map};
 ghost use Rattle.acq_base.specs.Words.{is_blank, words as words_of};
+ghost use Rattle.source_lists.specs.Sound.{IsReadBase};
 ghost use Rattle.source_lists.specs.Stanzas as spec;
 ghost use Rattle.source_lists.specs.Steps.{each};
 ghost use Rattle.source_lists.specs.Values.{base_at as base_of, suite_at as suite_of, by_hash_of as by_hash_in, boolean_of as boolean_in};
@@ -81,7 +82,8 @@ pub fn types_of(alloc: Global, first: u64, field: Option<&Field>) -> Result<Type
 /// The base URIs that a field names.
 #[tactic(auto, unfolding(crate::specs::Stanzas::uris_of))]
 pub fn uris_of(alloc: Global, first: u64, field: Option<&Field>) -> Result<Row<Uri>, ListError>
-    ensures { (result ≡ Err ListError.NoMemory) ⊎ (result ≡ spec.uris_of first (option_copied field.entry)) }
+    ensures value { (result ≡ Err ListError.NoMemory) ⊎ (result ≡ spec.uris_of first (option_copied field.entry)) }
+    ensures sound { IfOk result (All IsReadBase) }
 {
     let found = some_words(alloc, first, field)?;
     bases_at(alloc, line_of(first, field), found.as_slice())
@@ -89,7 +91,8 @@ pub fn uris_of(alloc: Global, first: u64, field: Option<&Field>) -> Result<Row<U
 
 /// The base URIs that words of this line are.
 fn bases_at(alloc: Global, at: u64, words: &[Text]) -> Result<Row<Uri>, ListError>
-    ensures { (result ≡ Err ListError.NoMemory) ⊎ (result ≡ each (base_of at) words.now) }
+    ensures value { (result ≡ Err ListError.NoMemory) ⊎ (result ≡ each (base_of at) words.now) }
+    ensures sound { IfOk result (All IsReadBase) }
 {
     let mut bases = Row::new(alloc);
     for word in words {

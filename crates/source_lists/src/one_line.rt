@@ -1,9 +1,10 @@
 //! The one-line form.
 
-ghost use Rattle.std.specs.Prelude.{◌≡◌, ◌⊎◌, ◌≤◌, ◌∷◌, [], length, Err, IfOk, IfErr, IfSome, IfNone};
+ghost use Rattle.std.specs.Prelude.{◌≡◌, ◌⊎◌, ◌≤◌, ◌∷◌, [], length, Err, All, IfOk, IfErr, IfSome, IfNone};
 ghost use Rattle.std.specs.List.{position_or_len, list_all};
 ghost use Rattle.acq_base.specs.Words.{is_blank as blank, words as words_of};
 ghost use Rattle.source_lists.specs.OneLine as spec;
+ghost use Rattle.source_lists.specs.Sound.{IsReadBase, IsSound};
 ghost use Rattle.source_lists.specs.Texts as texts;
 ghost use Rattle.source_lists.specs.Texts.{all_entries, numbered_lines, AreRead, IsListRefusal};
 
@@ -34,6 +35,8 @@ pub fn read_list(
     ensures value { (result ≡ Err ListError.NoMemory) ⊎ (result ≡ texts.list_entries file.now arch.now bytes.now) }
     // The lines of a text that is read are each read by themselves, and its entries are theirs in order.
     ensures read { IfOk result (AreRead (spec.line_entries file.now arch.now) (numbered_lines bytes.now)) }
+    // What a plan of the entries relies on.
+    ensures sound { IfOk result (All IsSound) }
     // A refusal is that of the first line that isn't.
     ensures refused { IfErr result (IsListRefusal file.now arch.now bytes.now) }
 {
@@ -48,7 +51,8 @@ fn entries_of_list(
     arch: &Text,
     bytes: &[u8],
 ) -> Result<Row<Entry>, ListError>
-    ensures { (result ≡ Err ListError.NoMemory) ⊎ (result ≡ texts.list_entries file.now arch.now bytes.now) }
+    ensures value { (result ≡ Err ListError.NoMemory) ⊎ (result ≡ texts.list_entries file.now arch.now bytes.now) }
+    ensures sound { IfOk result (All IsSound) }
 {
     if bytes.len() > MOST_BYTES {
         return Err(ListError::LongFile);
@@ -64,7 +68,8 @@ fn read_lines(
     bytes: &[u8],
 ) -> Result<Row<Entry>, ListError>
     requires { length bytes.now ≤ 1048576 }
-    ensures { (result ≡ Err ListError.NoMemory) ⊎ (result ≡ all_entries (spec.line_entries file.now arch.now) (numbered_lines bytes.now)) }
+    ensures value { (result ≡ Err ListError.NoMemory) ⊎ (result ≡ all_entries (spec.line_entries file.now arch.now) (numbered_lines bytes.now)) }
+    ensures sound { IfOk result (All IsSound) }
 {
     let mut entries = Row::new(alloc);
     let mut rest = bytes;
@@ -90,7 +95,8 @@ fn read_line(
     at: u64,
     line: &[u8],
 ) -> Result<Option<Entry>, ListError>
-    ensures { (result ≡ Err ListError.NoMemory) ⊎ (result ≡ spec.line_entry file.now arch.now (at, line.now)) }
+    ensures value { (result ≡ Err ListError.NoMemory) ⊎ (result ≡ spec.line_entry file.now arch.now (at, line.now)) }
+    ensures sound { IfOk result (λ found. IfSome found IsSound) }
 {
     let text = uncommented(line);
     if is_all_blank(text) {
@@ -125,7 +131,8 @@ fn read_entry(
     at: u64,
     text: &[u8],
 ) -> Result<Entry, ListError>
-    ensures { (result ≡ Err ListError.NoMemory) ⊎ (result ≡ spec.entry_at file.now arch.now at text.now) }
+    ensures value { (result ≡ Err ListError.NoMemory) ⊎ (result ≡ spec.entry_at file.now arch.now at text.now) }
+    ensures base { IfOk result (λ entry. IsReadBase entry.uri) }
 {
     let (kind, behind) = first_word(text);
     let types = type_at(at, kind)?;
@@ -140,7 +147,8 @@ fn read_entry(
 
 /// Puts together what was read of a line.
 fn new_entry(file: Text, at: u64, types: Types, place: Place, options: Options) -> Entry
-    ensures { result ≡ spec.entry_of file at types place options }
+    ensures value { result ≡ spec.entry_of file at types place options }
+    ensures base { result.uri ≡ place.uri }
 {
     let Place {
         uri,
@@ -252,7 +260,8 @@ pub struct Place {
 /// The URI, the suite and the components that the words of a text on this line are.
 #[tactic(auto, unfolding(crate::specs::OneLine::place_at))]
 fn read_place(alloc: Global, arch: &Text, at: u64, text: &[u8]) -> Result<Place, ListError>
-    ensures { (result ≡ Err ListError.NoMemory) ⊎ (result ≡ spec.place_at arch.now at (words_of blank text.now)) }
+    ensures value { (result ≡ Err ListError.NoMemory) ⊎ (result ≡ spec.place_at arch.now at (words_of blank text.now)) }
+    ensures base { IfOk result (λ place. IsReadBase place.uri) }
 {
     let Some((word, behind)) = next_word(text) else {
         return Err(ListError::BadLine(at));

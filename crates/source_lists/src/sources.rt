@@ -1,6 +1,7 @@
 //! The deb822 form.
 
-ghost use Rattle.std.specs.Prelude.{◌≡◌, ◌⊎◌, Err, IfOk, IfErr};
+ghost use Rattle.std.specs.Prelude.{◌≡◌, ◌⊎◌, Err, All, IfOk, IfErr};
+ghost use Rattle.source_lists.specs.Sound.{IsSound};
 ghost use Rattle.source_lists.specs.Texts as texts;
 ghost use Rattle.source_lists.specs.Texts.{all_entries, AreSources, IsSourcesRefusal};
 ghost use Rattle.source_lists.specs.Stanzas.{stanza_entries};
@@ -29,6 +30,8 @@ pub fn read_sources(
     ensures value { (result ≡ Err ListError.NoMemory) ⊎ (result ≡ texts.sources_entries file.now arch.now bytes.now) }
     // The stanzas of a text that is read are each read by themselves, and its entries are theirs in order.
     ensures read { IfOk result (AreSources file.now arch.now bytes.now) }
+    // What a plan of the entries relies on.
+    ensures sound { IfOk result (All IsSound) }
     // A refusal is that of the text as such, or of the first stanza that isn't read.
     ensures refused { IfErr result (IsSourcesRefusal file.now arch.now bytes.now) }
 {
@@ -43,7 +46,8 @@ fn entries_of_sources(
     arch: &Text,
     bytes: &[u8],
 ) -> Result<Row<Entry>, ListError>
-    ensures { (result ≡ Err ListError.NoMemory) ⊎ (result ≡ texts.sources_entries file.now arch.now bytes.now) }
+    ensures value { (result ≡ Err ListError.NoMemory) ⊎ (result ≡ texts.sources_entries file.now arch.now bytes.now) }
+    ensures sound { IfOk result (All IsSound) }
 {
     if bytes.len() > MOST_BYTES {
         return Err(ListError::LongFile);
@@ -59,7 +63,8 @@ fn entries_of_stanzas(
     arch: &Text,
     stanzas: &[Paragraph],
 ) -> Result<Row<Entry>, ListError>
-    ensures { (result ≡ Err ListError.NoMemory) ⊎ (result ≡ all_entries (stanza_entries file.now arch.now) stanzas.now) }
+    ensures value { (result ≡ Err ListError.NoMemory) ⊎ (result ≡ all_entries (stanza_entries file.now arch.now) stanzas.now) }
+    ensures sound { IfOk result (All IsSound) }
 {
     let mut entries = Row::new(alloc);
     for stanza in stanzas {

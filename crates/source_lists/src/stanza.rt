@@ -1,6 +1,7 @@
 //! One stanza of the deb822 form.
 
-ghost use Rattle.std.specs.Prelude.{◌≡◌, ◌⊎◌, ◌++◌, Err, IfOk, OnOk};
+ghost use Rattle.std.specs.Prelude.{◌≡◌, ◌⊎◌, ◌++◌, Err, All, IfOk, OnOk};
+ghost use Rattle.source_lists.specs.Sound.{IsReadBase, IsSound};
 ghost use Rattle.source_lists.specs.Stanzas as spec;
 
 use crate::fields::{components_of, enabled_of, options_of, suites_of, types_of, uris_of};
@@ -30,7 +31,8 @@ pub fn add_stanza(
     paragraph: &Paragraph,
     entries: &mut Row<Entry>,
 ) -> Result<(), ListError>
-    ensures { spec.Adds result entries.old entries.new (spec.stanza_entries file.now arch.now paragraph.now) }
+    ensures value { spec.Adds result entries.old entries.new (spec.stanza_entries file.now arch.now paragraph.now) }
+    ensures sound { All IsSound entries.old → OnOk result (All IsSound entries.new) }
 {
     if !enabled_of(alloc, find(paragraph, b"Enabled"))? {
         return Ok(());
@@ -49,7 +51,8 @@ pub fn add_stanza(
 /// What an enabled stanza says, its fields judged in order.
 #[tactic(auto, unfolding(crate::specs::Stanzas::stanza_of))]
 fn read_stanza(alloc: Global, arch: &Text, paragraph: &Paragraph) -> Result<Stanza, ListError>
-    ensures { (result ≡ Err ListError.NoMemory) ⊎ (result ≡ spec.stanza_of arch.now paragraph.now.fields) }
+    ensures value { (result ≡ Err ListError.NoMemory) ⊎ (result ≡ spec.stanza_of arch.now paragraph.now.fields) }
+    ensures sound { IfOk result (λ stanza. All IsReadBase stanza.uris) }
 {
     let first = first_at(paragraph.fields.as_slice());
     let types = types_of(alloc, first, find(paragraph, b"Types"))?;

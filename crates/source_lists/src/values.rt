@@ -1,7 +1,9 @@
 //! The words of a sources list by themselves, each with the line on which it is refused.
 
-ghost use Rattle.std.specs.Prelude.{◌≡◌, ◌⊎◌, ◌∷◌, [], Err, bytes_eq};
+ghost use Rattle.std.specs.Prelude.{◌≡◌, ◌⊎◌, ◌∷◌, [], Err, IfOk, bytes_eq};
 ghost use Rattle.std.specs.List.{list_any, list_all};
+ghost use Rattle.acq_base.specs.Settings as settings;
+ghost use Rattle.source_lists.specs.Sound.{IsReadBase};
 ghost use Rattle.source_lists.specs.Values as values;
 
 use crate::ListError;
@@ -91,9 +93,9 @@ pub fn is_component(word: &[u8]) -> bool
 }
 
 /// Whether a text is an architecture: letters, digits and `._-+~:`, at least one, and not `..`.
-#[tactic(auto, unfolding(crate::specs::Values::is_architecture))]
+#[tactic(auto, unfolding(acq_base::specs::Settings::is_architecture))]
 fn is_architecture(word: &[u8]) -> bool
-    ensures { result ≡ values.is_architecture word.now }
+    ensures { result ≡ settings.is_architecture word.now }
 {
     !word.is_empty() && has_name_characters(word) && !is_dot_dot(word)
 }
@@ -169,7 +171,8 @@ pub fn type_at(at: u64, word: &[u8]) -> Result<Types, ListError>
 /// The base URI that a word of this line is.
 #[tactic(auto, unfolding(crate::specs::Values::base_at))]
 pub fn base_at(alloc: Global, at: u64, word: &[u8]) -> Result<Uri, ListError>
-    ensures { (result ≡ Err ListError.NoMemory) ⊎ (result ≡ values.base_at at word.now) }
+    ensures value { (result ≡ Err ListError.NoMemory) ⊎ (result ≡ values.base_at at word.now) }
+    ensures sound { IfOk result IsReadBase }
 {
     match read_base(alloc, word) {
         Ok(base) => Ok(base),
@@ -231,7 +234,7 @@ pub fn architectures(words: Row<Text>) -> Option<Row<Text>>
 }
 
 fn are_architectures(words: &[Text]) -> bool
-    ensures { result ≡ list_all values.is_architecture words.now }
+    ensures { result ≡ list_all settings.is_architecture words.now }
 {
     words.iter().all(|word| is_architecture(word.as_bytes()))
 }

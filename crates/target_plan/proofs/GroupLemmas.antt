@@ -14,7 +14,7 @@ use Rattle.acq_base.specs.Uri.{scheme_index}
 use Rattle.acq_base.specs.declared.uri.Scheme.{Scheme}
 use Rattle.acq_base.specs.declared.uri.Scheme.TheVariants.{Http, File}
 use Rattle.source_lists.specs.declared.entry.Entry.{Entry}
-use Rattle.target_plan.specs.Offers.{Mention, is_same_component}
+use Rattle.target_plan.specs.Offers.{Asked, Mention, is_same_arch, is_same_component}
 use Rattle.target_plan.specs.Drafts.{is_same_source, is_same_name, name_of}
 use Rattle.target_plan.specs.Groups.{entered}
 use Rattle.target_plan.specs.Seen.{is_file, key_of, key_cmp, seen, seen_group}
@@ -62,6 +62,12 @@ component_of mention = mention.0
 
 pub same_component : (a b : Mention) → is_eq (slice_cmp nat_cmp (component_of a) (component_of b)) ≡ is_same_component a b
 same_component a b = is_eq-slice_cmp a.0 b.0
+
+abbrev pub arch_of : Asked → List ℕ
+arch_of asked = asked.0
+
+pub same_arch : (a b : Asked) → is_eq (slice_cmp nat_cmp (arch_of a) (arch_of b)) ≡ is_same_arch a b
+same_arch a b = is_eq-slice_cmp a.0 b.0
 
 pub same_name : (a b : Planned) → is_eq (slice_cmp nat_cmp (name_of a) (name_of b)) ≡ is_same_name a b
 same_name a b = is_eq-slice_cmp (name_of a) (name_of b)

@@ -6,3 +6,8 @@ mod Refused
 mod PlanNames
 mod PlanTargets
 mod PlanSources
+mod EachOffer
+mod SoundPlan
+mod PlanAsks
+mod PlanAll
+mod FirstMention

@@ -15,7 +15,7 @@ use Rattle.target_plan.specs.Drafts.{planned_of, is_same_name, picked_of, lists_
 use Rattle.target_plan.specs.Planned.{IsPickedTarget, IsNamedTarget, HasPicked, HasNames}
 
 module _ {X : Type 0} (P : X → Type 0) where
-  all-filter : (p : X → Bool) (xs : List X) → All P xs → All P (filter p xs)
+  pub all-filter : (p : X → Bool) (xs : List X) → All P xs → All P (filter p xs)
   all-filter p [] a = All-nil P
   all-filter p (x ∷ xs) a = by (p x) refl (all-filter p xs (All-tail P x xs a)) where
     by : (b : Bool) → p x ≡ b → All P (filter p xs) → All P (filter p (x ∷ xs))
@@ -36,7 +36,7 @@ module _ {X : Type 0} (P : X → Type 0) where
   all-map-from {Y} f [] a = All-nil P
   all-map-from {Y} f (y ∷ ys) a = All-cons P (f y) (map f ys) (All-head (λ (z : Y). P (f z)) y ys a) (all-map-from f ys (All-tail (λ (z : Y). P (f z)) y ys a))
 
-all-kept : {X : Type 0} (p : X → Bool) (xs : List X) → All (λ (x : X). p x ≡ true) (filter p xs)
+pub all-kept : {X : Type 0} (p : X → Bool) (xs : List X) → All (λ (x : X). p x ≡ true) (filter p xs)
 all-kept {X} p [] = All-nil (λ (x : X). p x ≡ true)
 all-kept {X} p (x ∷ xs) = by (p x) refl (all-kept p xs) where
   by : (b : Bool) → p x ≡ b → All (λ (y : X). p y ≡ true) (filter p xs) → All (λ (y : X). p y ≡ true) (filter p (x ∷ xs))

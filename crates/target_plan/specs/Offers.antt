@@ -7,7 +7,7 @@ use Rattle.acq_base.specs.declared.settings.Settings.{Settings}
 use Rattle.source_lists.specs.declared.entry.Entry.{Entry}
 use Rattle.target_plan.specs.declared.error.Place.{Place}
 use Rattle.target_plan.specs.declared.offers.Offer.{Offer}
-use Rattle.target_plan.specs.Groups.{together}
+use Rattle.target_plan.specs.Groups.{first_of_each, together}
 
 -- the suite is the exact path of a folder
 abbrev pub is_exact : List ℕ → Bool
@@ -46,18 +46,6 @@ sources_of component entry = offer (component ++ codes "/source/Sources") Source
 abbrev pub translation_of : List ℕ → Entry → List ℕ → Offer
 translation_of component entry language = offer (component ++ codes "/i18n/Translation-" ++ language) (Translation language) entry
 
--- binary packages of each architecture
-unfoldable pub packages_offers : Settings → List ℕ → Entry → List Offer
-packages_offers settings component entry = if entry.binary then map (packages_of component entry) (architectures settings entry) else []
-
--- source packages
-unfoldable pub sources_offers : List ℕ → Entry → List Offer
-sources_offers component entry = if entry.source then sources_of component entry ∷ [] else []
-
--- descriptions in each language
-unfoldable pub translation_offers : Settings → List ℕ → Entry → List Offer
-translation_offers settings component entry = if entry.binary then map (translation_of component entry) settings.langs else []
-
 -- a component that an entry names
 abbrev pub Mention : Type 0
 Mention = List ℕ × Entry
@@ -71,12 +59,42 @@ mentions_in entries = flat_map mentions_of entries
 abbrev pub is_same_component : Mention → Mention → Bool
 is_same_component a b = bytes_eq a.0 b.0
 
--- what the entries that name a component offer of it: all binary packages, then source packages, then all translations
+-- an architecture that an entry asks for
+abbrev pub Asked : Type 0
+Asked = List ℕ × Entry
+
+-- those of an entry of the type `deb`
+abbrev pub asked_by_entry : Settings → Entry → List Asked
+asked_by_entry settings entry = if entry.binary then map (λ arch. (arch, entry)) (architectures settings entry) else []
+
+abbrev pub asked_by : Settings → Mention → List Asked
+asked_by settings mention = asked_by_entry settings mention.1
+
+unfoldable pub asked_in : Settings → List Mention → List Asked
+asked_in settings mentions = flat_map (asked_by settings) mentions
+
+abbrev pub is_same_arch : Asked → Asked → Bool
+is_same_arch a b = bytes_eq a.0 b.0
+
+-- binary packages, for each architecture in the order in which the entries first ask for it
+unfoldable pub packages_offers : Settings → List ℕ → List Mention → List Offer
+packages_offers settings component mentions = map (λ asked. packages_of component asked.1 asked.0) (first_of_each is_same_arch (asked_in settings mentions))
+
+-- source packages, where an entry has them
+unfoldable pub sources_offers : List ℕ → List Mention → List Offer
+sources_offers component [] = []
+sources_offers component (mention ∷ mentions) = if mention.1.source then sources_of component mention.1 ∷ [] else sources_offers component mentions
+
+-- descriptions in each language, where an entry has binary packages
+unfoldable pub translation_offers : Settings → List ℕ → List Mention → List Offer
+translation_offers settings component [] = []
+translation_offers settings component (mention ∷ mentions) =
+    if mention.1.binary then map (translation_of component mention.1) settings.langs else translation_offers settings component mentions
+
+-- what the entries that name a component offer of it
 unfoldable pub component_offers : Settings → Mention × List Mention → List Offer
 component_offers settings group =
-    flat_map (λ mention. packages_offers settings group.0.0 mention.1) group.1
-    ++ flat_map (λ mention. sources_offers group.0.0 mention.1) group.1
-    ++ flat_map (λ mention. translation_offers settings group.0.0 mention.1) group.1
+    packages_offers settings group.0.0 group.1 ++ sources_offers group.0.0 group.1 ++ translation_offers settings group.0.0 group.1
 
 -- component by component, in the order in which the entries first name them
 unfoldable pub suite_offers : Settings → List Entry → List Offer

@@ -10,7 +10,8 @@ use denote.Ref.{Bor}
 use Rattle.std.specs.Global.{Vec}
 use Rattle.source_lists.specs.declared.entry.Entry.{Entry}
 use Rattle.target_plan.specs.declared.groups.Mention as declared
-use Rattle.target_plan.specs.Offers.{Mention}
+use Rattle.target_plan.specs.declared.architectures.Asked as declared_asked
+use Rattle.target_plan.specs.Offers.{Asked, Mention}
 
 abbrev pub seen : {T : Type 0} → T → T
 seen item = item
@@ -20,6 +21,9 @@ seen_entry entry = entry.now
 
 abbrev pub seen_mention : declared.Mention → Mention
 seen_mention mention = (mention.component.now, mention.entry.now)
+
+abbrev pub seen_asked : declared_asked.Asked → Asked
+seen_asked asked = (asked.arch.now, asked.entry.now)
 
 -- a group with what its items mean
 abbrev pub seen_group : {T X : Type 0} → (T → X) → T × Vec T → X × List X

@@ -7,6 +7,7 @@
 pub use error::{Place, PlanError};
 pub use planning::plan;
 
+mod architectures;
 mod checks;
 mod draft;
 mod error;

@@ -1,11 +1,11 @@
 //! The lists that entries offer, component by component. It may take memory, and touches nothing else.
 
-ghost use Rattle.std.specs.Prelude.{◌≡◌, ◌++◌, ◌∷◌, [], IfOk, OnOk, map, unwrap_or, codes};
-ghost use Rattle.std.specs.List.{flat_map};
+ghost use Rattle.std.specs.Prelude.{◌≡◌, ◌++◌, IfOk, OnOk, map};
 ghost use Rattle.target_plan.specs.Offers as spec;
 ghost use Rattle.target_plan.specs.Seen.{seen_entry, seen_mention, seen_group};
 
 use crate::Place;
+use crate::architectures::{Asked, asked_architectures};
 use crate::groups::{Group, Mention, by_component};
 use acq_base::{Kind, NoMemory, Settings, Text, TryCopy};
 use source_lists::Entry;
@@ -162,6 +162,7 @@ fn component_offers(
     Ok(())
 }
 
+#[tactic(auto, unfolding(crate::specs::Offers::packages_offers))]
 fn all_packages(
     alloc: Global,
     settings: &Settings,
@@ -169,30 +170,35 @@ fn all_packages(
     mentions: &[Mention<'_>],
     offers: &mut Vec<Offer>,
 ) -> Result<(), NoMemory>
-    ensures { OnOk result (offers.new.items ≡ offers.old.items
-        ++ flat_map (λ mention. spec.packages_offers settings.now component.now mention.1) (map seen_mention mentions.now)) }
+    ensures { OnOk result (offers.new.items
+        ≡ offers.old.items ++ spec.packages_offers settings.now component.now (map seen_mention mentions.now)) }
 {
-    for mention in mentions {
-        packages(alloc, settings, component, mention.entry, offers)?;
+    let asked = asked_architectures(alloc, settings, mentions)?;
+    for asked in asked.as_slice() {
+        offers.push(packages_offer(alloc, component, asked)?)?;
     }
     Ok(())
 }
 
+#[tactic(auto, unfolding(crate::specs::Offers::sources_offers))]
 fn all_sources(
     alloc: Global,
     component: &[u8],
     mentions: &[Mention<'_>],
     offers: &mut Vec<Offer>,
 ) -> Result<(), NoMemory>
-    ensures { OnOk result (offers.new.items ≡ offers.old.items
-        ++ flat_map (λ mention. spec.sources_offers component.now mention.1) (map seen_mention mentions.now)) }
+    ensures { OnOk result (offers.new.items ≡ offers.old.items ++ spec.sources_offers component.now (map seen_mention mentions.now)) }
 {
     for mention in mentions {
-        sources(alloc, component, mention.entry, offers)?;
+        if mention.entry.source {
+            offers.push(sources_offer(alloc, component, mention.entry)?)?;
+            return Ok(());
+        }
     }
     Ok(())
 }
 
+#[tactic(auto, unfolding(crate::specs::Offers::translation_offers))]
 fn all_translations(
     alloc: Global,
     settings: &Settings,
@@ -200,86 +206,45 @@ fn all_translations(
     mentions: &[Mention<'_>],
     offers: &mut Vec<Offer>,
 ) -> Result<(), NoMemory>
-    ensures { OnOk result (offers.new.items ≡ offers.old.items
-        ++ flat_map (λ mention. spec.translation_offers settings.now component.now mention.1) (map seen_mention mentions.now)) }
+    ensures { OnOk result (offers.new.items
+        ≡ offers.old.items ++ spec.translation_offers settings.now component.now (map seen_mention mentions.now)) }
 {
     for mention in mentions {
-        translations(alloc, settings, component, mention.entry, offers)?;
+        if mention.entry.binary {
+            translations(alloc, settings, component, mention.entry, offers)?;
+            return Ok(());
+        }
     }
     Ok(())
 }
 
-/// The architectures that an entry names, or the setting's.
-fn architectures<'a>(settings: &'a Settings, entry: &'a Entry) -> &'a [Text]
-    ensures { result.now ≡ spec.architectures settings.entry.now entry.entry.now }
-{
-    match &entry.archs {
-        Some(archs) => archs.as_slice(),
-        None => settings.archs.as_slice(),
-    }
-}
-
-#[tactic(auto, unfolding(crate::specs::Offers::packages_offers))]
-fn packages(
-    alloc: Global,
-    settings: &Settings,
-    component: &[u8],
-    entry: &Entry,
-    offers: &mut Vec<Offer>,
-) -> Result<(), NoMemory>
-    ensures { OnOk result (offers.new.items ≡ offers.old.items ++ spec.packages_offers settings.now component.now entry.now) }
-{
-    if !entry.binary {
-        return Ok(());
-    }
-    for arch in architectures(settings, entry) {
-        offers.push(packages_offer(alloc, component, entry, arch)?)?;
-    }
-    Ok(())
-}
-
-fn packages_offer(
-    alloc: Global,
-    component: &[u8],
-    entry: &Entry,
-    arch: &Text,
-) -> Result<Offer, NoMemory>
-    ensures { IfOk result (λ offer. offer ≡ spec.packages_of component.now entry.now arch.now) }
+fn packages_offer(alloc: Global, component: &[u8], asked: &Asked<'_>) -> Result<Offer, NoMemory>
+    ensures { IfOk result (λ offer. offer ≡ spec.packages_of component.now asked.now.entry.now asked.now.arch.now) }
 {
     let mut path = Text::from_bytes(alloc, component)?;
     path.append(b"/binary-")?;
-    path.append(arch.as_bytes())?;
+    path.append(asked.arch.as_bytes())?;
     path.append(b"/Packages")?;
     Ok(Offer {
         path,
-        kind: Kind::Packages(arch.copy(alloc)?),
+        kind: Kind::Packages(asked.arch.copy(alloc)?),
+        origin: place_of(alloc, asked.entry)?,
+    })
+}
+
+fn sources_offer(alloc: Global, component: &[u8], entry: &Entry) -> Result<Offer, NoMemory>
+    ensures { IfOk result (λ offer. offer ≡ spec.sources_of component.now entry.now) }
+{
+    let mut path = Text::from_bytes(alloc, component)?;
+    path.append(b"/source/Sources")?;
+    Ok(Offer {
+        path,
+        kind: Kind::Sources,
         origin: place_of(alloc, entry)?,
     })
 }
 
-#[tactic(auto, unfolding(crate::specs::Offers::sources_offers))]
-fn sources(
-    alloc: Global,
-    component: &[u8],
-    entry: &Entry,
-    offers: &mut Vec<Offer>,
-) -> Result<(), NoMemory>
-    ensures { OnOk result (offers.new.items ≡ offers.old.items ++ spec.sources_offers component.now entry.now) }
-{
-    if !entry.source {
-        return Ok(());
-    }
-    let mut path = Text::from_bytes(alloc, component)?;
-    path.append(b"/source/Sources")?;
-    offers.push(Offer {
-        path,
-        kind: Kind::Sources,
-        origin: place_of(alloc, entry)?,
-    })?;
-    Ok(())
-}
-
-#[tactic(auto, unfolding(crate::specs::Offers::translation_offers))]
+/// Appends the descriptions in each language.
 fn translations(
     alloc: Global,
     settings: &Settings,
@@ -287,11 +252,9 @@ fn translations(
     entry: &Entry,
     offers: &mut Vec<Offer>,
 ) -> Result<(), NoMemory>
-    ensures { OnOk result (offers.new.items ≡ offers.old.items ++ spec.translation_offers settings.now component.now entry.now) }
+    ensures { OnOk result (offers.new.items
+        ≡ offers.old.items ++ map (spec.translation_of component.now entry.now) settings.now.langs) }
 {
-    if !entry.binary {
-        return Ok(());
-    }
     for language in settings.langs.as_slice() {
         offers.push(translation_offer(alloc, component, entry, language)?)?;
     }

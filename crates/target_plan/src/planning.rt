@@ -2,9 +2,12 @@
 
 ghost use Rattle.std.specs.Prelude.{◌≡◌, ◌≢◌, ◌≤◌, ◌⊎◌, Err, map, length, true, All, AllPairs, OnOk, IfOk};
 ghost use Rattle.std.specs.List.{list_any};
-ghost use Rattle.acq_base.specs.Plan.{plan_names};
+ghost use Rattle.acq_base.specs.Plan.{plan_names, IsSound};
+ghost use Rattle.acq_base.specs.Settings.{IsSound as IsSoundSettings};
+ghost use Rattle.source_lists.specs.Sound.{IsSound as IsSoundEntry};
 ghost use Rattle.target_plan.specs.declared.error.PlanError.TheVariants.{NoMemory as OutOfMemory};
 ghost use Rattle.target_plan.specs.Drafts as spec;
+ghost use Rattle.target_plan.specs.Asked.{IsAskedFor, PlansAll};
 ghost use Rattle.target_plan.specs.Planned.{names, HasPicked, HasNames};
 ghost use Rattle.target_plan.specs.Planning.{plan_of, GivesDrafts};
 ghost use Rattle.target_plan.specs.Seen.{seen_entry, seen_group};
@@ -17,6 +20,7 @@ use acq_base::{NoMemory, Plan, Row, Settings, Source, Target, TryCopy};
 use kept_hooks::Picker;
 use source_lists::Entry;
 use std::alloc::Global;
+use uri_names::files_below_are_sound;
 
 /// The plan of these entries: the sources in the order in which the entries first name them, each with its lists in plan
 /// order, as far as the picker has them (sources.list(5)).
@@ -35,18 +39,25 @@ pub fn plan(
     // A source is planned exactly where some entry names it.
     ensures each_entry { IfOk result (λ plan. All (λ entry. list_any (λ source. names source entry) plan.sources ≡ true) entries.now) }
     ensures each_source { IfOk result (λ plan. All (λ source. list_any (names source) entries.now ≡ true) plan.sources) }
+    // A source's targets are those that some entry asks for that names the source, of the kinds that are switched on. Of two with
+    // one list name one is enough.
+    ensures asked { IfOk result (λ plan. All (λ source. All (IsAskedFor settings.now entries.now source) source.targets) plan.sources) }
+    ensures complete { IfOk result (λ plan. All (PlansAll picker.now.pick settings.now entries.now) plan.sources) }
     ensures picked { IfOk result (λ plan. All (HasPicked picker.now.pick) plan.sources) }
     ensures named { IfOk result (λ plan. All HasNames plan.sources) }
     // No two of its sources and lists have one name.
     ensures distinct { IfOk result (λ plan. AllPairs (λ a b. a ≢ b) (plan_names plan)) }
     ensures short { IfOk result (λ plan. All (λ name. length name ≤ 240) (plan_names plan)) }
     ensures few { IfOk result (λ plan. length (plan_names plan) ≤ 4096) }
+    // What the readers give has a sound plan.
+    ensures sound { All IsSoundEntry entries.now → IsSoundSettings settings.now → IfOk result IsSound }
 {
     let groups = by_source(alloc, entries.as_slice())?;
     let drafts = drafts(alloc, groups.as_slice(), settings, picker)?;
     let files = files(alloc, drafts.as_slice())?;
     check_clashes(alloc, files.as_slice())?;
     check_count(files.as_slice())?;
+    files_below_are_sound();
     Ok(Plan {
         sources: sources(alloc, drafts.as_slice())?,
     })

@@ -1,5 +1,7 @@
 //! Expected names and orders are worked out by hand from sources.list(5) and the layout of a Debian archive.
-ghost use Rattle.std.specs.Prelude.{◌≡◌};
+ghost use Rattle.std.specs.Prelude.{◌≡◌, IfOk};
+ghost use Rattle.acq_base.specs.Plan.{IsSound};
+ghost use Rattle.acq_base.specs.Settings.{IsSound as IsSoundSettings};
 ghost use Rattle.kept_hooks.specs.Picking.{is_picked};
 
 use super::*;
@@ -8,7 +10,7 @@ use acq_base::{
     listed_words,
 };
 use kept_hooks::Picker;
-use source_lists::Entry;
+use source_lists::{Entry, read_list};
 use std::alloc::Global;
 use std::test::*;
 
@@ -228,6 +230,28 @@ fn planned(alloc: Global, entries: &Row<Entry>, pick: Pick) -> Result<Plan, Plan
     plan(alloc, entries, &settings, &Picker::new(test, pick))
 }
 
+/// The plan of a text's entries. A caller knows of it what the clauses of `read_list` and `plan` say together.
+fn plan_of_text(
+    alloc: Global,
+    text: &[u8],
+    settings: &Settings,
+    picker: &Picker,
+) -> Result<Plan, PlanError>
+    ensures { IsSoundSettings settings.now → IfOk result IsSound }
+{
+    let name = Text::from_bytes(alloc, b"sources.list")?;
+    match read_list(alloc, &name, text, &settings.arch) {
+        Ok(entries) => plan(alloc, &entries, settings, picker),
+        Err(_) => Err(PlanError::NoMemory),
+    }
+}
+
+fn read_and_planned(alloc: Global, text: &[u8], pick: Pick) -> Result<Plan, PlanError> {
+    let settings = settings(alloc, pick)?;
+    let test = Box::new(alloc, move |target: &Target| is_wanted(&pick, target))?;
+    plan_of_text(alloc, text, &settings, &Picker::new(test, pick))
+}
+
 const ALL: Pick = Pick {
     packages: true,
     sources: true,
@@ -273,4 +297,15 @@ fn entries_are_planned_in_order(rt: HostRuntime) {
         let told = told(alloc, &answer).expect(&rt, "memory");
         assert_eq!(rt; told.as_bytes(), expected.as_bytes(), "at {lines:?}");
     }
+}
+
+#[test]
+fn a_text_that_is_read_has_a_plan(rt: HostRuntime) {
+    let alloc = rt.alloc();
+    let answer = read_and_planned(alloc, b"deb [arch=x] http://m/d s a a ./a # b\n", ALL);
+    let told = told(alloc, &answer).expect(&rt, "memory");
+    assert_eq!(rt;
+        told.as_bytes(),
+        b"m_d_dists_s_Release m_d_dists_s_a_binary-x_Packages m_d_dists_s_a_i18n_Translation-en\n".as_slice()
+    );
 }

@@ -157,11 +157,11 @@ cleans-so true (n ∷ ns) before after h = record {
 
 -- ---- the plan's sources in any order
 
-each-mapped : {X Y : Type 0} (f : X → Y) (P : Y → Type 0) (xs : List X) → Each (λ x. P (f x)) xs → Each P (map f xs)
+pub each-mapped : {X Y : Type 0} (f : X → Y) (P : Y → Type 0) (xs : List X) → Each (λ x. P (f x)) xs → Each P (map f xs)
 each-mapped f P [] h = tt
 each-mapped f P (x ∷ xs) h = (h.0, each-mapped f P xs h.1)
 
-each-unmapped : {X Y : Type 0} (f : X → Y) (P : Y → Type 0) (xs : List X) → Each P (map f xs) → Each (λ x. P (f x)) xs
+pub each-unmapped : {X Y : Type 0} (f : X → Y) (P : Y → Type 0) (xs : List X) → Each P (map f xs) → Each (λ x. P (f x)) xs
 each-unmapped f P [] h = tt
 each-unmapped f P (x ∷ xs) h = (h.0, each-unmapped f P xs h.1)
 
@@ -176,7 +176,7 @@ from-mirror : (set_of : Source → Outcome) (P : Outcome → Source → Type 0) 
 from-mirror set_of P [] e h = tt
 from-mirror set_of P (s ∷ order) e h = (subst (λ o. P o s.0) (sym e.0) h.0, from-mirror set_of P order e.1 h.1)
 
-same-bools : (a b : Bool) → (a ≡ true → b ≡ true) → (b ≡ true → a ≡ true) → a ≡ b
+pub same-bools : (a b : Bool) → (a ≡ true → b ≡ true) → (b ≡ true → a ≡ true) → a ≡ b
 same-bools true true f g = refl
 same-bools true false f g = sym (f refl)
 same-bools false true f g = g refl

@@ -15,6 +15,7 @@ pub mod Names
 pub mod Asks
 pub mod Nexts
 pub mod Carried
+pub mod Commits
 pub mod Existence
 -- worked examples
 pub mod Sample

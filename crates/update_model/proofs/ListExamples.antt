@@ -64,6 +64,14 @@ hashed_first : asks [] [] (target_walk None 0 (list true (171 ∷ []))) ≡ hash
 unfolding by_hash_uri listed_sum encode_with
 hashed_first = refl
 
+hashed_absent : HasSum (codes "abc") 3 (171 ∷ []) → asks (serves (codes "abc")) [] (target_walk None 0 (list true (171 ∷ []))) ≡ hashed_from 0 ∷ plain_from 0 ∷ []
+unfolding by_hash_uri listed_sum encode_with
+hashed_absent has = rw has refl
+
+hashed_absent_file : HasSum (codes "abc") 3 (171 ∷ []) → obtain (serves (codes "abc")) None [] (list true (171 ∷ [])) ≡ Got (Bytes (codes "abc"))
+unfolding by_hash_uri listed_sum encode_with
+hashed_absent_file has = rw has refl
+
 -- ---- partial files
 
 resumed : (digest : List ℕ) → HasSum (codes "abc") 3 digest → asks (serves (codes "abc")) (codes "ab") (target_walk None 2 (list false digest)) ≡ plain_from 2 ∷ []

@@ -1,5 +1,5 @@
 -- Worked examples of patches, computed by the definitions. What the texts of an Index and of scripts say is a premise.
-use Rattle.std.proofs.Common.{◌≡◌, ℕ, List, [], ◌∷◌, ◌++◌, Bool, true, false, Some, refl, codes, Ok, Err}
+use Rattle.std.proofs.Common.{◌≡◌, ℕ, List, [], ◌∷◌, ◌++◌, Bool, true, false, Some, None, refl, codes, Ok, Err}
 use Rattle.acq_base.specs.Mirror.{World}
 use Rattle.acq_base.specs.Sum.{sum_of}
 use Rattle.acq_base.specs.declared.fetch.Answer.TheVariants as answers
@@ -10,7 +10,9 @@ use Rattle.ed_apply.specs.Edits.{applied}
 use Rattle.ed_apply.specs.declared.script.Script.{Script}
 use Rattle.pdiff_index.specs.Chain.{links, links_from}
 use Rattle.pdiff_index.specs.Index.{index_of}
-use Rattle.pdiff_index.specs.declared.error.NoChain.TheVariants.{Limit}
+use Rattle.pdiff_index.specs.declared.error.IndexError.{IndexError}
+use Rattle.pdiff_index.specs.declared.error.NoChain.{NoChain}
+use Rattle.pdiff_index.specs.declared.error.NoChain.TheVariants.{WrongCurrent, NoEntry, NoPatch, Limit}
 use Rattle.pdiff_index.specs.declared.index.Index.{Index}
 use Rattle.pdiff_index.specs.declared.index.Step.{Step}
 use Rattle.release_file.specs.Release.{listed_sum, same_sum}
@@ -61,6 +63,18 @@ one_by_one = refl
 at_once : links (history true) have grown.sum 100 200 ≡ Ok (p1 ∷ [])
 unfolding links links_from
 at_once = refl
+
+another_current : links (history false) have have 100 200 ≡ Err WrongCurrent
+unfolding links links_from
+another_current = refl
+
+no_entry : links (history false) (sum_as 5 (5 ∷ [])) grown.sum 100 200 ≡ Err NoEntry
+unfolding links links_from
+no_entry = refl
+
+no_patch : links (record (history false) { patches = p1 ∷ [] }) have grown.sum 100 200 ≡ Err (NoPatch (codes "p2"))
+unfolding links links_from
+no_patch = refl
 
 -- 18 bytes are more than 12 times 100 percent
 past_the_limit : links (history false) have grown.sum 100 100 ≡ Err Limit
@@ -122,15 +136,44 @@ wrong_patch_asks : (file middle : List ℕ) (index : Index) (a : Script)
 unfolding by_hash_uri listed_sum
 wrong_patch_asks file middle index a h1 h2 h3 h4 h5 h6 h7 h8 = rw h1 (rw h2 (rw h3 (rw h4 (rw h5 (rw h6 (rw h7 (rw h8 refl)))))))
 
--- a chain past a limit costs the Index alone
-limit_asks : (file : List ℕ) (index : Index)
+-- an Index that isn't there, or is none, costs itself alone, and so does one without a chain, whatever the cause
+absent_index : (file : List ℕ) → same_sum (sum_of file) grown.sum ≡ false → asks [] [] (target_walk (Some file) 0 grown) ≡ index_ask ∷ plain_from 0 ∷ []
+unfolding by_hash_uri listed_sum
+absent_index file h1 = rw h1 refl
+
+no_index : (file : List ℕ) (why : IndexError)
+    → same_sum (sum_of file) grown.sum ≡ false
+    → same_sum (sum_of index_text) (sum_as 7 (1 ∷ [])) ≡ true
+    → index_of index_text ≡ Err why
+    → asks mirror [] (target_walk (Some file) 0 grown) ≡ index_ask ∷ plain_from 0 ∷ []
+unfolding by_hash_uri listed_sum
+no_index file why h1 h2 h3 = rw h1 (rw h2 (rw h3 refl))
+
+no_chain : (file : List ℕ) (index : Index) (why : NoChain)
     → same_sum (sum_of file) grown.sum ≡ false
     → same_sum (sum_of index_text) (sum_as 7 (1 ∷ [])) ≡ true
     → index_of index_text ≡ Ok index
-    → links index (sum_of file) grown.sum 100 200 ≡ Err Limit
+    → links index (sum_of file) grown.sum 100 200 ≡ Err why
     → asks mirror [] (target_walk (Some file) 0 grown) ≡ index_ask ∷ plain_from 0 ∷ []
 unfolding by_hash_uri listed_sum
-limit_asks file index h1 h2 h3 h4 = rw h1 (rw h2 (rw h3 (rw h4 refl)))
+no_chain file index why h1 h2 h3 h4 = rw h1 (rw h2 (rw h3 (rw h4 refl)))
+
+-- a patch that doesn't apply is the last of them
+outside_patch : (file : List ℕ) (index : Index) (a : Script)
+    → same_sum (sum_of file) grown.sum ≡ false
+    → same_sum (sum_of index_text) (sum_as 7 (1 ∷ [])) ≡ true
+    → index_of index_text ≡ Ok index
+    → links index (sum_of file) grown.sum 100 200 ≡ Ok (p1 ∷ p2 ∷ [])
+    → same_sum (sum_of p1_text) p1.sum ≡ true
+    → script_of p1_text ≡ Ok a → applied file a ≡ None
+    → asks mirror [] (target_walk (Some file) 0 grown) ≡ index_ask ∷ p1_ask ∷ plain_from 0 ∷ []
+unfolding by_hash_uri listed_sum
+outside_patch file index a h1 h2 h3 h4 h5 h6 h7 = rw h1 (rw h2 (rw h3 (rw h4 (rw h5 (rw h6 (rw h7 refl))))))
+
+-- where no list is installed, no Index is asked
+not_installed : asks mirror [] (target_walk None 0 grown) ≡ plain_from 0 ∷ []
+unfolding by_hash_uri listed_sum
+not_installed = refl
 
 -- merged patches: one leads to the list
 merged_file : (file last : List ℕ) (index : Index) (a : Script)

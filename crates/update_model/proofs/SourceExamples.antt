@@ -1,20 +1,23 @@
 -- Worked examples of Releases, outcomes and commits, computed by the definitions. What the text of a Release says is a
 -- premise.
-use Rattle.std.proofs.Common.{◌≡◌, ℕ, ℤ, pos, zero, suc, ◌+◌, List, [], ◌∷◌, map, true, false, Some, None, refl, codes, Ok, Err}
+use Rattle.std.proofs.Common.{◌≡◌, ℕ, ℤ, pos, zero, suc, ◌+◌, nat_le, List, [], ◌∷◌, length, map, true, false, Some, None, refl, codes, Ok, Err}
 use Rattle.acq_base.specs.Mirror.{World}
+use Rattle.acq_base.specs.Sum.{sum_of}
 use Rattle.acq_base.specs.declared.fetch.Answer.TheVariants as answers
 use Rattle.acq_base.specs.declared.plan.Source.{Source}
+use Rattle.acq_base.specs.declared.settings.Settings.{Settings}
 use Rattle.acq_base.specs.declared.uri.Scheme.TheVariants.{File}
 use Rattle.acq_base.specs.declared.uri.Uri.{Uri}
+use Rattle.by_hash.specs.Candidates.{by_hash_uri}
 use Rattle.release_file.specs.Changes.{first_refused}
 use Rattle.release_file.specs.Dates.{judged, judged_end, judged_date, judged_age, end_of_validity, at_least, at_most}
-use Rattle.release_file.specs.Release.{release_of}
+use Rattle.release_file.specs.Release.{release_of, listed_sum, same_sum}
 use Rattle.release_file.specs.declared.changing.Change.{Change}
 use Rattle.release_file.specs.declared.changing.HeadField.TheVariants.{Origin}
 use Rattle.release_file.specs.declared.error.ReleaseError.TheVariants.{BadFrame}
 use Rattle.release_file.specs.declared.release.Release.{Release}
 use Rattle.update_model.specs.Next.{commits, Installs, CleansUp}
-use Rattle.update_model.specs.Outcomes.{Admitted, Outcome, Older, Kept, Directory, outcome}
+use Rattle.update_model.specs.Outcomes.{Admitted, Outcome, Older, Kept, Directory, outcome, new_set}
 use Rattle.update_model.specs.Releases.{obtain_release}
 use Rattle.update_model.specs.Trails.{Told}
 use Rattle.update_model.specs.Walks.{IsRoute, release_walk, whole_ask}
@@ -25,7 +28,7 @@ use Rattle.update_model.specs.declared.ask.Ending.{Ending}
 use Rattle.update_model.specs.declared.ask.Ending.TheVariants as endings
 use Rattle.update_model.specs.declared.cause.Cause.TheVariants as causes
 use Rattle.update_model.specs.declared.end.End.TheVariants.{Got, Ended}
-use Rattle.update_model.proofs.Sample.{at, source, settings, release, asks}
+use Rattle.update_model.proofs.Sample.{at, source, settings, release, sum_as, serves, asks}
 
 abbrev no_change : Change
 no_change = record { origin = false; label = false; suite = false; codename = false }
@@ -81,6 +84,14 @@ in_release_first text other is = rw is refl
 in_release_alone : map (λ a. a.0) (asks ((in_release, answers.Served (codes "x")) ∷ (source.release, answers.Served (codes "y")) ∷ []) [] (release_walk source)) ≡ codes "/d/dists/s/InRelease" ∷ []
 in_release_alone = refl
 
+-- a Release in a frame makes the new set, with its frame, beside the list that it names
+framed_set : (b : List ℕ) (digest : List ℕ) → nat_le (length b) 16777216 ≡ true → release_of b ≡ Ok (release false 3 digest)
+    → same_sum (sum_of (codes "abc")) (sum_as 3 digest) ≡ true
+    → new_set ((in_release, answers.Served b) ∷ serves (codes "abc")) (λ name. None) (λ name. []) source settings no_change (pos 1686387313)
+    ≡ Ok (record { bytes = b; release = release false 3 digest })
+unfolding judged judged_end judged_date judged_age end_of_validity at_least at_most by_hash_uri listed_sum
+framed_set b digest fits is has = rw fits (rw is (rw has refl))
+
 -- a frame that is refused is a cause: at no line where it has no end, and at the line of a text line `-x`
 bad_frame : (b : List ℕ) (line : ℕ) (now : ℤ) → release_of b ≡ Err (BadFrame line) → outcome (Got (Bytes b)) [] None settings no_change now ≡ Err (Kept (causes.BadRelease 33 line))
 bad_frame b line now is = rw is refl
@@ -126,6 +137,40 @@ at_the_end b is = rw is refl
 past_the_end : (b : List ℕ) → release_of b ≡ Ok limited → outcome (Got (Bytes b)) [] None settings no_change (pos 1686992014) ≡ Err (Kept (causes.Expired (pos 1686992013)))
 unfolding judged judged_end judged_date judged_age end_of_validity at_least at_most
 past_the_end b is = rw is refl
+
+-- the date and a greatest time of a day make an earlier end, the date and a least time of two weeks a later one
+abbrev with_times : ℕ → ℕ → Settings
+with_times min max = record settings { dates = record { min = min; max = max; future = 10 } }
+
+at_the_greatest : (b : List ℕ) → release_of b ≡ Ok limited
+    → outcome (Got (Bytes b)) [] None (with_times 0 86400) no_change (pos 1686473613) ≡ Ok (record { bytes = b; release = limited })
+unfolding judged judged_end judged_date judged_age end_of_validity at_least at_most
+at_the_greatest b is = rw is refl
+
+past_the_greatest : (b : List ℕ) → release_of b ≡ Ok limited
+    → outcome (Got (Bytes b)) [] None (with_times 0 86400) no_change (pos 1686473614) ≡ Err (Kept (causes.Expired (pos 1686473613)))
+unfolding judged judged_end judged_date judged_age end_of_validity at_least at_most
+past_the_greatest b is = rw is refl
+
+at_the_least : (b : List ℕ) → release_of b ≡ Ok limited
+    → outcome (Got (Bytes b)) [] None (with_times 1209600 0) no_change (pos 1687596813) ≡ Ok (record { bytes = b; release = limited })
+unfolding judged judged_end judged_date judged_age end_of_validity at_least at_most
+at_the_least b is = rw is refl
+
+past_the_least : (b : List ℕ) → release_of b ≡ Ok limited
+    → outcome (Got (Bytes b)) [] None (with_times 1209600 0) no_change (pos 1687596814) ≡ Err (Kept (causes.Expired (pos 1687596813)))
+unfolding judged judged_end judged_date judged_age end_of_validity at_least at_most
+past_the_least b is = rw is refl
+
+-- ten seconds ahead of the moment are allowed
+just_ahead : (b : List ℕ) → release_of b ≡ Ok plain → outcome (Got (Bytes b)) [] None settings no_change (pos 1686387203) ≡ Ok (record { bytes = b; release = plain })
+unfolding judged judged_end judged_date judged_age end_of_validity at_least at_most
+just_ahead b is = rw is refl
+
+too_far_ahead : (b : List ℕ) → release_of b ≡ Ok plain
+    → outcome (Got (Bytes b)) [] None settings no_change (pos 1686387202) ≡ Err (Kept (causes.Future (pos 1686387213)))
+unfolding judged judged_end judged_date judged_age end_of_validity at_least at_most
+too_far_ahead b is = rw is refl
 
 -- one second older than the installed one
 older : (b old : List ℕ) → release_of b ≡ Ok (record plain { date = pos 1686387212 }) → release_of old ≡ Ok plain

@@ -1,5 +1,5 @@
 -- What the commits of a run make of the folder of lists, one after another.
-use Rattle.std.specs.Prelude.{◌≡◌, ◌≢◌, ◌↔◌, ℕ, ℤ, List, [], ◌∷◌, map, AllPairs, Contains, None}
+use Rattle.std.specs.Prelude.{◌≡◌, ◌≢◌, ◌↔◌, ◌≤◌, ℕ, ℤ, Bool, true, false, List, [], ◌∷◌, length, map, AllPairs, Contains, None}
 use Rattle.std.specs.List.{flat_map, AllByRecursion as Each}
 use Rattle.acq_base.specs.Mirror.{World}
 use Rattle.acq_base.specs.Plan.{IsSound, names_of, plan_names}
@@ -7,7 +7,7 @@ use Rattle.acq_base.specs.declared.plan.Plan.{Plan}
 use Rattle.acq_base.specs.declared.plan.Source.{Source}
 use Rattle.acq_base.specs.declared.settings.Settings.{Settings}
 use Rattle.release_file.specs.declared.changing.Change.{Change}
-use Rattle.update_model.specs.Next.{Holds, Deed, Installs, CleansUp, deeds, IsNext}
+use Rattle.update_model.specs.Next.{Holds, Deed, Installs, CleansUp, deeds, commits, IsNext}
 use Rattle.update_model.specs.Outcomes.{Outcome, Directory, Parts, new_set}
 
 -- nothing changes under other names
@@ -23,6 +23,15 @@ Does (CleansUp names) before after = ((name : List ℕ) → Contains names name 
 abbrev pub Carried : List Deed → Directory → Directory → Type 0
 Carried [] before after = (name : List ℕ) → after name ≡ before name
 Carried (d ∷ ds) before after = (between : Directory) × Does d before between × Carried ds between after
+
+-- what commits make of it one after another, each of all its groups
+abbrev pub Committed : List (List Deed) → Directory → Directory → Type 0
+Committed [] before after = (name : List ℕ) → after name ≡ before name
+Committed (c ∷ cs) before after = (between : Directory) × Carried c before between × Committed cs between after
+
+-- the deeds of commits in order
+abbrev pub all_deeds : List (List Deed) → List Deed
+all_deeds commits = flat_map (λ deeds. deeds) commits
 
 abbrev pub sources_of : List (Source × Outcome) → List Source
 sources_of order = map (λ s. s.0) order
@@ -48,6 +57,31 @@ DeedsLeadToNext =
     (order : List (Source × Outcome)) (loose : List (List ℕ)) (after : Directory)
     → AreSettled world dir parts plan settings change now order → AreLoose dir plan loose
     → Carried (deeds dir settings loose order) dir after
+    → IsNext world dir parts plan settings change now after
+
+-- the commits of a run do the same, whether they are made one by one in the order of settling or together in plan order
+abbrev pub CommitsDoTheSame : Type 0
+CommitsDoTheSame =
+    (dir : Directory) (settings : Settings) (loose : List (List ℕ)) (settled planned : List (Source × Outcome))
+    → ((s : Source × Outcome) → Contains settled s ↔ Contains planned s)
+    → (deed : Deed)
+    → Contains (all_deeds (commits false dir settings loose settled planned)) deed
+    ↔ Contains (all_deeds (commits true dir settings loose settled planned)) deed
+
+-- together they are one commit, or none where there is nothing to do
+abbrev pub TogetherIsOneCommit : Type 0
+TogetherIsOneCommit =
+    (dir : Directory) (settings : Settings) (loose : List (List ℕ)) (settled planned : List (Source × Outcome))
+    → length (commits true dir settings loose settled planned) ≤ 1
+
+-- and in either form they leave what is next
+abbrev pub CommitsLeadToNext : Type 0
+CommitsLeadToNext =
+    (together : Bool) (world : World) (dir : Directory) (parts : Parts) (plan : Plan) (settings : Settings) (change : Change) (now : ℤ)
+    (settled planned : List (Source × Outcome)) (loose : List (List ℕ)) (after : Directory)
+    → AreSettled world dir parts plan settings change now settled → AreSettled world dir parts plan settings change now planned
+    → AreLoose dir plan loose
+    → Committed (commits together dir settings loose settled planned) dir after
     → IsNext world dir parts plan settings change now after
 
 -- a sound plan has a directory that is next

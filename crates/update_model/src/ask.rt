@@ -54,6 +54,31 @@ pub enum Ending {
     Dead { lane: u32, before: u64, after: u64 },
 }
 
+impl TryCopy for Body {
+    fn copy(&self, alloc: Global) -> Result<Body, NoMemory> {
+        Ok(match self {
+            Body::Bytes(bytes) => Body::Bytes(bytes.copy(alloc)?),
+            Body::Staged(sum) => Body::Staged(*sum),
+        })
+    }
+}
+
+impl TryCopy for Closed {
+    fn copy(&self, alloc: Global) -> Result<Closed, NoMemory> {
+        Ok(match self {
+            Closed::Served(body) => Closed::Served(body.copy(alloc)?),
+            Closed::Moved(place) => Closed::Moved(place.copy(alloc)?),
+            Closed::Absent(status) => Closed::Absent(*status),
+            Closed::TooBig => Closed::TooBig,
+            Closed::Garbled(at) => Closed::Garbled(*at),
+            Closed::Fault { before, after } => Closed::Fault {
+                before: *before,
+                after: *after,
+            },
+        })
+    }
+}
+
 impl TryCopy for Ask {
     fn copy(&self, alloc: Global) -> Result<Ask, NoMemory> {
         Ok(Ask {

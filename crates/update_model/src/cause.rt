@@ -1,8 +1,9 @@
 //! Why a source keeps its set.
 
-use acq_base::{Sum, Text};
+use acq_base::{NoMemory, Sum, Text, TryCopy};
 use hash_gate::Verdict;
 use release_file::{Head, HeadField};
+use std::alloc::Global;
 
 /// Why a source keeps its former set of lists. A path is the list's below the Release's folder, or `Release`.
 #[derive(Debug, PartialEq, Drop)]
@@ -51,4 +52,49 @@ pub enum Cause {
         new: Head,
         field: HeadField,
     },
+}
+
+impl TryCopy for Cause {
+    fn copy(&self, alloc: Global) -> Result<Cause, NoMemory> {
+        Ok(match self {
+            Cause::NoRelease(status) => Cause::NoRelease(*status),
+            Cause::Redirects(path) => Cause::Redirects(path.copy(alloc)?),
+            Cause::BadRelease { number, line } => Cause::BadRelease {
+                number: *number,
+                line: *line,
+            },
+            Cause::Expired(end) => Cause::Expired(*end),
+            Cause::Future(date) => Cause::Future(*date),
+            Cause::TooBig(limit) => Cause::TooBig(*limit),
+            Cause::Missing { path, status } => Cause::Missing {
+                path: path.copy(alloc)?,
+                status: *status,
+            },
+            Cause::Differs { path, wanted, got } => Cause::Differs {
+                path: path.copy(alloc)?,
+                wanted: *wanted,
+                got: *got,
+            },
+            Cause::Garbled { path, at } => Cause::Garbled {
+                path: path.copy(alloc)?,
+                at: *at,
+            },
+            Cause::Method {
+                path,
+                lane,
+                before,
+                after,
+            } => Cause::Method {
+                path: path.copy(alloc)?,
+                lane: *lane,
+                before: *before,
+                after: *after,
+            },
+            Cause::Changed { old, new, field } => Cause::Changed {
+                old: old.copy(alloc)?,
+                new: new.copy(alloc)?,
+                field: *field,
+            },
+        })
+    }
 }

@@ -2,7 +2,7 @@
 
 ghost use Rattle.std.specs.Prelude.{codes, IsTrue};
 ghost use Rattle.pdiff_index.specs.Index.{is_name};
-ghost use Rattle.update_model.specs.Carried.{DeedsLeadToNext, NextIsThere};
+ghost use Rattle.update_model.specs.Carried.{DeedsLeadToNext, NextIsThere, CommitsDoTheSame, TogetherIsOneCommit, CommitsLeadToNext};
 ghost use Rattle.update_model.specs.Faults as fault;
 ghost use Rattle.update_model.specs.Laws as law;
 
@@ -98,6 +98,14 @@ pub fn held_sets_are_found()
 /// What is done for the sources of a plan, in any order, and the clean-up behind it leave what is next.
 pub fn deeds_lead_to_next()
     ensures { DeedsLeadToNext }
+{}
+
+/// The commits of a run do the same for its sources whether they are made one by one or together, and together they are
+/// at most one. In either form they leave what is next.
+pub fn commits_lead_to_next()
+    ensures same { CommitsDoTheSame }
+    ensures once { TogetherIsOneCommit }
+    ensures next { CommitsLeadToNext }
 {}
 
 /// A sound plan has a directory that is next, whatever the mirror holds and whatever is installed.

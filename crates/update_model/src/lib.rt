@@ -9,12 +9,13 @@ pub use ask::{Ask, Body, Closed, Ending};
 pub use cause::Cause;
 pub use end::End;
 pub use laws::{
-    deeds_lead_to_next, faults_change_no_file, held_sets_are_found, new_sets_are_admissible,
-    next_is_there, nexts_are_alike, obtained_files_fit, patches_lie_at_sound_uris,
-    routes_ask_little, routes_end_as_listed, routes_end_as_obtained, routes_make_new_sets,
-    runs_stand_in_routes,
+    commits_lead_to_next, deeds_lead_to_next, faults_change_no_file, held_sets_are_found,
+    new_sets_are_admissible, next_is_there, nexts_are_alike, obtained_files_fit,
+    patches_lie_at_sound_uris, routes_ask_little, routes_end_as_listed, routes_end_as_obtained,
+    routes_make_new_sets, runs_stand_in_routes,
 };
-pub use log::{Asked, Heard};
+pub use log::{Asked, Heard, RunLog};
+pub use settled::{Held, Settled, Verdict2};
 pub use wanted::Wanted;
 
 mod ask;
@@ -22,4 +23,5 @@ mod cause;
 mod end;
 mod laws;
 mod log;
+mod settled;
 mod wanted;

@@ -1,6 +1,8 @@
-//! What the log keeps of asks.
+//! What a run tells: of each ask, and in the end of all.
 
-use acq_base::{Sum, Text, Uri};
+use crate::Verdict2;
+use acq_base::{ListName, NoMemory, Row, Sum, Text, TryCopy, Uri};
+use std::alloc::Global;
 
 /// An answer as the log keeps it.
 #[derive(Debug, PartialEq, Drop)]
@@ -32,4 +34,46 @@ pub struct Asked {
     /// The number of the method that answered.
     pub lane: u32,
     pub heard: Heard,
+}
+
+/// What a run tells.
+#[derive(Debug, PartialEq, Drop)]
+pub struct RunLog {
+    /// What each source came to, in plan order.
+    pub verdicts: Row<Verdict2>,
+    /// The places of the sources in the plan, in the order in which they were settled.
+    pub settled: Row<u32>,
+    /// All asks with their answers, in the order in which these came.
+    pub asks: Row<Asked>,
+    /// The lists that the clean-up removed, partial files left out.
+    pub removed: Row<ListName>,
+}
+
+impl TryCopy for Heard {
+    fn copy(&self, alloc: Global) -> Result<Heard, NoMemory> {
+        Ok(match self {
+            Heard::Served(sum) => Heard::Served(*sum),
+            Heard::Moved(place) => Heard::Moved(place.copy(alloc)?),
+            Heard::Absent(status) => Heard::Absent(*status),
+            Heard::TooBig => Heard::TooBig,
+            Heard::Garbled(at) => Heard::Garbled(*at),
+            Heard::Fault { before, after } => Heard::Fault {
+                before: *before,
+                after: *after,
+            },
+        })
+    }
+}
+
+impl TryCopy for Asked {
+    fn copy(&self, alloc: Global) -> Result<Asked, NoMemory> {
+        Ok(Asked {
+            source: self.source,
+            path: self.path.copy(alloc)?,
+            uri: self.uri.copy(alloc)?,
+            from: self.from,
+            lane: self.lane,
+            heard: self.heard.copy(alloc)?,
+        })
+    }
 }

@@ -13,3 +13,4 @@ pub mod ListNames
 pub mod SameName
 pub mod TextOf
 pub mod ReadsBack
+pub mod NamedSound

@@ -1,7 +1,8 @@
 //! What lies below a base, dot segments removed. It may take memory, and touches nothing else.
-ghost use Rattle.std.specs.Prelude.{◌≡◌, ◌+◌, ◌≤◌, ◌++◌, ◌||◌, IfOk, OnOk, length, map};
+ghost use Rattle.std.specs.Prelude.{◌≡◌, ℕ, List, ◌+◌, ◌≤◌, ◌++◌, ◌||◌, IfOk, OnOk, length, map};
 ghost use Rattle.std.specs.List.{slice_split};
-ghost use Rattle.acq_base.specs.Uri.{uri_text, IsSound};
+ghost use Rattle.acq_base.specs.Uri.{uri_text, list_name, IsSound};
+ghost use Rattle.acq_base.specs.declared.uri.Uri.{Uri};
 ghost use Rattle.uri_names.specs.DotSegments.{IsWithoutDots};
 ghost use Rattle.uri_names.specs.Folder as spec;
 ghost use Rattle.uri_names.specs.Normal.{IsBase, IsNormal};
@@ -26,6 +27,13 @@ pub fn below(alloc: Global, base: &Uri, path: &[u8]) -> Result<Uri, NoMemory>
 {
     appended(alloc, base, path)
 }
+
+/// What lies below a sound base is sound, where its path has such characters and its list name isn't too long: what
+/// `below` gives, said for all bases and paths at once.
+pub fn files_below_are_sound()
+    ensures { (base : Uri) (path : List ℕ) → IsSound base → spec.AreBelowCharacters path
+        → length (list_name (spec.below_of base path)) ≤ 16377 → IsSound (spec.below_of base path) }
+{}
 
 #[tactic(auto, unfolding(crate::specs::Folder::below_of))]
 fn appended(alloc: Global, base: &Uri, path: &[u8]) -> Result<Uri, NoMemory>

@@ -6,7 +6,7 @@
 #![tactic(auto)]
 
 pub use error::UriError;
-pub use folder::below;
+pub use folder::{below, files_below_are_sound};
 pub use names::{host_key, list_name, names_are_apart, uri_text};
 pub use reading::{read_base, read_uri};
 pub use redirect::resolve;

@@ -10,6 +10,7 @@ use std::test::Fail;
 enum Call {
     /// One byte.
     Write(u8, u64, u8),
+    WriteTwo(u8, u64, [u8; 2]),
     Cut(u8, u64),
     Sync(u8),
     Rename(u8, u8),
@@ -21,6 +22,7 @@ enum Call {
 fn make<D: Disk>(disk: &mut D, call: Call) -> Result<(), Fault> {
     match call {
         Call::Write(name, at, byte) => write(disk, &[name], at, &[byte]),
+        Call::WriteTwo(name, at, bytes) => write(disk, &[name], at, &bytes),
         Call::Cut(name, len) => cut(disk, &[name], len),
         Call::Sync(name) => sync(disk, &[name]),
         Call::Rename(from, to) => rename(disk, &[from], &[to]),
@@ -157,11 +159,17 @@ fn a_crash_leaves_just_the_images_that_are_listed(rt: HostRuntime) -> Result<(),
     let alloc = rt.alloc();
     let write = Call::Write(b'a', 0, b'X');
     // How many bytes of a choice a crash reads at most, the calls, and what it may leave.
-    let table: [(u16, &[Call], &[u8]); 19] = [
+    let table: [(u16, &[Call], &[u8]); 20] = [
         (6, &[], b"a=old;"),
         // The byte that is written may be any until the file is synced.
         (6, &[write], b"a=\0ld;|a=\x01ld;"),
         (6, &[write, Call::Sync(b'a')], b"a=Xld;"),
+        // Of two bytes over two others each may be any, also where only one of them is written: torn in the middle.
+        (
+            6,
+            &[Call::WriteTwo(b'a', 1, *b"XY")],
+            b"a=o\0\0;|a=o\0\x01;|a=o\x01\0;|a=o\x01\x01;",
+        ),
         // One behind the end may be there or not.
         (
             8,

@@ -54,7 +54,7 @@ fn ends_with_105_where_the_output_fails(rt: HostRuntime) -> Result<(), Fail> {
 fn refuses_other_words_and_touches_nothing(rt: HostRuntime) -> Result<(), Fail> {
     let alloc = rt.alloc();
     let mirror = mirror(alloc, GOOD.release, GOOD.list)?;
-    let mut methods = vec![in alloc; MapMethod::new(mirror, Row::new(alloc))]?;
+    let mut methods = vec![in alloc; MapMethod::new(mirror, Row::new(alloc), Row::new(alloc))]?;
     let mut disk = MemDisk::new(alloc, Row::new(alloc), false, only(alloc, 1)?)?;
     let mut etc = MemEtc::new(Row::new(alloc), Row::new(alloc));
     let mut clock = FixedClock::new(MOMENT);

@@ -3,7 +3,7 @@ use crate::tests::objects::{disk_of, only, words};
 use crate::tests::running::run;
 use crate::{Status, update_call};
 use acq_base::{Job, Reply, Row};
-use acq_outside::{FixedClock, MemEtc, MemSink, Method};
+use acq_outside::{FixedClock, MemEtc, MemSink, Method, Word};
 use std::alloc::Global;
 use std::test::Fail;
 
@@ -69,12 +69,18 @@ impl Method for Garbling {
 
     ghost world = { λ _. None };
 
+    ghost under = { λ _. None };
+
     fn faults(&self) -> u64 {
         0
     }
 
-    fn fetch(&mut self, _alloc: Global, _job: &Job) -> Reply {
-        Reply::Garbled(7)
+    fn begin(&mut self, _alloc: Global, _job: &Job) -> Word {
+        Word::Other(Reply::Garbled(7))
+    }
+
+    fn more(&mut self, _alloc: Global) -> Word {
+        Word::Other(Reply::Garbled(7))
     }
 }
 

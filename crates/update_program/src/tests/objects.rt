@@ -104,5 +104,6 @@ pub fn disk_of<R: AllocGlobal + Abort>(rt: &R, case: &Case) -> Result<MemDisk, F
 /// The method that gives the case's mirror.
 pub fn method_of(alloc: Global, case: &Case) -> Result<MapMethod, NoMemory> {
     let mirror = mirror(alloc, case.release, case.list)?;
-    Ok(MapMethod::new(mirror, only(alloc, case.failing.0)?))
+    let failing = only(alloc, case.failing.0)?;
+    Ok(MapMethod::new(mirror, failing, Row::new(alloc)))
 }

@@ -1,8 +1,7 @@
 use Rattle.std.proofs.Common.{◌≡◌, ◌++◌, map, take}
-use Rattle.std.specs.List.{flat_map}
-use Rattle.target_plan.specs.Offers.{packages_offers}
-use Rattle.target_plan.specs.Seen.{seen_mention}
+use Rattle.target_plan.specs.Offers.{packages_of}
+use Rattle.target_plan.specs.Seen.{seen_asked}
 use Rattle.target_plan.proofs.offers.all_packages.Given as goal
 
-abbrev pub invariant-loop-mention : goal.invariant-loop-mention
-invariant-loop-mention l = l.offers.items ≡ l.fn.offers.items ++ flat_map (λ mention. packages_offers l.settings l.component mention.1) (map seen_mention (take l.mention-index l.mentions))
+abbrev pub invariant-loop-asked : goal.invariant-loop-asked
+invariant-loop-asked l = l.offers.items ≡ l.fn.offers.items ++ map (λ a. packages_of l.component a.1 a.0) (map seen_asked (take l.asked-index l.asked-items))

@@ -1,5 +1,4 @@
 use Rattle.std.proofs.Common.{◌≡◌, ◌∙◌, List, ◌++◌, map, ap, append_assoc}
-use Rattle.std.specs.List.{flat_map}
 use Rattle.target_plan.specs.Offers.{component_offers, packages_offers, sources_offers, translation_offers}
 use Rattle.target_plan.specs.Seen.{seen_mention}
 use Rattle.target_plan.proofs.offers.component_offers.Goals as goal
@@ -14,6 +13,6 @@ returns c =
     let settings = c.args.settings.now in
     let component = c.as_bytes-component.ensures in
     three_more _ _ _ _ _ _ _
-    (c.in_ok-all_packages.ensures ∙ (λ i. c.args.offers.now.items ++ flat_map (λ mention. packages_offers settings (component i) mention.1) (map seen_mention (c.as_slice.ensures.value i))))
-    (c.in_ok-all_sources.ensures ∙ (λ i. c.all_packages.new.offers.items ++ flat_map (λ mention. sources_offers (component i) mention.1) (map seen_mention (c.as_slice-2.ensures.value i))))
-    (c.in_ok-all_translations.ensures ∙ (λ i. c.all_sources.new.offers.items ++ flat_map (λ mention. translation_offers settings (component i) mention.1) (map seen_mention (c.as_slice-3.ensures.value i))))
+    (c.in_ok-all_packages.ensures ∙ (λ i. c.args.offers.now.items ++ packages_offers settings (component i) (map seen_mention (c.as_slice.ensures.value i))))
+    (c.in_ok-all_sources.ensures ∙ (λ i. c.all_packages.new.offers.items ++ sources_offers (component i) (map seen_mention (c.as_slice-2.ensures.value i))))
+    (c.in_ok-all_translations.ensures ∙ (λ i. c.all_sources.new.offers.items ++ translation_offers settings (component i) (map seen_mention (c.as_slice-3.ensures.value i))))

@@ -1,0 +1,10 @@
+use Rattle.std.proofs.Common.{◌-◌, length}
+use Rattle.acq_outside.proofs.Joining.{IsJoined}
+use Rattle.acq_outside.proofs.method.Method.fetch.Given as goal
+
+-- the pieces so far, joined, are a front of the file
+abbrev pub invariant-loop-bytes : goal.invariant-loop-bytes
+invariant-loop-bytes g l = IsJoined (g.Self.Method.faults l.fn.self) (g.Self.Method.world l.fn.self) l.job l.joined (g.Self.Method.faults l.self) (g.Self.Method.world l.self) (g.Self.Method.under l.self)
+
+abbrev pub decreases-loop-bytes : goal.decreases-loop-bytes
+decreases-loop-bytes g l = l.job.max - length l.joined

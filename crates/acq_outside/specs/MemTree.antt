@@ -1,0 +1,10 @@
+-- What a tree in memory shows.
+use Rattle.acq_outside.specs.Tree.{TreeFiles}
+use Rattle.acq_outside.specs.declared.failing.Failing.{Failing}
+use Rattle.acq_outside.specs.declared.mem_tree.MemTree.{MemTree}
+
+abbrev pub files_of : MemTree → TreeFiles
+files_of tree = tree.files
+
+abbrev pub failing_of : MemTree → Failing
+failing_of tree = tree.failing

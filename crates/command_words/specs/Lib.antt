@@ -1,0 +1,2 @@
+-- Cited by the public clause: what the words of a command line ask for.
+pub mod Words

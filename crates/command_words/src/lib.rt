@@ -1,0 +1,14 @@
+//! The words of a command line, read by clap: `update` with its options, or `generate N`.
+//!
+//! Words are accepted exactly where the simple command that specs/ writes down takes them, by clap's own definition of
+//! what a command takes, and where N is a number.
+#![tactic(auto)]
+
+pub use reading::read_words;
+pub use request::{Options, Request};
+
+mod command;
+mod reading;
+mod request;
+#[cfg(test)]
+mod tests;

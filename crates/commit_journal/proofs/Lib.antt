@@ -1,0 +1,7 @@
+mod Recovers
+mod Carries
+mod Besides
+mod Looks
+mod Turns
+mod Finds
+mod Lists

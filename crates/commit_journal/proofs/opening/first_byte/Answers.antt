@@ -1,0 +1,5 @@
+use Rattle.journal_model.specs.Literals.{journal_named, beside_named}
+use Rattle.commit_journal.proofs.opening.first_byte.Goals as goal
+
+pub read_at-requires : goal.read_at-requires
+read_at-requires g c = journal_named _ c.as_slice.ensures

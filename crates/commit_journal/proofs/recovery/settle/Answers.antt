@@ -1,0 +1,9 @@
+use Rattle.journal_model.specs.Literals.{journal_named, beside_named}
+use Rattle.commit_journal.proofs.Carries.{settle_goes}
+use Rattle.commit_journal.proofs.recovery.settle.Goals as goal
+
+pub returns-clause-moments : goal.returns-clause-moments
+returns-clause-moments g c = (settle_goes c.args.steps.now _ _ c.sync_names.result (g.met.D.Disk.sound c.args.disk.now) c.requires c.sync_names.ensures.step).0
+
+pub returns-clause-done : goal.returns-clause-done
+returns-clause-done g c = (settle_goes c.args.steps.now _ _ c.sync_names.result (g.met.D.Disk.sound c.args.disk.now) c.requires c.sync_names.ensures.step).1

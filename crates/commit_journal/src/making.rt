@@ -1,0 +1,112 @@
+//! A new journal is made beside one that isn't open, or where there is none. It is never written in place, since a byte
+//! that is being written may stand as 1 in what a crash leaves.
+ghost use Rattle.std.specs.Prelude.{◌≡◌, ◌≤◌, [], ◌∷◌, OnOk, OnErr, IsTrue};
+ghost use Rattle.acq_outside.specs.Count.{Rose};
+ghost use Rattle.acq_outside.specs.Disk.{after_cut, after_write, after_rename};
+ghost use Rattle.acq_outside.specs.Moments.{Stands, Since, From};
+ghost use Rattle.journal_model.specs.Names.{journal, beside};
+ghost use Rattle.journal_model.specs.Rest.{IsIdle};
+ghost use Rattle.commit_journal.specs.Opening.{Recovers};
+ghost use Rattle.commit_journal.specs.Phases.{IsUnset, IsBeside, LastsBeside, IsNamed, made_files};
+
+use acq_outside::{Disk, Fault};
+
+fn cut_beside<D: Disk>(disk: &mut D) -> Result<(), Fault>
+    requires { Stands IsUnset (D.trace disk.old) }
+    ensures count { D.faults disk.old ≤ D.faults disk.new }
+    ensures fault { OnErr result (Rose (D.faults disk.old) (D.faults disk.new)) }
+    ensures held { D.held disk.new ≡ D.held disk.old }
+    ensures telling { D.tells disk.new ≡ D.tells disk.old }
+    ensures moments { Since (D.trace disk.old) (D.trace disk.new) (From Recovers (D.trace disk.old)) }
+    ensures told { IsTrue (D.tells disk.old) → OnOk result (D.files disk.new ≡ after_cut (D.files disk.old) beside 0) }
+    ensures done { OnOk result (Stands (IsBeside []) (D.trace disk.new)) }
+{
+    disk.cut(b"partial/journal".as_slice(), 0)
+}
+
+fn write_beside<D: Disk>(disk: &mut D) -> Result<(), Fault>
+    requires { Stands (IsBeside []) (D.trace disk.old) }
+    ensures count { D.faults disk.old ≤ D.faults disk.new }
+    ensures fault { OnErr result (Rose (D.faults disk.old) (D.faults disk.new)) }
+    ensures held { D.held disk.new ≡ D.held disk.old }
+    ensures telling { D.tells disk.new ≡ D.tells disk.old }
+    ensures moments { Since (D.trace disk.old) (D.trace disk.new) (From Recovers (D.trace disk.old)) }
+    ensures told { IsTrue (D.tells disk.old) → OnOk result (D.files disk.new ≡ after_write (D.files disk.old) beside 0 (0 ∷ [])) }
+    ensures done { OnOk result (Stands (IsBeside (0 ∷ [])) (D.trace disk.new)) }
+{
+    disk.write_at(b"partial/journal".as_slice(), 0, &[0])
+}
+
+fn sync_beside<D: Disk>(disk: &mut D) -> Result<(), Fault>
+    requires { Stands (IsBeside (0 ∷ [])) (D.trace disk.old) }
+    ensures count { D.faults disk.old ≤ D.faults disk.new }
+    ensures fault { OnErr result (Rose (D.faults disk.old) (D.faults disk.new)) }
+    ensures held { D.held disk.new ≡ D.held disk.old }
+    ensures telling { D.tells disk.new ≡ D.tells disk.old }
+    ensures moments { Since (D.trace disk.old) (D.trace disk.new) (From Recovers (D.trace disk.old)) }
+    ensures same { D.files disk.new ≡ D.files disk.old }
+    ensures done { OnOk result (Stands LastsBeside (D.trace disk.new)) }
+{
+    disk.sync(b"partial/journal".as_slice())
+}
+
+/// Gives the new file the journal's name.
+fn name_it<D: Disk>(disk: &mut D) -> Result<(), Fault>
+    requires { Stands LastsBeside (D.trace disk.old) }
+    ensures count { D.faults disk.old ≤ D.faults disk.new }
+    ensures fault { OnErr result (Rose (D.faults disk.old) (D.faults disk.new)) }
+    ensures held { D.held disk.new ≡ D.held disk.old }
+    ensures telling { D.tells disk.new ≡ D.tells disk.old }
+    ensures moments { Since (D.trace disk.old) (D.trace disk.new) (From Recovers (D.trace disk.old)) }
+    ensures told { IsTrue (D.tells disk.old) → OnOk result (D.files disk.new ≡ after_rename (D.files disk.old) beside journal) }
+    ensures done { OnOk result (Stands IsNamed (D.trace disk.new)) }
+{
+    disk.rename(b"partial/journal".as_slice(), b"journal".as_slice())
+}
+
+fn name_lastingly<D: Disk>(disk: &mut D) -> Result<(), Fault>
+    requires { Stands IsNamed (D.trace disk.old) }
+    ensures count { D.faults disk.old ≤ D.faults disk.new }
+    ensures fault { OnErr result (Rose (D.faults disk.old) (D.faults disk.new)) }
+    ensures held { D.held disk.new ≡ D.held disk.old }
+    ensures telling { D.tells disk.new ≡ D.tells disk.old }
+    ensures moments { Since (D.trace disk.old) (D.trace disk.new) (From Recovers (D.trace disk.old)) }
+    ensures same { D.files disk.new ≡ D.files disk.old }
+    ensures done { OnOk result (Stands IsIdle (D.trace disk.new)) }
+{
+    disk.sync_names()
+}
+
+/// Makes the new file, with the gate closed.
+#[tactic(auto, using(crate::proofs::Recovers::onwards))]
+fn lay_beside<D: Disk>(disk: &mut D) -> Result<(), Fault>
+    requires { Stands IsUnset (D.trace disk.old) }
+    ensures count { D.faults disk.old ≤ D.faults disk.new }
+    ensures fault { OnErr result (Rose (D.faults disk.old) (D.faults disk.new)) }
+    ensures held { D.held disk.new ≡ D.held disk.old }
+    ensures telling { D.tells disk.new ≡ D.tells disk.old }
+    ensures moments { Since (D.trace disk.old) (D.trace disk.new) (From Recovers (D.trace disk.old)) }
+    ensures told { IsTrue (D.tells disk.old) → OnOk result (D.files disk.new ≡ after_write (after_cut (D.files disk.old) beside 0) beside 0 (0 ∷ [])) }
+    ensures done { OnOk result (Stands LastsBeside (D.trace disk.new)) }
+{
+    cut_beside(disk)?;
+    write_beside(disk)?;
+    sync_beside(disk)
+}
+
+/// Makes a new journal whose gate is closed.
+#[tactic(auto, using(crate::proofs::Recovers::onwards))]
+pub fn make_new<D: Disk>(disk: &mut D) -> Result<(), Fault>
+    requires { Stands IsUnset (D.trace disk.old) }
+    ensures count { D.faults disk.old ≤ D.faults disk.new }
+    ensures fault { OnErr result (Rose (D.faults disk.old) (D.faults disk.new)) }
+    ensures held { D.held disk.new ≡ D.held disk.old }
+    ensures telling { D.tells disk.new ≡ D.tells disk.old }
+    ensures moments { Since (D.trace disk.old) (D.trace disk.new) (From Recovers (D.trace disk.old)) }
+    ensures told { IsTrue (D.tells disk.old) → OnOk result (D.files disk.new ≡ made_files (D.files disk.old)) }
+    ensures done { OnOk result (Stands IsIdle (D.trace disk.new)) }
+{
+    lay_beside(disk)?;
+    name_it(disk)?;
+    name_lastingly(disk)
+}

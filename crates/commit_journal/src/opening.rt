@@ -1,0 +1,201 @@
+//! Opening a journal that a stop may have left in any state.
+ghost use Rattle.std.specs.Prelude.{◌≡◌, ◌≢◌, ◌≤◌, ℕ, [], IsTrue, IsErrOf, IfOk, OnOk, OnErr, Err, false};
+ghost use Rattle.acq_outside.specs.Count.{Rose};
+ghost use Rattle.acq_outside.specs.Moments.{Stands, Since, From};
+ghost use Rattle.journal_model.specs.Names.{journal};
+ghost use Rattle.journal_model.specs.Reading.{gate_in};
+ghost use Rattle.journal_model.specs.Rest.{IsIdle, IsSettled, IsAtRest};
+ghost use Rattle.journal_model.specs.Reopen.{reopened, lists_now};
+ghost use Rattle.commit_journal.specs.Opening.{Recovers, FindsDamage, damage_of, is_open};
+ghost use Rattle.commit_journal.specs.Phases.{IsUnmoved, IsLaid, IsFirst, IsFirstOf, NamesSteps};
+
+use crate::JournalError;
+use crate::making::make_new;
+use crate::recovery::recover;
+use acq_outside::{Disk, Fault, OutError, read_whole};
+use journal_model::{Gate, read_gate};
+use std::alloc::Global;
+
+/// A journal that is open for commits.
+#[derive(Debug, Drop)]
+pub struct Journal {}
+
+/// The first byte of a journal.
+#[derive(Clone, Copy, Debug, PartialEq, Eq)]
+pub enum First {
+    /// It is 0.
+    Closed,
+    /// It is 1.
+    Opened,
+    /// It is neither, or there is none.
+    Other,
+}
+
+/// Makes all names lasting.
+fn lay_names<D: Disk>(disk: &mut D) -> Result<(), Fault>
+    ensures count { D.faults disk.old ≤ D.faults disk.new }
+    ensures fault { OnErr result (Rose (D.faults disk.old) (D.faults disk.new)) }
+    ensures held { D.held disk.new ≡ D.held disk.old }
+    ensures telling { D.tells disk.new ≡ D.tells disk.old }
+    ensures same { D.files disk.new ≡ D.files disk.old }
+    ensures moments { Since (D.trace disk.old) (D.trace disk.new) (From Recovers (D.trace disk.old)) }
+    ensures done { OnOk result (Stands IsUnmoved (D.trace disk.new)) }
+{
+    disk.sync_names()
+}
+
+/// Makes what reads give of the journal lasting.
+fn lay_journal<D: Disk>(disk: &mut D) -> Result<(), Fault>
+    requires { Stands IsUnmoved (D.trace disk.old) }
+    ensures count { D.faults disk.old ≤ D.faults disk.new }
+    ensures fault { OnErr result (Rose (D.faults disk.old) (D.faults disk.new)) }
+    ensures held { D.held disk.new ≡ D.held disk.old }
+    ensures telling { D.tells disk.new ≡ D.tells disk.old }
+    ensures same { D.files disk.new ≡ D.files disk.old }
+    ensures moments { Since (D.trace disk.old) (D.trace disk.new) (From Recovers (D.trace disk.old)) }
+    ensures done { OnOk result (Stands IsLaid (D.trace disk.new)) }
+{
+    disk.sync(b"journal".as_slice())
+}
+
+#[tactic(auto, using(crate::proofs::Recovers::onwards))]
+fn lay<D: Disk>(disk: &mut D) -> Result<(), Fault>
+    ensures count { D.faults disk.old ≤ D.faults disk.new }
+    ensures fault { OnErr result (Rose (D.faults disk.old) (D.faults disk.new)) }
+    ensures held { D.held disk.new ≡ D.held disk.old }
+    ensures telling { D.tells disk.new ≡ D.tells disk.old }
+    ensures same { D.files disk.new ≡ D.files disk.old }
+    ensures moments { Since (D.trace disk.old) (D.trace disk.new) (From Recovers (D.trace disk.old)) }
+    ensures done { OnOk result (Stands IsLaid (D.trace disk.new)) }
+{
+    lay_names(disk)?;
+    lay_journal(disk)
+}
+
+/// The journal's first byte. It takes no memory.
+fn first_byte<D: Disk>(disk: &mut D) -> Result<First, Fault>
+    ensures count { D.faults disk.old ≤ D.faults disk.new }
+    ensures fault { OnErr result (Rose (D.faults disk.old) (D.faults disk.new)) }
+    ensures held { D.held disk.new ≡ D.held disk.old }
+    ensures telling { D.tells disk.new ≡ D.tells disk.old }
+    ensures same { D.files disk.new ≡ D.files disk.old }
+    ensures still { D.trace disk.new ≡ D.trace disk.old }
+    ensures told { IsTrue (D.tells disk.old) → IfOk result (λ first. IsFirst first (D.files disk.old journal)) }
+{
+    let mut gate = [7];
+    let n = disk.read_at(b"journal".as_slice(), 0, &mut gate)?;
+    Ok(first_of(n, gate[0]))
+}
+
+/// What a byte that was read says, or none.
+fn first_of(n: usize, gate: u8) -> First
+    ensures { IsFirstOf n gate result }
+{
+    if n == 0 {
+        return First::Other;
+    }
+    match gate {
+        0 => First::Closed,
+        1 => First::Opened,
+        _ => First::Other,
+    }
+}
+
+/// What the whole journal says.
+#[tactic(auto, using(crate::proofs::Turns::gate_named))]
+fn judge<D: Disk>(alloc: Global, disk: &mut D) -> Result<Gate, JournalError>
+    ensures count { D.faults disk.old ≤ D.faults disk.new }
+    ensures fault { IsErrOf result JournalError.DiskFault → Rose (D.faults disk.old) (D.faults disk.new) }
+    ensures held { D.held disk.new ≡ D.held disk.old }
+    ensures telling { D.tells disk.new ≡ D.tells disk.old }
+    ensures same { D.files disk.new ≡ D.files disk.old }
+    ensures still { D.trace disk.new ≡ D.trace disk.old }
+    ensures told { IsTrue (D.tells disk.old) → IfOk result (λ gate. gate ≡ gate_in (D.files disk.old journal)) }
+    ensures named { IfOk result NamesSteps }
+    ensures undamaged { (at : ℕ) → result ≢ Err (JournalError.BadJournal at) }
+{
+    match read_whole(alloc, disk, b"journal".as_slice()) {
+        Err(OutError::Fault) => Err(JournalError::DiskFault),
+        Err(OutError::NoMemory) => Err(JournalError::NoMemory),
+        Ok(None) => Ok(Gate::Shut),
+        Ok(Some(bytes)) => Ok(read_gate(alloc, bytes.as_slice())?),
+    }
+}
+
+/// What an open gate asks for.
+#[tactic(auto, using(crate::proofs::Recovers::onwards))]
+fn open_gate<D: Disk>(alloc: Global, disk: &mut D) -> Result<(), JournalError>
+    requires { Stands IsLaid (D.trace disk.old) }
+    ensures count { D.faults disk.old ≤ D.faults disk.new }
+    ensures fault { IsErrOf result JournalError.DiskFault → Rose (D.faults disk.old) (D.faults disk.new) }
+    ensures held { D.held disk.new ≡ D.held disk.old }
+    ensures telling { D.tells disk.new ≡ D.tells disk.old }
+    ensures moments { Since (D.trace disk.old) (D.trace disk.new) (From Recovers (D.trace disk.old)) }
+    ensures done { OnOk result (Stands IsIdle (D.trace disk.new)) }
+    ensures lists { IsTrue (D.tells disk.old) → OnOk result (reopened (D.files disk.new) ≡ reopened (D.files disk.old)) }
+    ensures damage { IsTrue (D.tells disk.old) → FindsDamage (damage_of (D.files disk.old)) result }
+    ensures unchanged { (at : ℕ) → result ≡ Err (JournalError.BadJournal at) → D.files disk.new ≡ D.files disk.old }
+{
+    let gate = judge(alloc, disk)?;
+    match gate {
+        Gate::Damaged(at) => Err(JournalError::BadJournal(at)),
+        Gate::Open(steps) => {
+            recover(disk, steps.as_slice())?;
+            Ok(())
+        }
+        Gate::Shut => {
+            make_new(disk)?;
+            Ok(())
+        }
+    }
+}
+
+/// Opens a journal, but for what follows from its moments.
+#[tactic(auto, using(crate::proofs::Recovers::onwards))]
+fn open_whole<D: Disk>(alloc: Global, disk: &mut D) -> Result<Journal, JournalError>
+    ensures count { D.faults disk.old ≤ D.faults disk.new }
+    ensures fault { IsErrOf result JournalError.DiskFault → Rose (D.faults disk.old) (D.faults disk.new) }
+    ensures held { D.held disk.new ≡ D.held disk.old }
+    ensures telling { D.tells disk.new ≡ D.tells disk.old }
+    ensures recovers { Since (D.trace disk.old) (D.trace disk.new) (From Recovers (D.trace disk.old)) }
+    ensures idle { OnOk result (Stands IsIdle (D.trace disk.new)) }
+    ensures lists { IsTrue (D.tells disk.old) → OnOk result (reopened (D.files disk.new) ≡ reopened (D.files disk.old)) }
+    ensures damage { IsTrue (D.tells disk.old) → FindsDamage (damage_of (D.files disk.old)) result }
+    ensures unchanged { (at : ℕ) → result ≡ Err (JournalError.BadJournal at) → D.files disk.new ≡ D.files disk.old }
+    ensures thrifty { IsTrue (D.tells disk.old) → is_open (D.files disk.old journal) ≡ false → result ≢ Err JournalError.NoMemory }
+{
+    lay(disk)?;
+    let found = first_byte(disk)?;
+    match found {
+        First::Closed => Ok(Journal {}),
+        First::Opened => {
+            open_gate(alloc, disk)?;
+            Ok(Journal {})
+        }
+        First::Other => {
+            make_new(disk)?;
+            Ok(Journal {})
+        }
+    }
+}
+
+/// Opens a journal, whatever a stop has left: carries out an open record, and leaves the journal there and closed. A
+/// journal that is missing, empty, or whose first byte is neither 0 nor 1, is made anew.
+///
+/// `BadJournal` comes just where the first byte is 1 and the others are no record. Where it isn't 1, no memory is taken.
+pub fn open_journal<D: Disk>(alloc: Global, disk: &mut D) -> Result<Journal, JournalError>
+    ensures count { D.faults disk.old ≤ D.faults disk.new }
+    ensures fault { IsErrOf result JournalError.DiskFault → Rose (D.faults disk.old) (D.faults disk.new) }
+    ensures held { D.held disk.new ≡ D.held disk.old }
+    ensures telling { D.tells disk.new ≡ D.tells disk.old }
+    ensures recovers { Since (D.trace disk.old) (D.trace disk.new) (From Recovers (D.trace disk.old)) }
+    ensures settled { Stands IsSettled (D.trace disk.old) → Stands IsSettled (D.trace disk.new) }
+    ensures idle { OnOk result (Stands IsIdle (D.trace disk.new)) }
+    ensures lists { IsTrue (D.tells disk.old) → OnOk result (reopened (D.files disk.new) ≡ reopened (D.files disk.old)) }
+    ensures rests { Stands IsSettled (D.trace disk.old) → OnOk result (Stands (IsAtRest (lists_now (D.trace disk.old))) (D.trace disk.new)) }
+    ensures damage { IsTrue (D.tells disk.old) → FindsDamage (damage_of (D.files disk.old)) result }
+    ensures unchanged { (at : ℕ) → result ≡ Err (JournalError.BadJournal at) → D.files disk.new ≡ D.files disk.old }
+    ensures thrifty { IsTrue (D.tells disk.old) → is_open (D.files disk.old journal) ≡ false → result ≢ Err JournalError.NoMemory }
+{
+    open_whole(alloc, disk)
+}

@@ -1,0 +1,127 @@
+//! An open record is carried out, and the gate closed behind it.
+ghost use Rattle.std.specs.Prelude.{◌≡◌, ◌≤◌, [], OnOk, OnErr, IsTrue};
+ghost use Rattle.acq_outside.specs.Count.{Rose};
+ghost use Rattle.acq_outside.specs.Crash.{Goes};
+ghost use Rattle.acq_outside.specs.Moments.{Stands, Since, From};
+ghost use Rattle.journal_model.specs.Rest.{IsIdle};
+ghost use Rattle.journal_model.specs.Steps.{stepped, carried};
+ghost use Rattle.journal_model.specs.Twice.{IsIn};
+ghost use Rattle.journal_model.specs.Fine.{IsNamedStep};
+ghost use Rattle.commit_journal.specs.Opening.{Recovers};
+ghost use Rattle.commit_journal.specs.Phases.{IsCarrying, IsDone, IsTurned, AllNamed, call_of, closed_files};
+
+use acq_outside::{Disk, Fault};
+use journal_model::{PartialName, Step};
+
+/// Carries out one step.
+#[tactic(auto, using(crate::proofs::Turns::put_named, crate::proofs::Lists::put_told, crate::proofs::Lists::drop_told))]
+fn carry_one<D: Disk>(disk: &mut D, step: &Step) -> Result<(), Fault>
+    requires { IsNamedStep step.now }
+    ensures count { D.faults disk.old ≤ D.faults disk.new }
+    ensures fault { OnErr result (Rose (D.faults disk.old) (D.faults disk.new)) }
+    ensures held { D.held disk.new ≡ D.held disk.old }
+    ensures telling { D.tells disk.new ≡ D.tells disk.old }
+    ensures told { IsTrue (D.tells disk.old) → OnOk result (D.files disk.new ≡ stepped (D.files disk.old) step.now) }
+    ensures step { Goes (call_of step.now) (D.trace disk.old) (D.trace disk.new) result }
+{
+    match step {
+        Step::Put(list) => {
+            let partial = PartialName::new(list.as_bytes());
+            disk.rename(partial.as_bytes(), list.as_bytes())
+        }
+        Step::Drop(list) => disk.remove(list.as_bytes()),
+    }
+}
+
+/// Carries out all steps, in order.
+fn carry_all<D: Disk>(disk: &mut D, steps: &[Step]) -> Result<(), Fault>
+    requires named { AllNamed steps.now }
+    requires open_gate { Stands (IsCarrying steps.now []) (D.trace disk.old) }
+    ensures count { D.faults disk.old ≤ D.faults disk.new }
+    ensures fault { OnErr result (Rose (D.faults disk.old) (D.faults disk.new)) }
+    ensures held { D.held disk.new ≡ D.held disk.old }
+    ensures telling { D.tells disk.new ≡ D.tells disk.old }
+    ensures moments { Since (D.trace disk.old) (D.trace disk.new) (From Recovers (D.trace disk.old)) }
+    ensures told { IsTrue (D.tells disk.old) → OnOk result (D.files disk.new ≡ carried (D.files disk.old) steps.now) }
+    ensures done { OnOk result (Stands (IsCarrying steps.now steps.now) (D.trace disk.new)) }
+{
+    for step in steps {
+        carry_one(disk, step)?;
+    }
+    Ok(())
+}
+
+/// Makes the names lasting.
+fn settle<D: Disk>(disk: &mut D, steps: &[Step]) -> Result<(), Fault>
+    requires { Stands (IsCarrying steps.now steps.now) (D.trace disk.old) }
+    ensures count { D.faults disk.old ≤ D.faults disk.new }
+    ensures fault { OnErr result (Rose (D.faults disk.old) (D.faults disk.new)) }
+    ensures held { D.held disk.new ≡ D.held disk.old }
+    ensures telling { D.tells disk.new ≡ D.tells disk.old }
+    ensures moments { Since (D.trace disk.old) (D.trace disk.new) (From Recovers (D.trace disk.old)) }
+    ensures same { D.files disk.new ≡ D.files disk.old }
+    ensures done { OnOk result (Stands (IsDone steps.now) (D.trace disk.new)) }
+{
+    disk.sync_names()
+}
+
+/// Closes the gate.
+fn shut<D: Disk>(disk: &mut D, steps: &[Step]) -> Result<(), Fault>
+    requires { Stands (IsDone steps.now) (D.trace disk.old) }
+    ensures count { D.faults disk.old ≤ D.faults disk.new }
+    ensures fault { OnErr result (Rose (D.faults disk.old) (D.faults disk.new)) }
+    ensures held { D.held disk.new ≡ D.held disk.old }
+    ensures telling { D.tells disk.new ≡ D.tells disk.old }
+    ensures moments { Since (D.trace disk.old) (D.trace disk.new) (From Recovers (D.trace disk.old)) }
+    ensures told { IsTrue (D.tells disk.old) → OnOk result (D.files disk.new ≡ closed_files (D.files disk.old)) }
+    ensures done { OnOk result (Stands IsTurned (D.trace disk.new)) }
+{
+    disk.write_at(b"journal".as_slice(), 0, &[0])
+}
+
+/// Makes the closed gate lasting.
+fn close<D: Disk>(disk: &mut D) -> Result<(), Fault>
+    requires { Stands IsTurned (D.trace disk.old) }
+    ensures count { D.faults disk.old ≤ D.faults disk.new }
+    ensures fault { OnErr result (Rose (D.faults disk.old) (D.faults disk.new)) }
+    ensures held { D.held disk.new ≡ D.held disk.old }
+    ensures telling { D.tells disk.new ≡ D.tells disk.old }
+    ensures moments { Since (D.trace disk.old) (D.trace disk.new) (From Recovers (D.trace disk.old)) }
+    ensures same { D.files disk.new ≡ D.files disk.old }
+    ensures done { OnOk result (Stands IsIdle (D.trace disk.new)) }
+{
+    disk.sync(b"journal".as_slice())
+}
+
+#[tactic(auto, using(crate::proofs::Recovers::onwards))]
+fn close_behind<D: Disk>(disk: &mut D, steps: &[Step]) -> Result<(), Fault>
+    requires { Stands (IsCarrying steps.now steps.now) (D.trace disk.old) }
+    ensures count { D.faults disk.old ≤ D.faults disk.new }
+    ensures fault { OnErr result (Rose (D.faults disk.old) (D.faults disk.new)) }
+    ensures held { D.held disk.new ≡ D.held disk.old }
+    ensures telling { D.tells disk.new ≡ D.tells disk.old }
+    ensures moments { Since (D.trace disk.old) (D.trace disk.new) (From Recovers (D.trace disk.old)) }
+    ensures told { IsTrue (D.tells disk.old) → OnOk result (D.files disk.new ≡ closed_files (D.files disk.old)) }
+    ensures done { OnOk result (Stands IsIdle (D.trace disk.new)) }
+{
+    settle(disk, steps)?;
+    shut(disk, steps)?;
+    close(disk)
+}
+
+/// Carries out an open record and closes the gate.
+#[tactic(auto, using(crate::proofs::Recovers::onwards))]
+pub fn recover<D: Disk>(disk: &mut D, steps: &[Step]) -> Result<(), Fault>
+    requires named { AllNamed steps.now }
+    requires open_gate { Stands (IsCarrying steps.now []) (D.trace disk.old) }
+    ensures count { D.faults disk.old ≤ D.faults disk.new }
+    ensures fault { OnErr result (Rose (D.faults disk.old) (D.faults disk.new)) }
+    ensures held { D.held disk.new ≡ D.held disk.old }
+    ensures telling { D.tells disk.new ≡ D.tells disk.old }
+    ensures moments { Since (D.trace disk.old) (D.trace disk.new) (From Recovers (D.trace disk.old)) }
+    ensures told { IsTrue (D.tells disk.old) → OnOk result (D.files disk.new ≡ closed_files (carried (D.files disk.old) steps.now)) }
+    ensures done { OnOk result (Stands IsIdle (D.trace disk.new)) }
+{
+    carry_all(disk, steps)?;
+    close_behind(disk, steps)
+}

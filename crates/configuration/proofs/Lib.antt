@@ -1,0 +1,8 @@
+pub mod Order
+pub mod Listing
+pub mod Fronts
+pub mod Parts
+pub mod Steps
+pub mod Files
+pub mod Answering
+pub mod Fields

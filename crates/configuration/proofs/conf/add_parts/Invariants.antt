@@ -1,0 +1,14 @@
+-- The pairs of the files so far stand behind those from before.
+use Rattle.std.proofs.Common.{◌≡◌, take}
+use Rattle.acq_outside.specs.declared.etc.Place.TheVariants.{ConfParts}
+use Rattle.configuration.specs.Configured.{conf_part}
+use Rattle.configuration.proofs.Parts.{Progress}
+use Rattle.configuration.proofs.conf.add_parts.Given as goal
+
+abbrev pub invariant-loop-name : goal.invariant-loop-name
+invariant-loop-name g l =
+    record {
+      quiet : g.E.Etc.faults l.etc ≡ g.E.Etc.faults l.fn.etc;
+      same : g.E.Etc.files l.etc ≡ g.E.Etc.files l.fn.etc;
+      read : Progress (g.E.Etc.files l.fn.etc) ConfParts conf_part (take l.name-index l.names) l.fn.conf l.conf;
+    }

@@ -1,0 +1,4 @@
+mod objects;
+mod orders;
+mod plans;
+mod refusals;

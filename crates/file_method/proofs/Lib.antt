@@ -1,0 +1,3 @@
+pub mod Pieces
+pub mod Mirrored
+pub mod Words

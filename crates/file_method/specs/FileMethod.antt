@@ -1,0 +1,42 @@
+-- What a method over a tree shows.
+use Rattle.std.specs.Prelude.{◌≡◌, ◌⊎◌, ℕ, ◌<◌, ◌≤◌, length, Option, Some, IfSome, option_map}
+use Rattle.acq_base.specs.Mirror.{World}
+use Rattle.acq_base.specs.declared.fetch.Reply.TheVariants as replies
+use Rattle.acq_outside.specs.Count.{Rose}
+use Rattle.acq_outside.specs.Tree.{TreeFiles, file_at}
+use Rattle.acq_outside.specs.declared.word.Fetch.{Fetch}
+use Rattle.acq_outside.specs.declared.word.Word.{Word}
+use Rattle.acq_outside.specs.declared.word.Word.TheVariants.{Piece, Done, Other}
+use Rattle.file_method.specs.TreeMirror.{file_uri, mirror_of}
+
+pub record FileState (T : Type 0) : Type 0 where
+  pub tree : T
+  pub faults : ℕ
+  pub under : Option Fetch
+  -- the length of the file of the fetch under way, as the tree gave it when that fetch began
+  pub size : ℕ
+
+-- it tells its mirror where its tree tells the files
+abbrev pub world_of : Option TreeFiles → Option World
+world_of files = option_map mirror_of files
+
+-- a fetch of a file of this length, which is within its job's limit and longer than what the job leaves out, if it leaves
+-- out any
+pub record IsFetchOf (files : Option TreeFiles) (size : ℕ) (fetch : Fetch) : Type 0 where
+  pub uri : fetch.job.uri ≡ file_uri fetch.job.uri.path
+  pub within : fetch.at ≤ size
+  pub small : size ≤ fetch.job.max
+  pub begins : (fetch.job.from ≡ 0) ⊎ (fetch.job.from < size)
+  pub told : IfSome files (λ all. option_map length (file_at all fetch.job.uri.path) ≡ Some size)
+
+-- how often the tree failed: a fault comes exactly where its count rose
+abbrev pub CountsFault : ℕ → ℕ → Word → Type 0
+CountsFault before after (Other (replies.Fault told_before told_after)) = Rose before after
+CountsFault before after (Piece place bytes) = after ≡ before
+CountsFault before after (Done size) = after ≡ before
+CountsFault before after (Other (replies.Served bytes)) = after ≡ before
+CountsFault before after (Other (replies.Moved place)) = after ≡ before
+CountsFault before after (Other (replies.Absent status)) = after ≡ before
+CountsFault before after (Other replies.TooBig) = after ≡ before
+CountsFault before after (Other (replies.Garbled at)) = after ≡ before
+CountsFault before after (Other replies.NoMemory) = after ≡ before

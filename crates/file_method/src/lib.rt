@@ -1,0 +1,10 @@
+//! A method for `file` URIs: what it fetches are the files of a tree, piece by piece.
+//!
+//! `FileMethod` keeps no more of a file than one piece. Where its tree tells the files, it tells them as a mirror, so its
+//! words, joined, are the tree's file.
+#![tactic(auto)]
+
+pub use method::FileMethod;
+
+mod method;
+mod piece;

@@ -1,0 +1,12 @@
+use Rattle.host_queues.proofs.Turns.{hosts-turn, hosts-keep}
+use Rattle.host_queues.proofs.Orders.{lanes-order}
+use Rattle.host_queues.proofs.laws.lanes_are_queues.Goals as goal
+
+pub returns-clause-turns : goal.returns-clause-turns
+returns-clause-turns c = hosts-turn
+
+pub returns-clause-kept : goal.returns-clause-kept
+returns-clause-kept c = hosts-keep
+
+pub returns-clause-order : goal.returns-clause-order
+returns-clause-order c = lanes-order

@@ -1,0 +1,12 @@
+use Rattle.std.proofs.Common.{◌++◌, take, length, false, sym, subst}
+use Rattle.http_wire.specs.Wire.{Follows}
+use Rattle.http_wire.specs.Steps.{sized_taken}
+use Rattle.http_wire.proofs.BodyMoves.{sized_moves}
+use Rattle.http_wire.proofs.wire.Wire.take_counted.Goals as goal
+
+pub returns-clause-moves : goal.returns-clause-moves
+returns-clause-moves c = λ max from given bytes h.
+    let front = c.up_to-front.result.now in
+    let step : Follows (sized_taken c.args.left front c.args.self.now) max from given (bytes ++ front) false = sized_moves c.args.left front c.args.self.now c.requires.phase c.requires.going c.up_to-front.ensures.fits max from given bytes h in
+    subst (λ z. Follows z max from given (bytes ++ take (length front) c.args.piece.now) false) (sym c.in_ok-add_counted.ensures)
+    (subst (λ z. Follows (sized_taken c.args.left front c.args.self.now) max from given (bytes ++ z) false) c.up_to-front.ensures.front step)

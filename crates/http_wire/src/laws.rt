@@ -1,0 +1,31 @@
+//! What holds of every stream. Nothing here does anything.
+
+ghost use Rattle.std.specs.Prelude.{◌≡◌, ◌≢◌, ◌++◌, ℕ, Bool, true, false, List, None};
+ghost use Rattle.http_wire.specs.Grammar.{IsResponse, served};
+ghost use Rattle.http_wire.specs.State.{WireState};
+ghost use Rattle.http_wire.specs.Stream.{Heard, followed, IsHeard};
+ghost use Rattle.http_wire.specs.Wire.{Follows, Tells};
+
+/// One stream has one reading: two readings of the same bytes hear the same, places of refusals included.
+pub fn one_reading()
+    ensures { (max from : ℕ) (bytes : List ℕ) (ended : Bool) (a b : Heard) → IsHeard max from bytes ended a → IsHeard max from bytes ended b → a ≡ b }
+{}
+
+/// A reading that has ended hears the same whatever bytes follow, and if the peer ends.
+#[tactic(auto, using(crate::proofs::Decided::decided, crate::proofs::EndMoves::heard_end))]
+pub fn endings_stay()
+    ensures followed { (max from : ℕ) (bytes more : List ℕ) (x : Heard) → x.ending ≢ None → IsHeard max from bytes false x → IsHeard max from (bytes ++ more) false (followed x more) }
+    ensures ended { (max from : ℕ) (bytes : List ℕ) (x : Heard) → x.ending ≢ None → IsHeard max from bytes false x → IsHeard max from bytes true x }
+{}
+
+/// A whole response of the grammar is heard as its body, whatever follows it.
+#[tactic(auto, using(crate::proofs::Responses::response_heard))]
+pub fn responses_are_heard()
+    ensures { (max from : ℕ) (text : List ℕ) (keep : Bool) (start : ℕ) (body rest : List ℕ) → IsResponse max from text keep start body → IsHeard max from (text ++ rest) false (served keep start body rest) }
+{}
+
+/// What a wire tells is what is heard of the bytes that it has taken, and what was given out and what it holds are the body.
+#[tactic(auto, using(crate::proofs::Telling::tells))]
+pub fn wires_tell()
+    ensures { (w : WireState) (max from : ℕ) (given bytes : List ℕ) (ended : Bool) → Follows w max from given bytes ended → Tells w max from given bytes ended }
+{}

@@ -1,0 +1,6 @@
+pub mod Begun
+pub mod OnePatch
+pub mod Steps
+pub mod Told
+pub mod Whole
+pub mod Soundness

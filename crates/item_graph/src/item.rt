@@ -1,0 +1,117 @@
+//! Items.
+
+ghost use Rattle.std.specs.Prelude.{◌≡◌, ◌≤◌, None, length, IfOk, IfSome, IsSome, OnOk, option_copied};
+ghost use Rattle.acq_base.specs.Plan.{IsPlanned, IsSoundTarget};
+ghost use Rattle.acq_base.specs.Uri.{IsSound};
+ghost use Rattle.release_file.specs.Release.{listed_sum};
+ghost use Rattle.update_model.specs.Points.{Over, start, step};
+ghost use Rattle.update_model.specs.Walks.{release_walk, target_walk};
+ghost use Rattle.update_model.specs.Wanted.{want as wanted_in};
+ghost use Rattle.item_graph.specs.Sound.{IsSoundAnswer, IsSoundAt};
+
+use crate::laws::lists_ask_soundly;
+use crate::patches::list;
+use crate::release::release as release_state;
+use crate::state::State;
+use crate::wanted::want;
+use acq_base::{Bytes, NoMemory, Settings, Source, Target};
+use release_file::{Release, find_file};
+use std::alloc::Global;
+use std::mem;
+use update_model::{Ask, Closed, End};
+
+/// A Release or a list that is being fetched.
+#[derive(Drop)]
+pub struct Item {
+    /// How often a fault at one place is asked again.
+    retries: u32,
+    state: State,
+}
+
+impl Item {
+    ghost use Rattle.item_graph.specs.Items.{asked, point_of, retries_of};
+
+    /// The Release of a source: InRelease is asked for first, within 16,777,216 bytes, and Release where there is none.
+    pub fn for_release(
+        alloc: Global,
+        source: &Source,
+        settings: &Settings,
+    ) -> Result<Item, NoMemory>
+        ensures walk { IfOk result (λ item. point_of item ≡ start settings.now.retries (release_walk source.now)) }
+        ensures retries { IfOk result (λ item. retries_of item ≡ settings.now.retries) }
+        ensures sound { IsPlanned source.now → IfOk result (λ item. IsSoundAt (point_of item)) }
+    {
+        Ok(Item {
+            retries: settings.retries,
+            state: release_state(alloc, settings.retries, source)?,
+        })
+    }
+
+    /// A list that the Release names, beside its installed file and the size of its partial file. The installed file is
+    /// hashed here, once.
+    ///
+    /// Where the installed file is the wanted one, nothing is asked. Else come, each where the one before gave no
+    /// fitting file: patches of the installed file, where they are on and the Release lists a patch Index; the rest
+    /// behind the partial file, where that has some bytes and fewer than the list; the whole list under its digest,
+    /// where it is asked for there; and the whole list at its own URI.
+    pub fn for_target(
+        alloc: Global,
+        source: &Source,
+        target: &Target,
+        release: &Release,
+        old: Option<Bytes>,
+        part: u64,
+        settings: &Settings,
+    ) -> Result<Item, NoMemory>
+        requires wanted { IsSome (listed_sum release.now target.now.path) }
+        ensures walk { IfSome (listed_sum release.now target.now.path) (λ sum. IfOk result (λ item.
+            point_of item ≡ start settings.now.retries (target_walk old part (wanted_in source.now release.now settings.now target.now sum)))) }
+        ensures retries { IfOk result (λ item. retries_of item ≡ settings.now.retries) }
+        ensures sound { IsSoundTarget target.now → length target.now.name.0 ≤ 240 → IfOk result (λ item. IsSoundAt (point_of item)) }
+    {
+        let Some(sum) = find_file(release, target.path.as_bytes()) else {
+            unreachable!()
+        };
+        lists_ask_soundly();
+        let wanted = want(alloc, source, target, release, settings, sum)?;
+        Ok(Item {
+            retries: settings.retries,
+            state: list(alloc, settings.retries, old, part, wanted)?,
+        })
+    }
+
+    /// What is asked next; `None` exactly where the item has ended. It takes no memory.
+    pub fn ask(&self) -> Option<&Ask>
+        ensures value { option_copied result ≡ asked (point_of self.now) }
+        ensures sound { IsSoundAt (point_of self.now) → IfSome result (λ ask. IsSound ask.now.uri) }
+    {
+        match &self.state {
+            State::Ended(_) => None,
+            State::Asks { ask, .. } => Some(ask),
+        }
+    }
+
+    /// Takes in what the method of a lane answered to the ask. A fault is asked again while retries are left; up to ten
+    /// moves of one ask are followed, but none from http to a file. An item that has ended stays as it is. After
+    /// `NoMemory` the item may only be dropped.
+    pub fn answer(&mut self, alloc: Global, lane: u32, closed: Closed) -> Result<(), NoMemory>
+        ensures step { OnOk result (point_of self.new ≡ step (retries_of self.old) (point_of self.old) (record { lane = lane; closed = closed })) }
+        ensures retries { retries_of self.new ≡ retries_of self.old }
+        ensures sound { IsSoundAt (point_of self.old) → IsSoundAnswer closed → OnOk result (IsSoundAt (point_of self.new)) }
+    {
+        let state = mem::replace(&mut self.state, State::Ended(End::Stands));
+        self.state = state.heard(alloc, self.retries, lane, closed)?;
+        Ok(())
+    }
+
+    /// What the item came to.
+    pub fn end(self) -> End
+        requires ended { asked (point_of self) ≡ None }
+        ensures { point_of self ≡ Over result }
+    {
+        match self.state {
+            State::Ended(end) => end,
+            State::Asks { .. } => unreachable!(),
+        }
+    }
+}

@@ -1,0 +1,111 @@
+-- A disk between two commits, and the lists on their way.
+use Rattle.std.specs.Prelude.{◌≡◌, ◌≢◌, ◌⊎◌, ℕ, ◌≤◌, true, nat_lt, if◌then◌else◌, List, [], ◌∷◌, length, take, Option, Some, None, option_map}
+use Rattle.acq_outside.specs.Disk.{Files}
+use Rattle.acq_outside.specs.Crash.{State, IsImage, reads, names_of, file_at, synced}
+use Rattle.acq_outside.specs.Moments.{Stands, From}
+use Rattle.acq_outside.specs.declared.state.FileState.{FileState}
+use Rattle.acq_outside.specs.declared.state.NameChange.{NameChange}
+use Rattle.acq_outside.specs.declared.state.NameChange.TheVariants.{Made, Moved, Removed}
+use Rattle.journal_model.specs.Names.{journal, partial, is_aside, is_list}
+use Rattle.journal_model.specs.Steps.{carried}
+use Rattle.journal_model.specs.Reading.{gate_in}
+use Rattle.journal_model.specs.Reopen.{reopened, Leaves}
+use Rattle.journal_model.specs.declared.step.Step.{Step}
+use Rattle.journal_model.specs.declared.step.Step.TheVariants.{Put, Drop}
+use Rattle.journal_model.specs.declared.step.Gate.TheVariants.{Open}
+
+-- a change of names that changes no list and no journal
+abbrev pub IsAside : NameChange → Type 0
+IsAside (Made name i) = is_aside name ≡ true
+IsAside (Moved from to) = (is_aside from ≡ true) × (is_aside to ≡ true)
+IsAside (Removed name) = is_aside name ≡ true
+
+abbrev pub AllAside : List NameChange → Type 0
+AllAside [] = Unit {0}
+AllAside (change ∷ changes) = IsAside change × AllAside changes
+
+-- whatever a crash leaves of a file, its first byte is there and 0
+pub record IsClosed (file : FileState) : Type 0 where
+  pub rest : List (Option ℕ)
+  pub cells : file.cells ≡ Some 0 ∷ rest
+  pub least : 1 ≤ file.least
+
+-- A commit may be prepared: no change of a list's name or of the journal's is pending, and a crash leaves a journal whose
+-- gate is 0.
+pub record IsIdle (s : State) : Type 0 where
+  pub aside : AllAside s.pending
+  pub number : ℕ
+  pub leads : s.base journal ≡ Some number
+  pub closed : IsClosed (file_at s.files number)
+
+-- whatever a crash leaves, the journal is there and its gate is 0
+abbrev pub LeavesClosed : State → Type 0
+LeavesClosed s = (image : Files) → IsImage s image → (rest : List ℕ) × (image journal ≡ Some (0 ∷ rest))
+
+-- these steps put a list that is on its way under this name
+abbrev pub PutsFrom : List Step → List ℕ → Type 0
+PutsFrom [] name = ⊥
+PutsFrom (Put list ∷ steps) name = (name ≡ partial list) ⊎ PutsFrom steps name
+PutsFrom (Drop list ∷ steps) name = PutsFrom steps name
+
+-- a record whose gate a crash may leave open puts a list that is on its way under this name
+pub record IsRecorded (s : State) (name : List ℕ) : Type 0 where
+  pub image : Files
+  pub left : IsImage s image
+  pub steps : List Step
+  pub gate : gate_in (image journal) ≡ Open steps
+  pub puts : PutsFrom steps name
+
+-- no list, and none that is on its way and that a record names whose gate may be open, was written or cut since its last
+-- sync
+abbrev pub IsSettled : State → Type 0
+IsSettled s = (name : List ℕ) (i : ℕ) → (is_list name ≡ true) ⊎ IsRecorded s name → names_of s name ≡ Some i → file_at s.files i ≡ synced (file_at s.files i).seen
+
+-- between two commits the disk has these lists, and a crash leaves them
+pub record IsAtRest (folder : Files) (s : State) : Type 0 where
+  pub leaves : Leaves folder s
+  pub settled : IsSettled s
+  pub lists_are : (name : List ℕ) → is_list name ≡ true → reads s name ≡ folder name
+
+-- what is at rest stays so with its lists, and a commit may be prepared if one might before
+pub record StaysAtRest (s t : State) : Type 0 where
+  pub rest : (folder : Files) → IsAtRest folder s → IsAtRest folder t
+  pub idle : IsIdle s → IsIdle t
+
+abbrev pub KeepsRest : List State → State → Type 0
+KeepsRest = From StaysAtRest
+
+-- The lists on their way.
+
+abbrev pub file_named : State → List ℕ → Option FileState
+file_named s name = option_map (file_at s.files) (names_of s name)
+
+-- the file in which a list is on its way; none where the disk tells nothing
+abbrev pub part_file : List State → List ℕ → Option FileState
+part_file [] name = None
+part_file (s ∷ past) name = file_named s (partial name)
+
+abbrev pub bytes_in : Option FileState → List ℕ
+bytes_in None = []
+bytes_in (Some file) = file.seen
+
+-- what reads give of it
+abbrev pub part_bytes : List State → List ℕ → List ℕ
+part_bytes trace name = bytes_in (part_file trace name)
+
+-- those of other lists stay, and so does what a crash may leave of them
+abbrev pub KeepsOthers : List ℕ → List State → List State → Type 0
+KeepsOthers name old new = (other : List ℕ) → other ≢ name → part_file new other ≡ part_file old other
+
+-- a list is on its way
+pub record IsPartThere (name : List ℕ) (s : State) : Type 0 where
+  pub file : FileState
+  pub is : file_named s (partial name) ≡ Some file
+
+-- it is there with these bytes, and they last
+pub record IsPartSynced (name bytes : List ℕ) (s : State) : Type 0 where
+  pub is : file_named s (partial name) ≡ Some (synced bytes)
+
+-- a size that a fetch may go on from
+abbrev pub size_below : ℕ → ℕ → ℕ
+size_below max n = if nat_lt n max then n else 0

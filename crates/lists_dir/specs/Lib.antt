@@ -1,0 +1,4 @@
+-- What public clauses cite: what is installed of a source.
+pub mod Installed
+-- What serves the crate's own functions: how far a file has been read.
+pub mod Verified

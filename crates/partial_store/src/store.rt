@@ -1,0 +1,135 @@
+//! The calls on lists on their way. None takes memory.
+
+ghost use Rattle.std.specs.Prelude.{◌≡◌, ◌+◌, ◌<◌, ◌≤◌, ◌^◌, ◌++◌, Some, take, length, IfOk, OnOk, OnErr};
+ghost use Rattle.acq_outside.specs.Count.{Rose};
+ghost use Rattle.acq_outside.specs.Disk.{IsRead};
+ghost use Rattle.acq_outside.specs.Moments.{IsTold, Since, Stands};
+ghost use Rattle.journal_model.specs.Names.{IsPutName};
+ghost use Rattle.journal_model.specs.Rest.{IsIdle, IsPartSynced, IsPartThere, KeepsOthers, KeepsRest, part_bytes, size_below};
+ghost use Rattle.partial_store.specs.Parts.{part_of};
+
+use crate::Part;
+use acq_base::ListName;
+use acq_outside::{Disk, Fault};
+use journal_model::PartialName;
+
+/// Begins a list's file, or goes on with the first `keep` bytes of the one that is there; an absent one counts as empty.
+///
+/// It has at least `keep` bytes, and no change of a list's name is pending. `Fault` only where the disk's count of faults
+/// rose; the file may then have been cut, or made.
+pub fn begin<D: Disk>(disk: &mut D, name: &ListName, keep: u64) -> Result<Part, Fault>
+    requires name { IsPutName name.now.0 }
+    requires keep { IsTold (D.trace disk.old) → keep ≤ length (part_bytes (D.trace disk.old) name.now.0) }
+    requires idle { Stands IsIdle (D.trace disk.old) }
+    ensures count { D.faults disk.old ≤ D.faults disk.new }
+    ensures fault { OnErr result (Rose (D.faults disk.old) (D.faults disk.new)) }
+    ensures quiet { OnOk result (D.faults disk.new ≡ D.faults disk.old) }
+    ensures held { D.held disk.new ≡ D.held disk.old }
+    ensures telling { D.tells disk.new ≡ D.tells disk.old }
+    ensures moments { Since (D.trace disk.old) (D.trace disk.new) (KeepsRest (D.trace disk.old)) }
+    ensures others { KeepsOthers name.now.0 (D.trace disk.old) (D.trace disk.new) }
+    ensures part { IfOk result (λ part. part ≡ part_of name.now.0 keep) }
+    ensures there { OnOk result (Stands (IsPartThere name.now.0) (D.trace disk.new)) }
+    ensures bytes { OnOk result (IsTold (D.trace disk.new)
+        → part_bytes (D.trace disk.new) name.now.0 ≡ take keep (part_bytes (D.trace disk.old) name.now.0)) }
+{
+    let path = PartialName::new(name.0.as_bytes());
+    disk.cut(path.as_bytes(), keep)?;
+    Ok(Part { path, len: keep })
+}
+
+/// Appends a piece to a list's file. The file is there and as long as `begin` and the pieces put since have made it.
+///
+/// `Fault` only where the disk's count of faults rose; the part is then as it was, and the file may end in any part of the
+/// piece.
+pub fn put<D: Disk>(disk: &mut D, part: &mut Part, piece: &[u8]) -> Result<(), Fault>
+    requires there { Stands (IsPartThere part.old.name) (D.trace disk.old) }
+    requires len { IsTold (D.trace disk.old) → length (part_bytes (D.trace disk.old) part.old.name) ≡ part.old.len }
+    requires room { part.old.len + length piece.now < 2 ^ 64 }
+    requires idle { Stands IsIdle (D.trace disk.old) }
+    ensures count { D.faults disk.old ≤ D.faults disk.new }
+    ensures fault { OnErr result (Rose (D.faults disk.old) (D.faults disk.new)) }
+    ensures quiet { OnOk result (D.faults disk.new ≡ D.faults disk.old) }
+    ensures held { D.held disk.new ≡ D.held disk.old }
+    ensures telling { D.tells disk.new ≡ D.tells disk.old }
+    ensures moments { Since (D.trace disk.old) (D.trace disk.new) (KeepsRest (D.trace disk.old)) }
+    ensures others { KeepsOthers part.old.name (D.trace disk.old) (D.trace disk.new) }
+    ensures part { OnOk result (part.new ≡ part_of part.old.name (part.old.len + length piece.now)) }
+    ensures unchanged { OnErr result (part.new ≡ part.old) }
+    ensures there { OnOk result (Stands (IsPartThere part.old.name) (D.trace disk.new)) }
+    ensures bytes { OnOk result (IsTold (D.trace disk.new)
+        → part_bytes (D.trace disk.new) part.old.name ≡ part_bytes (D.trace disk.old) part.old.name ++ piece.now) }
+{
+    disk.write_at(part.path.as_bytes(), part.len, piece)?;
+    part.len += piece.len() as u64;
+    Ok(())
+}
+
+/// Makes a list's file last, and answers its size in bytes. The file is there and as long as `begin` and the pieces put
+/// since have made it.
+///
+/// `Fault` only where the disk's count of faults rose.
+pub fn finish<D: Disk>(disk: &mut D, part: Part) -> Result<u64, Fault>
+    requires there { Stands (IsPartThere part.name) (D.trace disk.old) }
+    requires len { IsTold (D.trace disk.old) → length (part_bytes (D.trace disk.old) part.name) ≡ part.len }
+    requires idle { Stands IsIdle (D.trace disk.old) }
+    ensures count { D.faults disk.old ≤ D.faults disk.new }
+    ensures fault { OnErr result (Rose (D.faults disk.old) (D.faults disk.new)) }
+    ensures quiet { OnOk result (D.faults disk.new ≡ D.faults disk.old) }
+    ensures held { D.held disk.new ≡ D.held disk.old }
+    ensures telling { D.tells disk.new ≡ D.tells disk.old }
+    ensures moments { Since (D.trace disk.old) (D.trace disk.new) (KeepsRest (D.trace disk.old)) }
+    ensures others { KeepsOthers part.name (D.trace disk.old) (D.trace disk.new) }
+    ensures synced { OnOk result (Stands (IsPartSynced part.name (part_bytes (D.trace disk.old) part.name)) (D.trace disk.new)) }
+    ensures size { IfOk result (λ size. size ≡ part.len) }
+{
+    disk.sync(part.path.as_bytes())?;
+    Ok(part.len)
+}
+
+/// The size in bytes of a list's file where it is below `max`, from which a fetch may go on, and else 0; 0 too where there
+/// is none.
+///
+/// `Fault` only where the disk's count of faults rose.
+pub fn resume_from<D: Disk>(disk: &mut D, name: &ListName, max: u64) -> Result<u64, Fault>
+    requires { IsPutName name.now.0 }
+    ensures count { D.faults disk.old ≤ D.faults disk.new }
+    ensures fault { OnErr result (Rose (D.faults disk.old) (D.faults disk.new)) }
+    ensures quiet { OnOk result (D.faults disk.new ≡ D.faults disk.old) }
+    ensures held { D.held disk.new ≡ D.held disk.old }
+    ensures telling { D.tells disk.new ≡ D.tells disk.old }
+    ensures same { D.files disk.new ≡ D.files disk.old }
+    ensures still { D.trace disk.new ≡ D.trace disk.old }
+    ensures size { IsTold (D.trace disk.old) → IfOk result (λ size. size ≡ size_below max (length (part_bytes (D.trace disk.old) name.now.0))) }
+{
+    let path = PartialName::new(name.0.as_bytes());
+    match disk.size(path.as_bytes())? {
+        Some(size) if size < max => Ok(size),
+        _ => Ok(0),
+    }
+}
+
+/// Reads bytes of a list's file into the front of `out` and answers how many: 0 only at or past its end, or for an empty
+/// `out`.
+///
+/// `Fault` only where the disk's count of faults rose.
+pub fn read_part<D: Disk>(
+    disk: &mut D,
+    name: &ListName,
+    at: u64,
+    out: &mut [u8],
+) -> Result<usize, Fault>
+    requires { IsPutName name.now.0 }
+    ensures count { D.faults disk.old ≤ D.faults disk.new }
+    ensures fault { OnErr result (Rose (D.faults disk.old) (D.faults disk.new)) }
+    ensures quiet { OnOk result (D.faults disk.new ≡ D.faults disk.old) }
+    ensures held { D.held disk.new ≡ D.held disk.old }
+    ensures telling { D.tells disk.new ≡ D.tells disk.old }
+    ensures same { D.files disk.new ≡ D.files disk.old }
+    ensures still { D.trace disk.new ≡ D.trace disk.old }
+    ensures within { IfOk result (λ n. n ≤ length out.old) }
+    ensures told { IsTold (D.trace disk.old) → IfOk result (λ n. IsRead (Some (part_bytes (D.trace disk.old) name.now.0)) at n out.old out.new) }
+{
+    let path = PartialName::new(name.0.as_bytes());
+    disk.read_at(path.as_bytes(), at, out)
+}

@@ -1,0 +1,17 @@
+//! What a run prints: the report of its sources, or the one line of a fault that stands in its place.
+//!
+//! `report` is a run's report, whole, as a function of the plan, the verdicts and the removed lists. `FaultLine` has all
+//! lines that begin with `E`.
+#![tactic(auto)]
+
+pub use fault::FaultLine;
+pub use whole::report;
+
+mod cause;
+mod fault;
+mod numbers;
+mod source;
+#[cfg(test)]
+mod tests;
+mod total;
+mod whole;
