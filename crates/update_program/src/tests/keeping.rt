@@ -3,7 +3,7 @@ use crate::tests::objects::{disk_of, only, words};
 use crate::tests::running::run;
 use crate::{Status, update_call};
 use acq_base::{Job, Reply, Row};
-use acq_outside::{FixedClock, MemEtc, MemSink, Method, Word};
+use acq_outside::{Fetch, FixedClock, MemEtc, MemSink, Method, Word};
 use std::alloc::Global;
 use std::test::Fail;
 
@@ -60,7 +60,9 @@ fn keeps_a_source_whose_release_is_too_big(rt: HostRuntime) -> Result<(), Fail> 
 
 /// A method whose peer breaks its protocol.
 #[derive(Drop)]
-struct Garbling;
+struct Garbling {
+    under: Option<Fetch>,
+}
 
 impl Method for Garbling {
     ghost use Rattle.std.specs.Prelude.{None};
@@ -69,17 +71,19 @@ impl Method for Garbling {
 
     ghost world = { λ _. None };
 
-    ghost under = { λ _. None };
+    ghost under = { λ method. method.under };
 
     fn faults(&self) -> u64 {
         0
     }
 
     fn begin(&mut self, _alloc: Global, _job: &Job) -> Word {
+        self.under = None;
         Word::Other(Reply::Garbled(7))
     }
 
     fn more(&mut self, _alloc: Global) -> Word {
+        self.under = None;
         Word::Other(Reply::Garbled(7))
     }
 }
@@ -88,7 +92,7 @@ impl Method for Garbling {
 fn keeps_a_source_whose_release_is_garbled(rt: HostRuntime) -> Result<(), Fail> {
     let alloc = rt.alloc();
     let mut disk = disk_of(&rt, &GOOD)?;
-    let mut methods = vec![in alloc; Garbling]?;
+    let mut methods = vec![in alloc; Garbling { under: None }]?;
     let mut out = MemSink::new(alloc, only(alloc, 0)?);
     let status = update_call(
         &rt,
