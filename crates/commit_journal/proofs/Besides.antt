@@ -1,10 +1,10 @@
 -- A new journal is made beside one that isn't open.
-use Rattle.std.proofs.Common.{◌≡◌, ◌≢◌, ◌⊎◌, inl, inr, ⊎_elim, refl, sym, ap, ◌∙◌, subst, arith, ℕ, ◌+◌, ◌<◌, ◌≤◌, Bool, true, false, if◌then◌else◌, List, [], ◌∷◌, ◌++◌, length, get_or, set, Option, Some, None, option_map, Result, OnOk, IsSomeAnd, IsTrue}
+use Rattle.std.proofs.Common.{◌≡◌, ◌≢◌, ◌⊎◌, inl, inr, ⊎_elim, refl, sym, ap, ◌∙◌, subst, arith, ℕ, ◌+◌, ◌≤◌, true, List, [], ◌∷◌, ◌++◌, length, Option, Some, None, option_map, Result, OnOk, IsSomeAnd}
 use Rattle.std.proofs.Math.Path.{fun_ext}
 use Rattle.std.proofs.Math.Seq.{drop-nil}
 use Rattle.std.proofs.lemmas.List.{get_or-set_same, get_or_past, append-nil}
 use Rattle.acq_outside.specs.Disk.{Files, spliced}
-use Rattle.acq_outside.specs.Crash.{State, Names, IsOutcome, IsPart, none, left_out, taken, IsImage, IsSound, AllSound, IsShown, IsTorn, Goes, after, changed_file, on_file, with_change, cut_or_made, file_at, no_file, names_of, reads, seen_at, synced, file_written, file_cut, renamed, all_renamed, with_name, moved_name}
+use Rattle.acq_outside.specs.Crash.{State, Names, IsOutcome, IsPart, none, left_out, taken, IsImage, IsSound, AllSound, Goes, after, changed_file, on_file, with_change, cut_or_made, file_at, no_file, names_of, reads, seen_at, synced, file_written, file_cut, all_renamed, with_name, moved_name}
 use Rattle.acq_outside.specs.Moments.{Stands, Since, From}
 use Rattle.acq_outside.specs.Outcomes.{only_synced}
 use Rattle.acq_outside.specs.Traces.{apart_now, all_push}
@@ -15,17 +15,17 @@ use Rattle.acq_outside.specs.declared.change.Change.TheVariants.{Write, Cut, Syn
 use Rattle.acq_outside.specs.declared.state.FileState.{FileState}
 use Rattle.acq_outside.specs.declared.state.NameChange.{NameChange}
 use Rattle.acq_outside.specs.declared.state.NameChange.TheVariants.{Made, Moved}
-use Rattle.journal_model.specs.Names.{journal, beside, is_aside, is_list}
-use Rattle.journal_model.specs.Reading.{gate_of, gate_in}
-use Rattle.journal_model.specs.Reopen.{lists, opened, reopened, IsAsOf, LeavesAsOf}
-use Rattle.journal_model.specs.Rest.{AllAside, IsClosed, IsRecorded, IsSettled, IsIdle}
+use Rattle.journal_model.specs.Names.{journal, beside, is_list}
+use Rattle.journal_model.specs.Reading.{gate_in}
+use Rattle.journal_model.specs.Reopen.{lists, opened, LeavesAsOf}
+use Rattle.journal_model.specs.Rest.{IsClosed, IsSettled, IsIdle}
 use Rattle.journal_model.specs.Twice.{with_same, with_other}
-use Rattle.journal_model.specs.Views.{view, image_view, view_image, gated_view, apart_names, list_not_aside, list_not_journal, off_all, part_aside, lists_same, settled_names}
-use Rattle.journal_model.specs.Aside.{IsQuiet, quiet_view, quiet_gate, quiet_unrecorded, leads_now, ChangesOnly, IsOn, call_changes, torn_changes, stays_quiet, leaves_as, stays_settled}
-use Rattle.journal_model.specs.declared.step.Gate.TheVariants.{Shut, Open}
+use Rattle.journal_model.specs.Views.{view, apart_names, list_not_aside, list_not_journal, lists_same, settled_names}
+use Rattle.journal_model.specs.Aside.{IsQuiet, quiet_gate, ChangesOnly, IsOn, call_changes, torn_changes, stays_quiet, leaves_as, stays_settled}
+use Rattle.journal_model.specs.declared.step.Gate.TheVariants.{Shut}
 use Rattle.commit_journal.specs.Opening.{Recovers}
-use Rattle.commit_journal.specs.Phases.{IsLaid, IsUnset, MayBeMade, IsBeside, LastsBeside, IsNamed}
-use Rattle.commit_journal.proofs.Recovers.{Counts, torn_recovers, names_go}
+use Rattle.commit_journal.specs.Phases.{IsUnset, MayBeMade, IsBeside, LastsBeside, IsNamed}
+use Rattle.commit_journal.proofs.Recovers.{torn_recovers, names_go}
 use Rattle.commit_journal.proofs.Carries.{kept_closed}
 
 -- A call on the file beside.

@@ -1,32 +1,30 @@
 -- A record is carried out and its gate closed.
-use Rattle.std.proofs.Common.{◌≡◌, ◌≢◌, ◌⊎◌, inl, inr, ⊎_elim, refl, sym, ap, ◌∙◌, subst, arith, ℕ, zero, suc, ◌+◌, ◌<◌, ◌≤◌, min, nat_eq, Bool, true, false, if◌then◌else◌, List, [], ◌∷◌, ◌++◌, length, get_or, set, take, drop, Option, Some, None, option_map, Result, Ok, OnOk}
+use Rattle.std.proofs.Common.{◌≡◌, ◌≢◌, ◌⊎◌, inl, inr, ⊎_elim, refl, sym, ap, ◌∙◌, subst, arith, ℕ, ◌<◌, min, nat_eq, Bool, true, false, if◌then◌else◌, List, [], ◌∷◌, ◌++◌, length, set, drop, Option, Some, None, option_map, Result, Ok, OnOk}
 use Rattle.std.proofs.Math.Path.{fun_ext}
 use Rattle.std.proofs.lemmas.Bool.{cases_eq}
 use Rattle.std.proofs.lemmas.Bool.Decides.{nat_tests}
 use Rattle.std.proofs.lemmas.List.{get_or-set_same, get_or-set_other}
 use Rattle.acq_outside.specs.Disk.{Files, same_name}
-use Rattle.acq_outside.specs.Crash.{State, Names, IsOutcome, FitsAll, IsPart, IsImage, IsSound, AllSound, IsTorn, Goes, after, changed_file, on_file, with_change, file_at, no_file, names_of, all_renamed, renamed, reads, synced, all_kept, file_written}
+use Rattle.acq_outside.specs.Crash.{State, Names, IsOutcome, FitsAll, IsImage, IsSound, AllSound, IsTorn, Goes, after, changed_file, on_file, with_change, file_at, no_file, names_of, all_renamed, reads, synced, all_kept, file_written}
 use Rattle.acq_outside.specs.Moments.{Stands, Since, From}
 use Rattle.acq_outside.specs.Outcomes.{only_kept, only_synced, synced_outcome}
 use Rattle.acq_outside.specs.Traces.{apart_now, all_push}
 use Rattle.acq_outside.specs.Crashes.{reads_left, none_of_none}
 use Rattle.acq_outside.specs.Going.{goes}
-use Rattle.acq_outside.specs.declared.change.Change.{Change}
-use Rattle.acq_outside.specs.declared.change.Change.TheVariants.{Write, Sync, Rename, Remove, SyncNames}
+use Rattle.acq_outside.specs.declared.change.Change.TheVariants.{Write, Sync, SyncNames}
 use Rattle.acq_outside.specs.declared.state.FileState.{FileState}
 use Rattle.acq_outside.specs.declared.state.NameChange.{NameChange}
 use Rattle.journal_model.specs.Names.{journal, partial, is_list}
-use Rattle.journal_model.specs.Steps.{with_at, moved_at, stepped, carried}
+use Rattle.journal_model.specs.Steps.{moved_at, stepped, carried}
 use Rattle.journal_model.specs.Reading.{gate_of, gate_in, gate_with, steps_of_body}
-use Rattle.journal_model.specs.Reopen.{lists, opened, reopened, IsAsOf, LeavesAsOf}
-use Rattle.journal_model.specs.Rest.{AllAside, IsClosed, PutsFrom, IsRecorded, IsSettled, IsIdle}
-use Rattle.journal_model.specs.Twice.{Touches, IsIn, Apart, change_of, AreOf, carried_again, partly_all, part_of, none_yet, carried_from_part, are_push, carried_push, renamed_is, NamesNothing, idle}
+use Rattle.journal_model.specs.Reopen.{lists, opened, reopened, LeavesAsOf}
+use Rattle.journal_model.specs.Rest.{AllAside, IsClosed, PutsFrom, IsSettled, IsIdle}
+use Rattle.journal_model.specs.Twice.{IsIn, change_of, AreOf, carried_again, partly_all, part_of, none_yet, carried_from_part, are_push, carried_push, renamed_is, NamesNothing, idle}
 use Rattle.journal_model.specs.Views.{view, image_view, view_image, settled_names, map_carried, gated_view, lists_same, list_not_journal, instead, instead_same, instead_other}
-use Rattle.journal_model.specs.Fine.{AreFine, IsOpenBytes, open_bytes, open_fine}
+use Rattle.journal_model.specs.Fine.{AreFine, open_bytes, open_fine}
 use Rattle.journal_model.specs.declared.step.Step.{Step}
 use Rattle.journal_model.specs.declared.step.Step.TheVariants.{Put, Drop}
-use Rattle.journal_model.specs.declared.step.Gate.{Gate}
-use Rattle.journal_model.specs.declared.step.Gate.TheVariants.{Open, Damaged, Shut}
+use Rattle.journal_model.specs.declared.step.Gate.TheVariants.{Open, Shut}
 use Rattle.commit_journal.specs.Opening.{Recovers}
 use Rattle.commit_journal.specs.Phases.{Says, IsCarrying, IsDone, IsTurned, call_of}
 use Rattle.commit_journal.proofs.Recovers.{Counts, counts_not_journal, torn_recovers, names_go, sync_goes}
@@ -42,7 +40,7 @@ part_journal : (steps : List Step) (s : State) (says : Says steps s) (some : Lis
 part_journal steps s says some are =
     (partly_all steps s.base s.base some (fine steps s says).apart are (none_yet steps s.base)).others journal (λ step is touch. (fine steps s says).away step is touch) ∙ says.leads
 
-carrying_gate : (steps : List Step) (s : State) (says : Says steps s) → AreOf steps s.pending → (image : Files) → IsImage s image → gate_in (image journal) ≡ Open steps
+pub carrying_gate : (steps : List Step) (s : State) (says : Says steps s) → AreOf steps s.pending → (image : Files) → IsImage s image → gate_in (image journal) ≡ Open steps
 carrying_gate steps s says pending image is =
     let are = part_of steps is.some s.pending is.part pending in
     ap gate_in (is.shows journal ∙ ap (option_map is.bytes) (part_journal steps s says is.some are) ∙ ap (λ (b : List ℕ). Some b) (says_bytes steps s says is.bytes is.outcomes)) ∙ says.gate
@@ -196,7 +194,7 @@ any_gate body (gate ∷ rest) outcome =
     (gate, ap (λ (b : List ℕ). gate ∷ b) (only_kept body rest (omega (arith, outcome.long)) fits.1))
 
 -- the disk with the journal's file changed
-abbrev turned_state : State → ℕ → FileState → State
+abbrev pub turned_state : State → ℕ → FileState → State
 turned_state s j file = record { files = set s.files j file; base = s.base; pending = s.pending }
 
 abbrev shut_file : List ℕ → FileState
@@ -213,7 +211,7 @@ journal_below s j sound unmoved leads = (apart_now s sound).below journal j (ap 
 none_of : (steps : List Step) (s : State) → s.pending ≡ [] → AreOf steps s.pending
 none_of steps s unmoved = subst (λ (l : List NameChange). AreOf steps l) (sym unmoved) tt
 
-unmoved_view : (s : State) (image : Files) (is : IsImage s image) → s.pending ≡ [] → image ≡ view s.base is.bytes
+pub unmoved_view : (s : State) (image : Files) (is : IsImage s image) → s.pending ≡ [] → image ≡ view s.base is.bytes
 unmoved_view s image is unmoved = image_view s image is ∙ ap (λ (some : List NameChange). view (all_renamed s.base some) is.bytes) (none_of_none is.some s.pending is.part unmoved)
 
 -- the gate that a crash leaves

@@ -1,14 +1,13 @@
 -- Which damage is found.
-use Rattle.std.proofs.Common.{◌≡◌, ◌≢◌, ◌⊎◌, inl, inr, refl, sym, ap, ◌∙◌, subst, ℕ, nat_eq, Bool, true, false, List, [], ◌∷◌, Option, Some, None, Result, Ok, Err}
+use Rattle.std.proofs.Common.{◌≡◌, ◌≢◌, inl, sym, ap, ◌∙◌, subst, ℕ, List, ◌∷◌, Option, Some, None, Result, Err}
 use Rattle.acq_outside.specs.Disk.{Files}
 use Rattle.journal_model.specs.Names.{journal}
-use Rattle.journal_model.specs.Reading.{gate_of, gate_in}
-use Rattle.journal_model.specs.declared.step.Step.{Step}
+use Rattle.journal_model.specs.Reading.{gate_in}
 use Rattle.journal_model.specs.declared.step.Gate.{Gate}
-use Rattle.journal_model.specs.declared.step.Gate.TheVariants.{Open, Damaged, Shut}
-use Rattle.commit_journal.specs.Opening.{FindsDamage, damage_at, damage_of, is_open}
+use Rattle.journal_model.specs.declared.step.Gate.TheVariants.{Damaged, Shut}
+use Rattle.commit_journal.specs.Opening.{FindsDamage, damage_at, damage_of}
 use Rattle.commit_journal.specs.declared.error.JournalError.{JournalError}
-use Rattle.commit_journal.specs.declared.error.JournalError.TheVariants.{DiskFault, BadJournal, NoMemory}
+use Rattle.commit_journal.specs.declared.error.JournalError.TheVariants.{BadJournal}
 
 -- no damage is told where the gate isn't damaged
 pub whole_finds : {T : Type 0} (files : Files) (gate : Gate) (result : Result T JournalError) → gate ≡ gate_in (files journal) → damage_at gate ≡ None → ((at : ℕ) → result ≢ Err (BadJournal at)) → FindsDamage (damage_of files) result

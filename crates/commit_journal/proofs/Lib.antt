@@ -5,3 +5,15 @@ mod Looks
 mod Turns
 mod Finds
 mod Lists
+mod Others
+mod Recordable
+mod Stepping
+mod Opens
+mod Turned
+mod Parted
+mod Fills
+mod Records
+mod Notes
+mod Prepares
+mod Running
+mod Samples

@@ -1,26 +1,24 @@
 -- What reads give once a journal is opened.
-use Rattle.std.proofs.Common.{◌≡◌, ◌≢◌, ◌⊎◌, inl, inr, refl, sym, ap, ◌∙◌, subst, arith, ℕ, ◌+◌, ◌≤◌, Bool, true, false, IsTrue, if◌then◌else◌, List, [], ◌∷◌, ◌++◌, length, take, drop, Option, Some, None, option_map, unwrap_or, Result, Ok, Err, OnOk}
-use Rattle.std.proofs.Math.Path.{fun_ext}
-use Rattle.acq_outside.specs.Disk.{Files, same_name, with_file, spliced, moved_file, after_write, after_cut, after_rename, after_remove}
-use Rattle.acq_outside.specs.Crash.{State, Names, IsOutcome, IsImage, IsSound, AllSound, IsShown, names_of, reads, seen_at, file_at, synced}
+use Rattle.std.proofs.Common.{◌≡◌, ◌≢◌, inl, refl, sym, ap, ◌∙◌, subst, ℕ, Bool, true, IsTrue, List, [], ◌∷◌, take, Option, Some, None, option_map, unwrap_or, Result, Ok, Err, OnOk}
+use Rattle.acq_outside.specs.Disk.{Files, with_file, spliced, moved_file, after_write, after_cut, after_rename, after_remove}
+use Rattle.acq_outside.specs.Crash.{State, IsOutcome, IsSound, AllSound, IsShown, names_of, reads, file_at}
 use Rattle.acq_outside.specs.Moments.{Stands, Since, From}
 use Rattle.acq_outside.specs.Outcomes.{only_synced}
 use Rattle.acq_outside.specs.Crashes.{reads_left}
 use Rattle.acq_outside.specs.Going.{handed_on}
 use Rattle.acq_outside.specs.declared.state.FileState.{FileState}
-use Rattle.journal_model.specs.Names.{journal, beside, partial, is_aside, is_list}
-use Rattle.journal_model.specs.Steps.{with_at, moved_at, stepped, carried}
+use Rattle.journal_model.specs.Names.{journal, beside, partial}
+use Rattle.journal_model.specs.Steps.{moved_at, stepped, carried}
 use Rattle.journal_model.specs.Reading.{gate_of, gate_in}
 use Rattle.journal_model.specs.Reopen.{lists, opened, reopened, lists_now}
 use Rattle.journal_model.specs.Rest.{IsIdle, IsSettled, IsAtRest}
-use Rattle.journal_model.specs.Twice.{with_same, with_other, IsIn, Touches, carried_other}
-use Rattle.journal_model.specs.Views.{view, apart_names, list_not_aside, list_not_journal, files_same, reads_view, lists_same}
-use Rattle.journal_model.specs.Aside.{IsQuiet, idle_quiet, quiet_gate, quiet_view, leads_now}
-use Rattle.journal_model.specs.Fine.{AreFine, IsOpenBytes, open_bytes, open_fine}
+use Rattle.journal_model.specs.Twice.{with_same, with_other, carried_other}
+use Rattle.journal_model.specs.Views.{apart_names, list_not_aside, list_not_journal, files_same, reads_view, lists_same}
+use Rattle.journal_model.specs.Aside.{idle_quiet, quiet_gate, quiet_view, leads_now}
+use Rattle.journal_model.specs.Fine.{open_bytes, open_fine}
 use Rattle.journal_model.specs.declared.step.Step.{Step}
 use Rattle.journal_model.specs.declared.step.Step.TheVariants.{Put, Drop}
-use Rattle.journal_model.specs.declared.step.Gate.{Gate}
-use Rattle.journal_model.specs.declared.step.Gate.TheVariants.{Open, Damaged, Shut}
+use Rattle.journal_model.specs.declared.step.Gate.TheVariants.{Open, Shut}
 use Rattle.commit_journal.specs.Opening.{Recovers}
 use Rattle.commit_journal.specs.Phases.{closed_files, made_files}
 
@@ -84,7 +82,7 @@ made_lists new files is shut =
     ∙ sym (ap (opened files) shut)
 
 -- an opened disk is at rest
-idle_rests : (s : State) → IsSound s → IsIdle s → IsSettled s → IsAtRest (lists (reads s)) s
+pub idle_rests : (s : State) → IsSound s → IsIdle s → IsSettled s → IsAtRest (lists (reads s)) s
 idle_rests s sound idle settled = record {
   leaves = λ image is.
       quiet_view s (idle_quiet s idle) image is
@@ -95,7 +93,7 @@ idle_rests s sound idle settled = record {
   lists_are = λ name list. rw list refl;
 }
 
-reads_stand : (s : State) → IsSound s → IsIdle s → reopened (reads s) ≡ Some (lists (reads s))
+pub reads_stand : (s : State) → IsSound s → IsIdle s → reopened (reads s) ≡ Some (lists (reads s))
 reads_stand s sound idle = ap (opened (reads s)) (quiet_gate s (idle_quiet s idle) (reads s) (reads_left s sound))
 
 told_yes : (tells : Bool) → tells ≡ true → IsTrue tells

@@ -1,8 +1,8 @@
 -- The calls before the gate is looked at, and what it tells of the disk.
-use Rattle.std.proofs.Common.{◌≡◌, ◌≢◌, ◌⊎◌, inl, inr, refl, sym, ap, ◌∙◌, subst, arith, ℕ, ◌≤◌, nat_eq, Bool, true, false, IsTrue, List, [], ◌∷◌, length, get_or, set, Option, Some, None, option_map, Result, Ok, Err, OnOk, IsSomeAnd}
+use Rattle.std.proofs.Common.{◌≡◌, refl, sym, ap, ◌∙◌, subst, ℕ, ◌≤◌, Bool, true, IsTrue, List, [], ◌∷◌, length, set, Option, Some, None, Result, OnOk, IsSomeAnd}
 use Rattle.std.proofs.lemmas.List.{get_or-set_same}
-use Rattle.acq_outside.specs.Disk.{Files, IsRead, piece_at}
-use Rattle.acq_outside.specs.Crash.{State, Names, IsOutcome, IsSound, AllSound, IsShown, Goes, after, on_file, file_at, no_file, names_of, reads, seen_at, synced, all_renamed}
+use Rattle.acq_outside.specs.Disk.{Files}
+use Rattle.acq_outside.specs.Crash.{State, Names, IsOutcome, IsSound, AllSound, IsShown, Goes, on_file, file_at, no_file, reads, seen_at, synced}
 use Rattle.acq_outside.specs.Moments.{Stands, Since, From}
 use Rattle.acq_outside.specs.Outcomes.{only_synced}
 use Rattle.acq_outside.specs.Traces.{apart_now}
@@ -10,18 +10,14 @@ use Rattle.acq_outside.specs.declared.change.Change.TheVariants.{Sync, SyncNames
 use Rattle.acq_outside.specs.declared.state.FileState.{FileState}
 use Rattle.acq_outside.specs.declared.state.NameChange.{NameChange}
 use Rattle.journal_model.specs.Names.{journal}
-use Rattle.journal_model.specs.Steps.{carried}
 use Rattle.journal_model.specs.Reading.{gate_of, gate_in}
 use Rattle.journal_model.specs.Rest.{AllAside, IsClosed, IsIdle}
 use Rattle.journal_model.specs.Twice.{AreOf}
 use Rattle.journal_model.specs.Views.{settled_names}
-use Rattle.journal_model.specs.Aside.{IsQuiet}
-use Rattle.journal_model.specs.Fine.{open_bytes}
 use Rattle.journal_model.specs.declared.step.Step.{Step}
-use Rattle.journal_model.specs.declared.step.Gate.{Gate}
-use Rattle.journal_model.specs.declared.step.Gate.TheVariants.{Open, Damaged, Shut}
+use Rattle.journal_model.specs.declared.step.Gate.TheVariants.{Open, Shut}
 use Rattle.commit_journal.specs.Opening.{Recovers}
-use Rattle.commit_journal.specs.Phases.{IsUnmoved, IsLaid, Says, IsCarrying, IsUnset}
+use Rattle.commit_journal.specs.Phases.{IsUnmoved, IsLaid, IsCarrying, IsUnset}
 use Rattle.commit_journal.proofs.Recovers.{sync_goes, names_go}
 use Rattle.commit_journal.proofs.Carries.{kept_closed}
 

@@ -1,18 +1,16 @@
 -- What each call of an opening keeps, by what it is to the disk.
-use Rattle.std.proofs.Common.{◌≡◌, ◌≢◌, ◌⊎◌, inl, inr, ⊎_elim, refl, sym, ap, ◌∙◌, subst, ℕ, ◌<◌, ◌≤◌, Bool, true, false, List, [], ◌∷◌, ◌++◌, length, get_or, set, Option, Some, None, Result, OnOk}
+use Rattle.std.proofs.Common.{◌≡◌, ◌≢◌, ◌⊎◌, inl, inr, ⊎_elim, refl, sym, ap, ◌∙◌, subst, ℕ, ◌<◌, ◌≤◌, true, List, [], ◌∷◌, length, set, Option, Some, None, Result, OnOk}
 use Rattle.std.proofs.lemmas.Bool.{cases_lt, cases_eq}
 use Rattle.std.proofs.lemmas.List.{get_or-set_same, get_or-set_other, set_past}
 use Rattle.acq_outside.specs.Disk.{Files}
-use Rattle.acq_outside.specs.Crash.{State, Names, IsImage, IsSound, AllSound, IsTorn, Goes, after, changed_file, on_file, file_at, no_file, names_of, all_renamed, synced}
-use Rattle.acq_outside.specs.Moments.{Stands, Since, From, IsSync}
+use Rattle.acq_outside.specs.Crash.{State, Names, IsImage, IsSound, AllSound, IsTorn, Goes, after, on_file, file_at, no_file, names_of, all_renamed, synced}
+use Rattle.acq_outside.specs.Moments.{Stands, Since, From}
 use Rattle.acq_outside.specs.Crashes.{file_back, names_back, leaves_as_done}
 use Rattle.acq_outside.specs.Going.{goes, onward, IsBySteps}
-use Rattle.acq_outside.specs.declared.change.Change.{Change}
-use Rattle.acq_outside.specs.declared.change.Change.TheVariants.{Write, Cut, Sync, Rename, Remove, SyncNames}
+use Rattle.acq_outside.specs.declared.change.Change.TheVariants.{Sync, SyncNames}
 use Rattle.acq_outside.specs.declared.state.FileState.{FileState}
 use Rattle.acq_outside.specs.declared.state.NameChange.{NameChange}
-use Rattle.journal_model.specs.Names.{journal, partial, is_aside, is_list}
-use Rattle.journal_model.specs.Reopen.{LeavesAsOf, IsAsOf}
+use Rattle.journal_model.specs.Names.{journal, is_aside, is_list}
 use Rattle.journal_model.specs.Rest.{IsRecorded, IsSettled, PutsFrom}
 use Rattle.journal_model.specs.Views.{as_self, as_by_steps, partial_aside, list_not_journal}
 use Rattle.journal_model.specs.declared.step.Step.{Step}
@@ -33,7 +31,7 @@ counts_back : (s t : State) (name : List ℕ) → ((image : Files) → IsImage t
 counts_back s t name back (inl list) = inl list
 counts_back s t name back (inr recorded) = inr (recorded_back s t name back recorded)
 
-puts_aside : (steps : List Step) (name : List ℕ) → PutsFrom steps name → is_aside name ≡ true
+pub puts_aside : (steps : List Step) (name : List ℕ) → PutsFrom steps name → is_aside name ≡ true
 puts_aside [] name puts = absurd puts
 puts_aside (Put list ∷ steps) name (inl is) = subst (λ (n : List ℕ). is_aside n ≡ true) (sym is) (partial_aside list)
 puts_aside (Put list ∷ steps) name (inr later) = puts_aside steps name later

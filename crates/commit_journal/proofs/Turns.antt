@@ -8,15 +8,16 @@ use Rattle.journal_model.specs.Names.{partial}
 use Rattle.journal_model.specs.Reading.{gate_of}
 use Rattle.journal_model.specs.Steps.{stepped, carried}
 use Rattle.journal_model.specs.Twice.{IsIn, carried_push}
-use Rattle.journal_model.specs.Fine.{IsNamedStep, AreFine, open_fine}
+use Rattle.journal_model.specs.Fine.{IsNamedStep, open_fine}
 use Rattle.journal_model.specs.Literals.{partial_named}
 use Rattle.journal_model.specs.declared.step.Step.{Step}
 use Rattle.journal_model.specs.declared.step.Gate.{Gate}
 use Rattle.journal_model.specs.declared.step.Gate.TheVariants.{Open, Damaged, Shut}
 use Rattle.commit_journal.specs.Opening.{Recovers}
-use Rattle.commit_journal.specs.Phases.{IsCarrying, AllNamed, NamesSteps, call_of}
+use Rattle.commit_journal.specs.Phases.{IsCarrying, IsOfCommit, LeavesOthers, AllNamed, NamesSteps, call_of}
 use Rattle.commit_journal.proofs.Recovers.{onwards}
 use Rattle.commit_journal.proofs.Carries.{carry_goes}
+use Rattle.commit_journal.proofs.Others.{call_leaves, others_on, owns_step}
 
 pub named_at : (steps : List Step) (i : ℕ) (d : Step) → AllNamed steps → i < length steps → IsNamedStep (get_or steps i d)
 named_at [] i d are below = absurd (omega arith)
@@ -68,3 +69,10 @@ told_turn steps i step first mid new below is so_far next =
 
 pub told_done : (steps : List Step) (i : ℕ) (first new : Files) → length steps ≤ i → new ≡ carried first (take i steps) → new ≡ carried first steps
 told_done steps i first new end so_far = so_far ∙ ap (λ (l : List Step). carried first l) (take_all i steps end)
+
+-- the others' files, turn by turn
+pub step_leaves : {T E : Type 0} (steps : List Step) (i : ℕ) (step : Step) (old mid new : List State) (result : Result T E) → AllSound mid → i < length steps → step ≡ get_or steps i step
+    → LeavesOthers (IsOfCommit steps) old mid → Goes (call_of step) mid new result → LeavesOthers (IsOfCommit steps) old new
+step_leaves steps i step old mid new result sound below is so_far goes =
+    let here : IsIn step steps = subst (λ (u : Step). IsIn u steps) (sym is) (in_at steps i step below) in
+    others_on (IsOfCommit steps) old mid new so_far (call_leaves (IsOfCommit steps) (call_of step) mid new result (owns_step steps step here) sound goes)

@@ -1,5 +1,5 @@
 -- What an opening finds, and what it keeps at every moment.
-use Rattle.std.specs.Prelude.{◌≡◌, ◌≢◌, ◌⊎◌, ℕ, nat_eq, Bool, false, List, [], ◌∷◌, Option, Some, None, Result, Ok, Err}
+use Rattle.std.specs.Prelude.{◌≡◌, ◌≢◌, ◌⊎◌, ℕ, nat_eq, Bool, false, List, [], ◌∷◌, Option, Some, None, Result, Err}
 use Rattle.acq_outside.specs.Disk.{Files}
 use Rattle.acq_outside.specs.Crash.{State, reads}
 use Rattle.journal_model.specs.Names.{journal}

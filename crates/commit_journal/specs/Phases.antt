@@ -1,8 +1,8 @@
 -- The states between the calls of an opening.
 use Rattle.std.specs.Prelude.{◌≡◌, ◌≢◌, ◌⊎◌, ℕ, List, [], ◌∷◌, Option, Some, None}
 use Rattle.acq_outside.specs.Disk.{Files, after_write, after_cut, after_rename}
-use Rattle.acq_outside.specs.Crash.{State, Names, names_of, reads, file_at, synced}
-use Rattle.acq_outside.specs.declared.state.NameChange.{NameChange}
+use Rattle.acq_outside.specs.Crash.{State, names_of, file_at, synced}
+use Rattle.acq_outside.specs.declared.state.FileState.{FileState}
 use Rattle.acq_outside.specs.declared.state.NameChange.TheVariants.{Made}
 use Rattle.acq_outside.specs.declared.change.Change.{Change}
 use Rattle.acq_outside.specs.declared.change.Change.TheVariants.{Rename, Remove}
@@ -10,7 +10,8 @@ use Rattle.journal_model.specs.Fine.{IsNamedStep}
 use Rattle.journal_model.specs.Names.{journal, beside, partial}
 use Rattle.journal_model.specs.Steps.{carried}
 use Rattle.journal_model.specs.Reading.{gate_of, gate_in}
-use Rattle.journal_model.specs.Twice.{AreOf}
+use Rattle.journal_model.specs.Twice.{Touches, IsIn, AreOf}
+use Rattle.journal_model.specs.Rest.{file_named}
 use Rattle.journal_model.specs.Aside.{IsQuiet}
 use Rattle.journal_model.specs.declared.step.Step.{Step}
 use Rattle.journal_model.specs.declared.step.Step.TheVariants.{Put, Drop}
@@ -113,6 +114,21 @@ abbrev pub NamesSteps : Gate → Type 0
 NamesSteps (Open steps) = AllNamed steps
 NamesSteps (Damaged at) = Unit {0}
 NamesSteps Shut = Unit {0}
+
+-- The files that calls leave as they are.
+
+-- the file that a name leads to; none where the disk tells nothing
+abbrev pub file_now : List State → List ℕ → Option FileState
+file_now [] name = None
+file_now (s ∷ past) name = file_named s name
+
+-- those of other names stay, and so does what a crash may leave of them
+pub record LeavesOthers (Own : List ℕ → Type 0) (old new : List State) : Type 0 where
+  pub same : (name : List ℕ) → (Own name → ⊥) → file_now new name ≡ file_now old name
+
+-- the journal, and what the steps change
+abbrev pub IsOfCommit : List Step → List ℕ → Type 0
+IsOfCommit steps name = (name ≡ journal) ⊎ ((step : Step) × IsIn step steps × Touches step name)
 
 -- What reads give after an opening's last calls.
 

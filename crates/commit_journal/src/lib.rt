@@ -3,10 +3,25 @@
 //! commit or those after it, whole.
 #![tactic(auto)]
 
+pub use changing::{Change, Content};
+pub use committing::commit;
 pub use error::JournalError;
+pub use laws::{commits_are_whole, ready_is_recorded, whole_is_undamaged};
 pub use opening::{Journal, open_journal};
+pub use prepared::Prepared;
+pub use preparing::prepare;
 
+mod changing;
+mod committing;
 mod error;
+mod filling;
+mod laws;
 mod making;
+mod noting;
 mod opening;
+mod prepared;
+mod preparing;
+mod recording;
 mod recovery;
+#[cfg(test)]
+mod tests;

@@ -15,6 +15,7 @@ fn cut_beside<D: Disk>(disk: &mut D) -> Result<(), Fault>
     requires { Stands IsUnset (D.trace disk.old) }
     ensures count { D.faults disk.old ≤ D.faults disk.new }
     ensures fault { OnErr result (Rose (D.faults disk.old) (D.faults disk.new)) }
+    ensures quiet { OnOk result (D.faults disk.new ≡ D.faults disk.old) }
     ensures held { D.held disk.new ≡ D.held disk.old }
     ensures telling { D.tells disk.new ≡ D.tells disk.old }
     ensures moments { Since (D.trace disk.old) (D.trace disk.new) (From Recovers (D.trace disk.old)) }
@@ -28,6 +29,7 @@ fn write_beside<D: Disk>(disk: &mut D) -> Result<(), Fault>
     requires { Stands (IsBeside []) (D.trace disk.old) }
     ensures count { D.faults disk.old ≤ D.faults disk.new }
     ensures fault { OnErr result (Rose (D.faults disk.old) (D.faults disk.new)) }
+    ensures quiet { OnOk result (D.faults disk.new ≡ D.faults disk.old) }
     ensures held { D.held disk.new ≡ D.held disk.old }
     ensures telling { D.tells disk.new ≡ D.tells disk.old }
     ensures moments { Since (D.trace disk.old) (D.trace disk.new) (From Recovers (D.trace disk.old)) }
@@ -41,6 +43,7 @@ fn sync_beside<D: Disk>(disk: &mut D) -> Result<(), Fault>
     requires { Stands (IsBeside (0 ∷ [])) (D.trace disk.old) }
     ensures count { D.faults disk.old ≤ D.faults disk.new }
     ensures fault { OnErr result (Rose (D.faults disk.old) (D.faults disk.new)) }
+    ensures quiet { OnOk result (D.faults disk.new ≡ D.faults disk.old) }
     ensures held { D.held disk.new ≡ D.held disk.old }
     ensures telling { D.tells disk.new ≡ D.tells disk.old }
     ensures moments { Since (D.trace disk.old) (D.trace disk.new) (From Recovers (D.trace disk.old)) }
@@ -55,6 +58,7 @@ fn name_it<D: Disk>(disk: &mut D) -> Result<(), Fault>
     requires { Stands LastsBeside (D.trace disk.old) }
     ensures count { D.faults disk.old ≤ D.faults disk.new }
     ensures fault { OnErr result (Rose (D.faults disk.old) (D.faults disk.new)) }
+    ensures quiet { OnOk result (D.faults disk.new ≡ D.faults disk.old) }
     ensures held { D.held disk.new ≡ D.held disk.old }
     ensures telling { D.tells disk.new ≡ D.tells disk.old }
     ensures moments { Since (D.trace disk.old) (D.trace disk.new) (From Recovers (D.trace disk.old)) }
@@ -68,6 +72,7 @@ fn name_lastingly<D: Disk>(disk: &mut D) -> Result<(), Fault>
     requires { Stands IsNamed (D.trace disk.old) }
     ensures count { D.faults disk.old ≤ D.faults disk.new }
     ensures fault { OnErr result (Rose (D.faults disk.old) (D.faults disk.new)) }
+    ensures quiet { OnOk result (D.faults disk.new ≡ D.faults disk.old) }
     ensures held { D.held disk.new ≡ D.held disk.old }
     ensures telling { D.tells disk.new ≡ D.tells disk.old }
     ensures moments { Since (D.trace disk.old) (D.trace disk.new) (From Recovers (D.trace disk.old)) }
@@ -83,6 +88,7 @@ fn lay_beside<D: Disk>(disk: &mut D) -> Result<(), Fault>
     requires { Stands IsUnset (D.trace disk.old) }
     ensures count { D.faults disk.old ≤ D.faults disk.new }
     ensures fault { OnErr result (Rose (D.faults disk.old) (D.faults disk.new)) }
+    ensures quiet { OnOk result (D.faults disk.new ≡ D.faults disk.old) }
     ensures held { D.held disk.new ≡ D.held disk.old }
     ensures telling { D.tells disk.new ≡ D.tells disk.old }
     ensures moments { Since (D.trace disk.old) (D.trace disk.new) (From Recovers (D.trace disk.old)) }
@@ -100,6 +106,7 @@ pub fn make_new<D: Disk>(disk: &mut D) -> Result<(), Fault>
     requires { Stands IsUnset (D.trace disk.old) }
     ensures count { D.faults disk.old ≤ D.faults disk.new }
     ensures fault { OnErr result (Rose (D.faults disk.old) (D.faults disk.new)) }
+    ensures quiet { OnOk result (D.faults disk.new ≡ D.faults disk.old) }
     ensures held { D.held disk.new ≡ D.held disk.old }
     ensures telling { D.tells disk.new ≡ D.tells disk.old }
     ensures moments { Since (D.trace disk.old) (D.trace disk.new) (From Recovers (D.trace disk.old)) }

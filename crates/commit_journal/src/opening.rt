@@ -18,7 +18,10 @@ use std::alloc::Global;
 
 /// A journal that is open for commits.
 #[derive(Debug, Drop)]
-pub struct Journal {}
+pub struct Journal {
+    // An opening alone makes one.
+    opened: (),
+}
 
 /// The first byte of a journal.
 #[derive(Clone, Copy, Debug, PartialEq, Eq)]
@@ -35,6 +38,7 @@ pub enum First {
 fn lay_names<D: Disk>(disk: &mut D) -> Result<(), Fault>
     ensures count { D.faults disk.old ≤ D.faults disk.new }
     ensures fault { OnErr result (Rose (D.faults disk.old) (D.faults disk.new)) }
+    ensures quiet { OnOk result (D.faults disk.new ≡ D.faults disk.old) }
     ensures held { D.held disk.new ≡ D.held disk.old }
     ensures telling { D.tells disk.new ≡ D.tells disk.old }
     ensures same { D.files disk.new ≡ D.files disk.old }
@@ -49,6 +53,7 @@ fn lay_journal<D: Disk>(disk: &mut D) -> Result<(), Fault>
     requires { Stands IsUnmoved (D.trace disk.old) }
     ensures count { D.faults disk.old ≤ D.faults disk.new }
     ensures fault { OnErr result (Rose (D.faults disk.old) (D.faults disk.new)) }
+    ensures quiet { OnOk result (D.faults disk.new ≡ D.faults disk.old) }
     ensures held { D.held disk.new ≡ D.held disk.old }
     ensures telling { D.tells disk.new ≡ D.tells disk.old }
     ensures same { D.files disk.new ≡ D.files disk.old }
@@ -62,6 +67,7 @@ fn lay_journal<D: Disk>(disk: &mut D) -> Result<(), Fault>
 fn lay<D: Disk>(disk: &mut D) -> Result<(), Fault>
     ensures count { D.faults disk.old ≤ D.faults disk.new }
     ensures fault { OnErr result (Rose (D.faults disk.old) (D.faults disk.new)) }
+    ensures quiet { OnOk result (D.faults disk.new ≡ D.faults disk.old) }
     ensures held { D.held disk.new ≡ D.held disk.old }
     ensures telling { D.tells disk.new ≡ D.tells disk.old }
     ensures same { D.files disk.new ≡ D.files disk.old }
@@ -76,6 +82,7 @@ fn lay<D: Disk>(disk: &mut D) -> Result<(), Fault>
 fn first_byte<D: Disk>(disk: &mut D) -> Result<First, Fault>
     ensures count { D.faults disk.old ≤ D.faults disk.new }
     ensures fault { OnErr result (Rose (D.faults disk.old) (D.faults disk.new)) }
+    ensures quiet { OnOk result (D.faults disk.new ≡ D.faults disk.old) }
     ensures held { D.held disk.new ≡ D.held disk.old }
     ensures telling { D.tells disk.new ≡ D.tells disk.old }
     ensures same { D.files disk.new ≡ D.files disk.old }
@@ -106,6 +113,7 @@ fn first_of(n: usize, gate: u8) -> First
 fn judge<D: Disk>(alloc: Global, disk: &mut D) -> Result<Gate, JournalError>
     ensures count { D.faults disk.old ≤ D.faults disk.new }
     ensures fault { IsErrOf result JournalError.DiskFault → Rose (D.faults disk.old) (D.faults disk.new) }
+    ensures quiet { OnOk result (D.faults disk.new ≡ D.faults disk.old) }
     ensures held { D.held disk.new ≡ D.held disk.old }
     ensures telling { D.tells disk.new ≡ D.tells disk.old }
     ensures same { D.files disk.new ≡ D.files disk.old }
@@ -128,6 +136,7 @@ fn open_gate<D: Disk>(alloc: Global, disk: &mut D) -> Result<(), JournalError>
     requires { Stands IsLaid (D.trace disk.old) }
     ensures count { D.faults disk.old ≤ D.faults disk.new }
     ensures fault { IsErrOf result JournalError.DiskFault → Rose (D.faults disk.old) (D.faults disk.new) }
+    ensures quiet { OnOk result (D.faults disk.new ≡ D.faults disk.old) }
     ensures held { D.held disk.new ≡ D.held disk.old }
     ensures telling { D.tells disk.new ≡ D.tells disk.old }
     ensures moments { Since (D.trace disk.old) (D.trace disk.new) (From Recovers (D.trace disk.old)) }
@@ -155,6 +164,7 @@ fn open_gate<D: Disk>(alloc: Global, disk: &mut D) -> Result<(), JournalError>
 fn open_whole<D: Disk>(alloc: Global, disk: &mut D) -> Result<Journal, JournalError>
     ensures count { D.faults disk.old ≤ D.faults disk.new }
     ensures fault { IsErrOf result JournalError.DiskFault → Rose (D.faults disk.old) (D.faults disk.new) }
+    ensures quiet { OnOk result (D.faults disk.new ≡ D.faults disk.old) }
     ensures held { D.held disk.new ≡ D.held disk.old }
     ensures telling { D.tells disk.new ≡ D.tells disk.old }
     ensures recovers { Since (D.trace disk.old) (D.trace disk.new) (From Recovers (D.trace disk.old)) }
@@ -167,14 +177,14 @@ fn open_whole<D: Disk>(alloc: Global, disk: &mut D) -> Result<Journal, JournalEr
     lay(disk)?;
     let found = first_byte(disk)?;
     match found {
-        First::Closed => Ok(Journal {}),
+        First::Closed => Ok(Journal { opened: () }),
         First::Opened => {
             open_gate(alloc, disk)?;
-            Ok(Journal {})
+            Ok(Journal { opened: () })
         }
         First::Other => {
             make_new(disk)?;
-            Ok(Journal {})
+            Ok(Journal { opened: () })
         }
     }
 }
@@ -186,6 +196,7 @@ fn open_whole<D: Disk>(alloc: Global, disk: &mut D) -> Result<Journal, JournalEr
 pub fn open_journal<D: Disk>(alloc: Global, disk: &mut D) -> Result<Journal, JournalError>
     ensures count { D.faults disk.old ≤ D.faults disk.new }
     ensures fault { IsErrOf result JournalError.DiskFault → Rose (D.faults disk.old) (D.faults disk.new) }
+    ensures quiet { OnOk result (D.faults disk.new ≡ D.faults disk.old) }
     ensures held { D.held disk.new ≡ D.held disk.old }
     ensures telling { D.tells disk.new ≡ D.tells disk.old }
     ensures recovers { Since (D.trace disk.old) (D.trace disk.new) (From Recovers (D.trace disk.old)) }

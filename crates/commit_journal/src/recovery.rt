@@ -8,7 +8,7 @@ ghost use Rattle.journal_model.specs.Steps.{stepped, carried};
 ghost use Rattle.journal_model.specs.Twice.{IsIn};
 ghost use Rattle.journal_model.specs.Fine.{IsNamedStep};
 ghost use Rattle.commit_journal.specs.Opening.{Recovers};
-ghost use Rattle.commit_journal.specs.Phases.{IsCarrying, IsDone, IsTurned, AllNamed, call_of, closed_files};
+ghost use Rattle.commit_journal.specs.Phases.{IsCarrying, IsDone, IsTurned, IsOfCommit, LeavesOthers, AllNamed, call_of, closed_files};
 
 use acq_outside::{Disk, Fault};
 use journal_model::{PartialName, Step};
@@ -19,6 +19,7 @@ fn carry_one<D: Disk>(disk: &mut D, step: &Step) -> Result<(), Fault>
     requires { IsNamedStep step.now }
     ensures count { D.faults disk.old ≤ D.faults disk.new }
     ensures fault { OnErr result (Rose (D.faults disk.old) (D.faults disk.new)) }
+    ensures quiet { OnOk result (D.faults disk.new ≡ D.faults disk.old) }
     ensures held { D.held disk.new ≡ D.held disk.old }
     ensures telling { D.tells disk.new ≡ D.tells disk.old }
     ensures told { IsTrue (D.tells disk.old) → OnOk result (D.files disk.new ≡ stepped (D.files disk.old) step.now) }
@@ -39,9 +40,11 @@ fn carry_all<D: Disk>(disk: &mut D, steps: &[Step]) -> Result<(), Fault>
     requires open_gate { Stands (IsCarrying steps.now []) (D.trace disk.old) }
     ensures count { D.faults disk.old ≤ D.faults disk.new }
     ensures fault { OnErr result (Rose (D.faults disk.old) (D.faults disk.new)) }
+    ensures quiet { OnOk result (D.faults disk.new ≡ D.faults disk.old) }
     ensures held { D.held disk.new ≡ D.held disk.old }
     ensures telling { D.tells disk.new ≡ D.tells disk.old }
     ensures moments { Since (D.trace disk.old) (D.trace disk.new) (From Recovers (D.trace disk.old)) }
+    ensures others { LeavesOthers (IsOfCommit steps.now) (D.trace disk.old) (D.trace disk.new) }
     ensures told { IsTrue (D.tells disk.old) → OnOk result (D.files disk.new ≡ carried (D.files disk.old) steps.now) }
     ensures done { OnOk result (Stands (IsCarrying steps.now steps.now) (D.trace disk.new)) }
 {
@@ -56,9 +59,11 @@ fn settle<D: Disk>(disk: &mut D, steps: &[Step]) -> Result<(), Fault>
     requires { Stands (IsCarrying steps.now steps.now) (D.trace disk.old) }
     ensures count { D.faults disk.old ≤ D.faults disk.new }
     ensures fault { OnErr result (Rose (D.faults disk.old) (D.faults disk.new)) }
+    ensures quiet { OnOk result (D.faults disk.new ≡ D.faults disk.old) }
     ensures held { D.held disk.new ≡ D.held disk.old }
     ensures telling { D.tells disk.new ≡ D.tells disk.old }
     ensures moments { Since (D.trace disk.old) (D.trace disk.new) (From Recovers (D.trace disk.old)) }
+    ensures others { LeavesOthers (IsOfCommit steps.now) (D.trace disk.old) (D.trace disk.new) }
     ensures same { D.files disk.new ≡ D.files disk.old }
     ensures done { OnOk result (Stands (IsDone steps.now) (D.trace disk.new)) }
 {
@@ -70,9 +75,11 @@ fn shut<D: Disk>(disk: &mut D, steps: &[Step]) -> Result<(), Fault>
     requires { Stands (IsDone steps.now) (D.trace disk.old) }
     ensures count { D.faults disk.old ≤ D.faults disk.new }
     ensures fault { OnErr result (Rose (D.faults disk.old) (D.faults disk.new)) }
+    ensures quiet { OnOk result (D.faults disk.new ≡ D.faults disk.old) }
     ensures held { D.held disk.new ≡ D.held disk.old }
     ensures telling { D.tells disk.new ≡ D.tells disk.old }
     ensures moments { Since (D.trace disk.old) (D.trace disk.new) (From Recovers (D.trace disk.old)) }
+    ensures others { LeavesOthers (IsOfCommit steps.now) (D.trace disk.old) (D.trace disk.new) }
     ensures told { IsTrue (D.tells disk.old) → OnOk result (D.files disk.new ≡ closed_files (D.files disk.old)) }
     ensures done { OnOk result (Stands IsTurned (D.trace disk.new)) }
 {
@@ -80,45 +87,51 @@ fn shut<D: Disk>(disk: &mut D, steps: &[Step]) -> Result<(), Fault>
 }
 
 /// Makes the closed gate lasting.
-fn close<D: Disk>(disk: &mut D) -> Result<(), Fault>
+fn close<D: Disk>(disk: &mut D, steps: &[Step]) -> Result<(), Fault>
     requires { Stands IsTurned (D.trace disk.old) }
     ensures count { D.faults disk.old ≤ D.faults disk.new }
     ensures fault { OnErr result (Rose (D.faults disk.old) (D.faults disk.new)) }
+    ensures quiet { OnOk result (D.faults disk.new ≡ D.faults disk.old) }
     ensures held { D.held disk.new ≡ D.held disk.old }
     ensures telling { D.tells disk.new ≡ D.tells disk.old }
     ensures moments { Since (D.trace disk.old) (D.trace disk.new) (From Recovers (D.trace disk.old)) }
+    ensures others { LeavesOthers (IsOfCommit steps.now) (D.trace disk.old) (D.trace disk.new) }
     ensures same { D.files disk.new ≡ D.files disk.old }
     ensures done { OnOk result (Stands IsIdle (D.trace disk.new)) }
 {
     disk.sync(b"journal".as_slice())
 }
 
-#[tactic(auto, using(crate::proofs::Recovers::onwards))]
+#[tactic(auto, using(crate::proofs::Recovers::onwards, crate::proofs::Others::others_on))]
 fn close_behind<D: Disk>(disk: &mut D, steps: &[Step]) -> Result<(), Fault>
     requires { Stands (IsCarrying steps.now steps.now) (D.trace disk.old) }
     ensures count { D.faults disk.old ≤ D.faults disk.new }
     ensures fault { OnErr result (Rose (D.faults disk.old) (D.faults disk.new)) }
+    ensures quiet { OnOk result (D.faults disk.new ≡ D.faults disk.old) }
     ensures held { D.held disk.new ≡ D.held disk.old }
     ensures telling { D.tells disk.new ≡ D.tells disk.old }
     ensures moments { Since (D.trace disk.old) (D.trace disk.new) (From Recovers (D.trace disk.old)) }
+    ensures others { LeavesOthers (IsOfCommit steps.now) (D.trace disk.old) (D.trace disk.new) }
     ensures told { IsTrue (D.tells disk.old) → OnOk result (D.files disk.new ≡ closed_files (D.files disk.old)) }
     ensures done { OnOk result (Stands IsIdle (D.trace disk.new)) }
 {
     settle(disk, steps)?;
     shut(disk, steps)?;
-    close(disk)
+    close(disk, steps)
 }
 
 /// Carries out an open record and closes the gate.
-#[tactic(auto, using(crate::proofs::Recovers::onwards))]
+#[tactic(auto, using(crate::proofs::Recovers::onwards, crate::proofs::Others::others_on))]
 pub fn recover<D: Disk>(disk: &mut D, steps: &[Step]) -> Result<(), Fault>
     requires named { AllNamed steps.now }
     requires open_gate { Stands (IsCarrying steps.now []) (D.trace disk.old) }
     ensures count { D.faults disk.old ≤ D.faults disk.new }
     ensures fault { OnErr result (Rose (D.faults disk.old) (D.faults disk.new)) }
+    ensures quiet { OnOk result (D.faults disk.new ≡ D.faults disk.old) }
     ensures held { D.held disk.new ≡ D.held disk.old }
     ensures telling { D.tells disk.new ≡ D.tells disk.old }
     ensures moments { Since (D.trace disk.old) (D.trace disk.new) (From Recovers (D.trace disk.old)) }
+    ensures others { LeavesOthers (IsOfCommit steps.now) (D.trace disk.old) (D.trace disk.new) }
     ensures told { IsTrue (D.tells disk.old) → OnOk result (D.files disk.new ≡ closed_files (carried (D.files disk.old) steps.now)) }
     ensures done { OnOk result (Stands IsIdle (D.trace disk.new)) }
 {

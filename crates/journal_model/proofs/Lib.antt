@@ -1,2 +1,4 @@
 mod Loops
+mod Names
+mod Shorts
 mod Texts

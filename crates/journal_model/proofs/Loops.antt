@@ -1,6 +1,6 @@
 -- Steps and groups read one after the other, as loops do.
 use Rattle.std.proofs.Common.{◌≡◌, ℕ, suc, ◌-◌, ◌+◌, ◌≤◌, ◌<◌, List, [], ◌∷◌, ◌++◌, Result, Ok, Err, sym, ap, subst, ◌∙◌, refl, arith}
-use Rattle.journal_model.specs.Reading.{◌>>=◌, Fails, step_at, steps_at, group_at, groups_at}
+use Rattle.journal_model.specs.Reading.{Fails, step_at, steps_at, group_at, groups_at}
 use Rattle.journal_model.specs.declared.record.ReadError.{ReadError}
 use Rattle.journal_model.specs.declared.record.ReadError.TheVariants as errors
 use Rattle.journal_model.specs.declared.step.Step.{Step}

@@ -1,9 +1,8 @@
 -- While no gate is open and neither a list nor the journal is touched, a crash leaves the lists that it left.
-use Rattle.std.proofs.Common.{◌≡◌, ◌≢◌, ◌⊎◌, inl, inr, ⊎_elim, refl, sym, ap, ◌∙◌, subst, arith, ℕ, ◌<◌, ◌≤◌, Bool, true, false, if◌then◌else◌, List, [], ◌∷◌, ◌++◌, length, get_or, set, drop, Option, Some, None, option_map, Result, Ok, Err, OnOk}
-use Rattle.std.proofs.Math.Path.{fun_ext}
+use Rattle.std.proofs.Common.{◌≡◌, ◌≢◌, ◌⊎◌, inl, inr, ⊎_elim, refl, sym, ap, ◌∙◌, subst, arith, ℕ, true, false, List, [], ◌∷◌, ◌++◌, length, drop, Option, Some, None, option_map, Result, Ok, Err, OnOk}
 use Rattle.std.proofs.lemmas.Bool.{cases_eq}
 use Rattle.std.proofs.lemmas.List.{get_or-set_other}
-use Rattle.acq_outside.specs.Disk.{Files, same_name}
+use Rattle.acq_outside.specs.Disk.{Files}
 use Rattle.acq_outside.specs.Crash.{State, Names, IsOutcome, FitsAll, IsImage, IsSound, AllSound, IsTorn, Goes, after, changed_file, on_file, cut_or_made, file_at, no_file, names_of, synced, file_written, file_cut, all_renamed, reads, seen_at}
 use Rattle.acq_outside.specs.Moments.{Stands, Since, From}
 use Rattle.acq_outside.specs.Traces.{apart_now, all_push}
@@ -16,12 +15,11 @@ use Rattle.acq_outside.specs.declared.state.NameChange.{NameChange}
 use Rattle.acq_outside.specs.declared.state.NameChange.TheVariants.{Made}
 use Rattle.journal_model.specs.Names.{journal, partial, is_aside, is_list}
 use Rattle.journal_model.specs.Reading.{gate_of, gate_in}
-use Rattle.journal_model.specs.Reopen.{lists, opened, reopened, Leaves, IsAsOf, LeavesAsOf}
-use Rattle.journal_model.specs.Rest.{IsAside, AllAside, IsClosed, IsIdle, IsRecorded, IsSettled, IsAtRest, StaysAtRest, KeepsOthers, file_named, part_file}
+use Rattle.journal_model.specs.Reopen.{lists, opened, reopened, LeavesAsOf}
+use Rattle.journal_model.specs.Rest.{AllAside, IsClosed, IsIdle, IsRecorded, IsSettled, StaysAtRest, KeepsOthers, file_named, part_file}
 use Rattle.journal_model.specs.Twice.{with_same, with_other}
-use Rattle.journal_model.specs.Views.{view, image_view, view_image, gated_view, apart_names, list_not_aside, off_all, part_aside, more_aside, lists_same, instead, instead_same, instead_other}
-use Rattle.journal_model.specs.declared.step.Gate.{Gate}
-use Rattle.journal_model.specs.declared.step.Gate.TheVariants.{Open, Damaged, Shut}
+use Rattle.journal_model.specs.Views.{view, image_view, view_image, apart_names, list_not_aside, off_all, part_aside, more_aside, lists_same, instead, instead_same, instead_other}
+use Rattle.journal_model.specs.declared.step.Gate.TheVariants.{Shut}
 
 -- no change of a list's name or of the journal's is pending, and a crash leaves no gate open
 pub record IsQuiet (s : State) : Type 0 where

@@ -1,5 +1,5 @@
 -- The steps that a journal says change each name but once, leave the journal's alone, and have names that a disk may have.
-use Rattle.std.proofs.Common.{◌≡◌, ◌≢◌, ◌⊎◌, inl, inr, ⊎_elim, refl, sym, ap, ◌∙◌, subst, arith, ℕ, zero, suc, ◌≤◌, ◌<◌, ◌-◌, nat_eq, nat_lt, Bool, true, false, not, ◌&&◌, ◌||◌, if◌then◌else◌, List, [], ◌∷◌, ◌++◌, length, take, drop, Result, Ok, Err, bytes_eq}
+use Rattle.std.proofs.Common.{◌≡◌, ◌≢◌, ◌⊎◌, inl, inr, ⊎_elim, refl, sym, ap, ◌∙◌, subst, arith, ℕ, zero, suc, ◌≤◌, ◌-◌, nat_eq, nat_lt, Bool, true, false, not, ◌&&◌, ◌||◌, if◌then◌else◌, List, [], ◌∷◌, ◌++◌, length, take, drop, Result, Ok, Err, bytes_eq}
 use Rattle.std.proofs.lemmas.Bool.Decides.{nat_tests}
 use Rattle.std.proofs.lemmas.Slice.Eq.{bytes_eq-Decides}
 use Rattle.std.proofs.lemmas.Str.{IsUtf8-from_is_utf8}
@@ -11,11 +11,9 @@ use Rattle.acq_outside.specs.Disk.{IsName, same_name}
 use Rattle.journal_model.specs.Names.{journal, lock, partial}
 use Rattle.journal_model.specs.Reading.{◌>>=◌, number_at, kind_at, step_named, most_long, clashes, is_name_of, is_allowed, name_at, step_at, steps_at, group_at, groups_at, ended, sealed, old_at, new_at, steps_of_body, gate_with, gate_of}
 use Rattle.journal_model.specs.Twice.{Touches, IsIn, Apart}
-use Rattle.journal_model.specs.Literals.{partial_named}
 use Rattle.journal_model.specs.declared.step.Step.{Step}
 use Rattle.journal_model.specs.declared.step.Step.TheVariants.{Put, Drop}
-use Rattle.journal_model.specs.declared.step.Gate.{Gate}
-use Rattle.journal_model.specs.declared.step.Gate.TheVariants.{Open, Damaged, Shut}
+use Rattle.journal_model.specs.declared.step.Gate.TheVariants.{Open, Shut}
 
 -- the names of a step's calls
 abbrev pub IsNamedStep : Step → Type 0

@@ -13,3 +13,6 @@ pub mod Literals
 pub mod Fine
 pub mod Again
 pub mod Resting
+-- Cited by this crate's own functions alone.
+pub mod Writing
+pub mod Seen

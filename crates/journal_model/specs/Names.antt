@@ -1,5 +1,5 @@
 -- The names of the lists folder.
-use Rattle.std.specs.Prelude.{◌≡◌, ◌≢◌, ℕ, ◌≤◌, Bool, true, not, ◌&&◌, ◌||◌, List, [], ◌∷◌, ◌++◌, length, take, codes}
+use Rattle.std.specs.Prelude.{◌≢◌, ℕ, ◌≤◌, Bool, not, ◌&&◌, ◌||◌, List, ◌++◌, length, take, codes}
 use Rattle.acq_outside.specs.Disk.{IsName, same_name}
 
 -- the file that a process holds while it works on the folder

@@ -1,12 +1,11 @@
 -- Which lists a folder stands for, once its journal is carried out.
-use Rattle.std.specs.Prelude.{◌≡◌, ◌≢◌, ◌⊎◌, ℕ, true, if◌then◌else◌, List, [], ◌∷◌, Option, Some, None, unwrap_or, Result, Err}
+use Rattle.std.specs.Prelude.{◌≡◌, ◌⊎◌, if◌then◌else◌, List, [], ◌∷◌, Option, Some, None, unwrap_or}
 use Rattle.acq_outside.specs.Disk.{Files}
 use Rattle.acq_outside.specs.Crash.{State, IsImage, reads}
-use Rattle.acq_outside.specs.Moments.{Stands, From}
+use Rattle.acq_outside.specs.Moments.{From}
 use Rattle.journal_model.specs.Names.{journal, is_list}
 use Rattle.journal_model.specs.Steps.{carried}
 use Rattle.journal_model.specs.Reading.{gate_in}
-use Rattle.journal_model.specs.declared.step.Step.{Step}
 use Rattle.journal_model.specs.declared.step.Gate.{Gate}
 use Rattle.journal_model.specs.declared.step.Gate.TheVariants.{Open, Damaged, Shut}
 

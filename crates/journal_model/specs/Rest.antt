@@ -1,15 +1,14 @@
 -- A disk between two commits, and the lists on their way.
-use Rattle.std.specs.Prelude.{◌≡◌, ◌≢◌, ◌⊎◌, ℕ, ◌≤◌, true, nat_lt, if◌then◌else◌, List, [], ◌∷◌, length, take, Option, Some, None, option_map}
+use Rattle.std.specs.Prelude.{◌≡◌, ◌≢◌, ◌⊎◌, ℕ, ◌≤◌, true, nat_lt, if◌then◌else◌, List, [], ◌∷◌, Option, Some, None, option_map}
 use Rattle.acq_outside.specs.Disk.{Files}
 use Rattle.acq_outside.specs.Crash.{State, IsImage, reads, names_of, file_at, synced}
-use Rattle.acq_outside.specs.Moments.{Stands, From}
+use Rattle.acq_outside.specs.Moments.{From}
 use Rattle.acq_outside.specs.declared.state.FileState.{FileState}
 use Rattle.acq_outside.specs.declared.state.NameChange.{NameChange}
 use Rattle.acq_outside.specs.declared.state.NameChange.TheVariants.{Made, Moved, Removed}
 use Rattle.journal_model.specs.Names.{journal, partial, is_aside, is_list}
-use Rattle.journal_model.specs.Steps.{carried}
 use Rattle.journal_model.specs.Reading.{gate_in}
-use Rattle.journal_model.specs.Reopen.{reopened, Leaves}
+use Rattle.journal_model.specs.Reopen.{Leaves}
 use Rattle.journal_model.specs.declared.step.Step.{Step}
 use Rattle.journal_model.specs.declared.step.Step.TheVariants.{Put, Drop}
 use Rattle.journal_model.specs.declared.step.Gate.TheVariants.{Open}

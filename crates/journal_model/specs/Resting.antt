@@ -1,10 +1,10 @@
 -- A disk that has nothing to lose is at rest.
-use Rattle.std.proofs.Common.{◌≡◌, refl, sym, ap, ◌∙◌, subst, inl, ℕ, true, List, [], ◌∷◌, Option, Some, None, option_map}
+use Rattle.std.proofs.Common.{refl, sym, ap, ◌∙◌, subst, inl, ℕ, List, Some, option_map}
 use Rattle.acq_outside.specs.Disk.{Files}
-use Rattle.acq_outside.specs.Crash.{State, IsOutcome, IsImage, names_of, reads, file_at, synced}
+use Rattle.acq_outside.specs.Crash.{State, IsOutcome, names_of, reads, file_at}
 use Rattle.acq_outside.specs.Outcomes.{only_synced}
 use Rattle.acq_outside.specs.declared.state.FileState.{FileState}
-use Rattle.journal_model.specs.Names.{journal, is_list}
+use Rattle.journal_model.specs.Names.{journal}
 use Rattle.journal_model.specs.Reopen.{lists}
 use Rattle.journal_model.specs.Rest.{IsIdle, IsSettled, IsAtRest, LeavesClosed}
 use Rattle.journal_model.specs.Views.{list_not_aside, off_all, part_aside, lists_same, reads_view}

@@ -4,7 +4,7 @@ use Rattle.std.proofs.lemmas.Slice.Eq.{bytes_eq-Decides}
 use Rattle.acq_outside.specs.Disk.{same_name}
 use Rattle.acq_outside.specs.Crash.{Names, moved_name, renamed, all_renamed, IsPart, none, left_out, taken}
 use Rattle.acq_outside.specs.declared.state.NameChange.{NameChange}
-use Rattle.acq_outside.specs.declared.state.NameChange.TheVariants.{Made, Moved, Removed}
+use Rattle.acq_outside.specs.declared.state.NameChange.TheVariants.{Moved, Removed}
 use Rattle.journal_model.specs.Names.{partial}
 use Rattle.journal_model.specs.Steps.{with_at, moved_at, stepped, carried}
 use Rattle.journal_model.specs.declared.step.Step.{Step}

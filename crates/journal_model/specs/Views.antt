@@ -1,21 +1,17 @@
 -- What a crash leaves, as names over bytes, and which lists that stands for.
-use Rattle.std.proofs.Common.{◌≡◌, ◌≢◌, ◌⊎◌, inl, inr, ⊎_elim, refl, sym, ap, ◌∙◌, subst, arith, ℕ, nat_eq, Bool, true, false, not, ◌&&◌, ◌||◌, if◌then◌else◌, List, [], ◌∷◌, ◌++◌, Option, Some, None, option_map}
+use Rattle.std.proofs.Common.{◌≡◌, ◌≢◌, refl, ap, ◌∙◌, subst, arith, ℕ, nat_eq, Bool, true, false, not, ◌&&◌, ◌||◌, if◌then◌else◌, List, [], ◌∷◌, ◌++◌, Option, Some, None, option_map}
 use Rattle.std.proofs.Math.Path.{fun_ext}
 use Rattle.std.proofs.lemmas.Bool.Decides.{nat_tests}
-use Rattle.std.proofs.lemmas.Slice.Eq.{bytes_eq-Decides}
 use Rattle.acq_outside.specs.Disk.{Files, same_name}
-use Rattle.acq_outside.specs.Crash.{Names, State, IsOutcome, IsPart, none, left_out, taken, IsImage, IsSound, all_renamed, renamed, with_name, moved_name, file_at, names_of, reads, seen_at, synced}
-use Rattle.acq_outside.specs.Outcomes.{only_synced}
-use Rattle.acq_outside.specs.Crashes.{none_of_none}
-use Rattle.acq_outside.specs.declared.state.FileState.{FileState}
+use Rattle.acq_outside.specs.Crash.{Names, State, IsOutcome, IsPart, none, left_out, taken, IsImage, all_renamed, renamed, with_name, moved_name, file_at, names_of, reads, seen_at}
 use Rattle.acq_outside.specs.declared.state.NameChange.{NameChange}
 use Rattle.acq_outside.specs.declared.state.NameChange.TheVariants.{Made, Moved, Removed}
 use Rattle.journal_model.specs.Names.{journal, lock, partial, is_partial, is_aside, is_list}
-use Rattle.journal_model.specs.Steps.{with_at, moved_at, stepped, carried}
+use Rattle.journal_model.specs.Steps.{moved_at, stepped, carried}
 use Rattle.journal_model.specs.Reading.{gate_in}
 use Rattle.journal_model.specs.Reopen.{lists, opened, reopened, IsAsOf, LeavesAsOf}
 use Rattle.journal_model.specs.Rest.{IsAside, AllAside}
-use Rattle.journal_model.specs.Twice.{with_other, moved_untouched}
+use Rattle.journal_model.specs.Twice.{with_other}
 use Rattle.journal_model.specs.declared.step.Step.{Step}
 use Rattle.journal_model.specs.declared.step.Step.TheVariants.{Put, Drop}
 use Rattle.journal_model.specs.declared.step.Gate.{Gate}

@@ -7,9 +7,12 @@ pub use laws::{idle_is_closed, idle_rests, records_are_read};
 pub use partial_name::PartialName;
 pub use record::ReadError;
 pub use step::{Gate, Step};
+pub use writing::write_body;
 
 mod gate;
 mod laws;
 mod partial_name;
 mod record;
+mod seen;
 mod step;
+mod writing;

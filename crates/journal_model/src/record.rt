@@ -1,14 +1,15 @@
 //! The reader of a record's bytes, from left to right.
-ghost use Rattle.std.specs.Prelude.{◌≡◌, ◌≤◌, length, not, ◌&&◌, nat_eq, nat_lt, IfOk};
-ghost use Rattle.std.specs.List.{list_any};
+ghost use Rattle.std.specs.Prelude.{◌≡◌, ◌≤◌, length, not, ◌&&◌, nat_eq, nat_lt, IfOk, IsTrue};
 ghost use Rattle.std.specs.Str.{is_utf8};
 ghost use Rattle.std.specs.Int.{w16, w32};
-ghost use Rattle.journal_model.specs.Reading.{Gives, number_at, kind_at, most_long, clashes, step_named, is_name_of, is_allowed, name_at, step_at, steps_at, group_at, groups_at, ended, sealed, old_at, new_at, steps_of_body};
-ghost use Rattle.journal_model.specs.Names.{lock, journal, partial};
+ghost use Rattle.journal_model.specs.Reading.{Gives, number_at, kind_at, most_long, step_named, is_name_of, is_allowed, name_at, step_at, steps_at, group_at, groups_at, ended, sealed, old_at, new_at, steps_of_body};
+ghost use Rattle.journal_model.specs.Names.{lock, journal};
+ghost use Rattle.journal_model.specs.Seen.{IsPutShort};
 ghost use Rattle.acq_outside.specs.Disk.{same_name};
 ghost use Rattle.journal_model.specs.declared.record.ReadError.TheVariants.{NoMemory as no_memory};
 
 use crate::Step;
+use crate::seen::Seen;
 use acq_base::{NoMemory, Row, Text};
 use sha2::{Digest, Sha256};
 use std::alloc::Global;
@@ -67,32 +68,6 @@ fn kind(bytes: &[u8]) -> Result<(bool, &[u8]), ReadError>
     }
 }
 
-/// Whether a name is that under which a list is on its way.
-fn is_partial_of(name: &[u8], list: &[u8]) -> bool
-    ensures { result ≡ same_name name.now (partial list.now) }
-{
-    match name.strip_prefix(b"partial/".as_slice()) {
-        Some(rest) => rest == list,
-        None => false,
-    }
-}
-
-/// Whether a step changes a name that another one changes.
-fn clash(put: bool, name: &[u8], other: &Step) -> bool
-    ensures { result ≡ clashes (step_named put name.now) other.now }
-{
-    match other {
-        Step::Put(list) => {
-            name == list.as_bytes()
-                || is_partial_of(name, list.as_bytes())
-                || (put && is_partial_of(list.as_bytes(), name))
-        }
-        Step::Drop(list) => {
-            name == list.as_bytes() || (put && is_partial_of(list.as_bytes(), name))
-        }
-    }
-}
-
 /// Whether a record may have a name of this length.
 fn is_length(put: bool, len: usize) -> bool
     ensures { result ≡ (not (nat_eq len 0) && not (nat_lt (most_long put) len)) }
@@ -123,22 +98,26 @@ fn is_fit(put: bool, name: &[u8]) -> bool
     is_length(put, name.len()) && is_text(name) && is_free(name)
 }
 
-fn clashes_with_any(before: &[Step], put: bool, name: &[u8]) -> bool
-    ensures { result ≡ list_any (clashes (step_named put name.now)) before.now }
-{
-    before.iter().any(|other| clash(put, name, other))
-}
-
 /// Whether a record may have this step behind those before.
-fn fits(before: &[Step], put: bool, name: &[u8]) -> bool
-    ensures { result ≡ is_allowed before.now put name.now }
+fn fits(alloc: Global, before: &Seen, put: bool, name: &[u8]) -> Result<bool, NoMemory>
+    ensures { IfOk result (λ fit. fit ≡ is_allowed before.now put name.now) }
 {
-    is_fit(put, name) && !clashes_with_any(before, put, name)
+    if !is_fit(put, name) {
+        return Ok(false);
+    }
+    let clash = before.clashes(alloc, put, name)?;
+    Ok(!clash)
 }
 
 #[tactic(auto, unfolding(crate::specs::Reading::name_at))]
-fn name<'a>(before: &[Step], put: bool, bytes: &'a [u8]) -> Result<(&'a [u8], &'a [u8]), ReadError>
-    ensures { Gives (λ x. (x.0.now, x.1.now)) result (name_at before.now put bytes.now) }
+fn name<'a>(
+    alloc: Global,
+    before: &Seen,
+    put: bool,
+    bytes: &'a [u8],
+) -> Result<(&'a [u8], &'a [u8]), ReadError>
+    ensures read { Gives (λ x. (x.0.now, x.1.now)) result (name_at before.now put bytes.now) }
+    ensures short { IfOk result (λ x. IsTrue put → length x.0.now ≤ 247) }
 {
     let (count, rest) = number16(bytes)?;
     let count = count as usize;
@@ -146,7 +125,7 @@ fn name<'a>(before: &[Step], put: bool, bytes: &'a [u8]) -> Result<(&'a [u8], &'
         return Err(ReadError::Bad(0));
     }
     let (name, after) = rest.split_at(count);
-    if !fits(before, put, name) {
+    if !fits(alloc, before, put, name)? {
         return Err(ReadError::Bad(rest.len()));
     }
     Ok((name, after))
@@ -154,7 +133,9 @@ fn name<'a>(before: &[Step], put: bool, bytes: &'a [u8]) -> Result<(&'a [u8], &'
 
 /// A step of this name.
 fn named(alloc: Global, put: bool, name: &[u8]) -> Result<Step, NoMemory>
-    ensures { IfOk result (λ step. step ≡ step_named put name.now) }
+    requires { IsTrue put → length name.now ≤ 247 }
+    ensures named { IfOk result (λ step. step ≡ step_named put name.now) }
+    ensures short { IfOk result IsPutShort }
 {
     let name = Text::from_bytes(alloc, name)?;
     if put {
@@ -164,54 +145,59 @@ fn named(alloc: Global, put: bool, name: &[u8]) -> Result<Step, NoMemory>
 }
 
 #[tactic(auto, unfolding(crate::specs::Reading::step_at))]
-fn step<'a>(alloc: Global, before: &[Step], bytes: &'a [u8]) -> Result<(Step, &'a [u8]), ReadError>
-    ensures { Gives (λ x. (x.0, x.1.now)) result (step_at before.now bytes.now) }
+fn step<'a>(alloc: Global, before: &Seen, bytes: &'a [u8]) -> Result<(Step, &'a [u8]), ReadError>
+    ensures read { Gives (λ x. (x.0, x.1.now)) result (step_at before.now bytes.now) }
+    ensures short { IfOk result (λ x. IsPutShort x.0) }
 {
     let (put, rest) = kind(bytes)?;
-    let (name, after) = name(before, put, rest)?;
+    let (name, after) = name(alloc, before, put, rest)?;
     Ok((named(alloc, put, name)?, after))
 }
 
 /// So many further steps.
 fn steps<'a>(
     alloc: Global,
-    before: &mut Row<Step>,
+    before: Seen,
     count: u32,
     bytes: &'a [u8],
-) -> Result<&'a [u8], ReadError>
-    ensures { Gives (λ rest. (before.new, rest.now)) result (steps_at count before.old bytes.now) }
+) -> Result<(Seen, &'a [u8]), ReadError>
+    ensures { Gives (λ x. (x.0, x.1.now)) result (steps_at count before bytes.now) }
 {
+    let mut seen = before;
     let mut rest = bytes;
     for _ in 0..count {
-        let (step, after) = step(alloc, before.as_slice(), rest)?;
-        before.push(step)?;
+        let (step, after) = step(alloc, &seen, rest)?;
+        seen = seen.with(alloc, step)?;
         rest = after;
     }
-    Ok(rest)
+    Ok((seen, rest))
 }
 
 #[tactic(auto, unfolding(crate::specs::Reading::group_at))]
-fn group<'a>(alloc: Global, before: &mut Row<Step>, bytes: &'a [u8]) -> Result<&'a [u8], ReadError>
-    ensures { Gives (λ rest. (before.new, rest.now)) result (group_at before.old bytes.now) }
+fn group<'a>(alloc: Global, before: Seen, bytes: &'a [u8]) -> Result<(Seen, &'a [u8]), ReadError>
+    ensures { Gives (λ x. (x.0, x.1.now)) result (group_at before bytes.now) }
 {
     let (count, rest) = number32(bytes)?;
-    Ok(steps(alloc, before, count, rest)?)
+    steps(alloc, before, count, rest)
 }
 
 /// So many further groups.
 fn groups<'a>(
     alloc: Global,
-    before: &mut Row<Step>,
+    before: Seen,
     count: u32,
     bytes: &'a [u8],
-) -> Result<&'a [u8], ReadError>
-    ensures { Gives (λ rest. (before.new, rest.now)) result (groups_at count before.old bytes.now) }
+) -> Result<(Seen, &'a [u8]), ReadError>
+    ensures { Gives (λ x. (x.0, x.1.now)) result (groups_at count before bytes.now) }
 {
+    let mut seen = before;
     let mut rest = bytes;
     for _ in 0..count {
-        rest = group(alloc, before, rest)?;
+        let (more, after) = group(alloc, seen, rest)?;
+        seen = more;
+        rest = after;
     }
-    Ok(rest)
+    Ok((seen, rest))
 }
 
 /// The end of the file.
@@ -243,9 +229,8 @@ fn seal(body: &[u8], steps: Row<Step>, rest: &[u8]) -> Result<Row<Step>, ReadErr
 fn old(alloc: Global, bytes: &[u8]) -> Result<Row<Step>, ReadError>
     ensures { Gives (λ steps. steps) result (old_at bytes.now) }
 {
-    let mut steps = Row::new(alloc);
-    let rest = group(alloc, &mut steps, bytes)?;
-    end(steps, rest)
+    let (seen, rest) = group(alloc, Seen::new(alloc), bytes)?;
+    end(seen.into_steps(), rest)
 }
 
 #[tactic(auto, unfolding(crate::specs::Reading::new_at))]
@@ -253,9 +238,8 @@ fn new(alloc: Global, body: &[u8], bytes: &[u8]) -> Result<Row<Step>, ReadError>
     ensures { Gives (λ steps. steps) result (new_at body.now bytes.now) }
 {
     let (count, rest) = number32(bytes)?;
-    let mut steps = Row::new(alloc);
-    let rest = groups(alloc, &mut steps, count, rest)?;
-    seal(body, steps, rest)
+    let (seen, rest) = groups(alloc, Seen::new(alloc), count, rest)?;
+    seal(body, seen.into_steps(), rest)
 }
 
 /// The steps that a body says.

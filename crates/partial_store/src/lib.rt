@@ -8,3 +8,5 @@ pub use store::{begin, finish, put, read_part, resume_from};
 
 mod part;
 mod store;
+#[cfg(test)]
+mod tests;

@@ -1,6 +1,6 @@
-use Rattle.journal_model.specs.Literals.{journal_named, beside_named}
+use Rattle.journal_model.specs.Literals.{beside_named}
 use Rattle.commit_journal.proofs.Besides.{cut_goes}
-use Rattle.std.proofs.Common.{◌≡◌, subst, List, ℕ, [], ◌∷◌, OnOk}
+use Rattle.std.proofs.Common.{◌≡◌, subst, List, ℕ, OnOk}
 use Rattle.acq_outside.specs.Disk.{after_cut}
 use Rattle.commit_journal.proofs.making.cut_beside.Goals as goal
 

@@ -1,8 +1,7 @@
-use Rattle.std.proofs.Common.{◌≡◌, ◌∙◌, sym, ap, subst, IsTrue, Bool, OnOk}
+use Rattle.std.proofs.Common.{◌∙◌, sym, ap, subst, IsTrue, Bool}
 use Rattle.acq_outside.specs.Disk.{Files}
-use Rattle.commit_journal.specs.Phases.{closed_files, made_files}
 use Rattle.commit_journal.proofs.Lists.{anyhow}
-use Rattle.std.proofs.Common.{ℕ, List, [], ◌∷◌}
+use Rattle.std.proofs.Common.{[], ◌∷◌}
 use Rattle.acq_outside.specs.Disk.{after_write}
 use Rattle.journal_model.specs.Names.{beside}
 use Rattle.commit_journal.proofs.making.lay_beside.Goals as goal

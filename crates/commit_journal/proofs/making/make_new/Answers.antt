@@ -1,6 +1,5 @@
-use Rattle.std.proofs.Common.{◌≡◌, ◌∙◌, sym, ap, subst, IsTrue, Bool, OnOk}
+use Rattle.std.proofs.Common.{◌∙◌, sym, ap, subst, IsTrue, Bool}
 use Rattle.acq_outside.specs.Disk.{Files}
-use Rattle.commit_journal.specs.Phases.{closed_files, made_files}
 use Rattle.commit_journal.proofs.Lists.{anyhow}
 use Rattle.acq_outside.specs.Disk.{after_rename}
 use Rattle.journal_model.specs.Names.{beside, journal}

@@ -1,6 +1,6 @@
 use Rattle.journal_model.specs.Literals.{journal_named, beside_named}
 use Rattle.commit_journal.proofs.Besides.{name_goes}
-use Rattle.std.proofs.Common.{◌≡◌, subst, List, ℕ, [], ◌∷◌, OnOk}
+use Rattle.std.proofs.Common.{◌≡◌, subst, List, ℕ, OnOk}
 use Rattle.acq_outside.specs.Disk.{after_rename}
 use Rattle.journal_model.specs.Names.{beside}
 use Rattle.commit_journal.proofs.making.name_it.Goals as goal

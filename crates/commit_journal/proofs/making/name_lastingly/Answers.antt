@@ -1,4 +1,3 @@
-use Rattle.journal_model.specs.Literals.{journal_named, beside_named}
 use Rattle.commit_journal.proofs.Besides.{all_goes}
 use Rattle.commit_journal.proofs.making.name_lastingly.Goals as goal
 

@@ -1,4 +1,4 @@
-use Rattle.journal_model.specs.Literals.{journal_named, beside_named}
+use Rattle.journal_model.specs.Literals.{journal_named}
 use Rattle.commit_journal.proofs.Looks.{lay_journal_goes}
 use Rattle.commit_journal.proofs.opening.lay_journal.Goals as goal
 

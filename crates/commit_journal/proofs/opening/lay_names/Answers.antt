@@ -1,4 +1,3 @@
-use Rattle.journal_model.specs.Literals.{journal_named, beside_named}
 use Rattle.commit_journal.proofs.Looks.{lay_names_goes}
 use Rattle.commit_journal.proofs.opening.lay_names.Goals as goal
 

@@ -1,4 +1,4 @@
-use Rattle.std.proofs.Common.{◌≡◌, ◌∙◌, sym, ap, subst, List, [], IsTrue, Bool}
+use Rattle.std.proofs.Common.{◌∙◌, sym, ap, subst, List, [], IsTrue, Bool}
 use Rattle.acq_outside.specs.Disk.{Files}
 use Rattle.acq_outside.specs.Crash.{State}
 use Rattle.acq_outside.specs.Moments.{Stands}

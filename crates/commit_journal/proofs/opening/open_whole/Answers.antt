@@ -1,13 +1,12 @@
-use Rattle.std.proofs.Common.{◌≡◌, ◌∙◌, sym, ap, subst, List, [], IsTrue, Bool}
+use Rattle.std.proofs.Common.{◌≡◌, ◌∙◌, sym, ap, subst, List, IsTrue, Bool}
 use Rattle.acq_outside.specs.Disk.{Files}
 use Rattle.acq_outside.specs.Crash.{State}
 use Rattle.acq_outside.specs.Moments.{Stands}
 use Rattle.journal_model.specs.Names.{journal}
 use Rattle.journal_model.specs.Reading.{gate_in}
-use Rattle.journal_model.specs.declared.step.Step.{Step}
 use Rattle.commit_journal.specs.Phases.{IsLaid, IsFirst}
 use Rattle.commit_journal.specs.declared.opening.First.{First}
-use Rattle.commit_journal.proofs.Looks.{closed_idle, shut_unset}
+use Rattle.commit_journal.proofs.Looks.{shut_unset}
 use Rattle.journal_model.specs.declared.step.Gate.TheVariants.{Shut}
 use Rattle.commit_journal.proofs.Lists.{gate_made}
 use Rattle.commit_journal.proofs.opening.open_whole.Goals as goal

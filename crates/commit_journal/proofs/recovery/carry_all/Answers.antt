@@ -1,9 +1,8 @@
 use Rattle.std.proofs.Common.{◌∙◌, subst, sym, arith, Bool, IsTrue}
 use Rattle.std.proofs.lemmas.Result.{MatchResult-at_ok}
-use Rattle.acq_outside.specs.Moments.{Since, From}
 use Rattle.journal_model.specs.Fine.{IsNamedStep}
 use Rattle.journal_model.specs.declared.step.Step.{Step}
-use Rattle.commit_journal.proofs.Turns.{named_at, turn, all_done, told_turn, told_done}
+use Rattle.commit_journal.proofs.Turns.{named_at, turn, step_leaves, all_done, told_turn, told_done}
 use Rattle.commit_journal.proofs.recovery.carry_all.Goals as goal
 
 pub carry_one-requires : goal.carry_one-requires
@@ -13,13 +12,19 @@ pub returns-in_err-carry_one-clause-moments : goal.returns-in_err-carry_one-clau
 returns-in_err-carry_one-clause-moments g c =
     (turn c.args.steps.now c.loop-step.step-index c.step-item.result _ _ _ c.carry_one.result (g.met.D.Disk.sound c.loop-step.disk) (omega (arith, c.loop-step-test.true)) c.step-item.is c.loop-step.invariant.moments c.loop-step.invariant.done c.carry_one.ensures.step).0
 
+pub returns-in_err-carry_one-clause-others : goal.returns-in_err-carry_one-clause-others
+returns-in_err-carry_one-clause-others g c =
+    step_leaves c.args.steps.now c.loop-step.step-index c.step-item.result _ _ _ c.carry_one.result (g.met.D.Disk.sound c.loop-step.disk) (omega (arith, c.loop-step-test.true)) c.step-item.is c.loop-step.invariant.others c.carry_one.ensures.step
+
 pub loop-step-preserved : goal.loop-step-preserved
 loop-step-preserved g c =
     let next = turn c.args.steps.now c.loop-step.step-index c.step-item.result _ _ _ c.carry_one.result (g.met.D.Disk.sound c.loop-step.disk) (omega (arith, c.loop-step-test.true)) c.step-item.is c.loop-step.invariant.moments c.loop-step.invariant.done c.carry_one.ensures.step in
     record {
       moments = next.0;
+      others = step_leaves c.args.steps.now c.loop-step.step-index c.step-item.result _ _ _ c.carry_one.result (g.met.D.Disk.sound c.loop-step.disk) (omega (arith, c.loop-step-test.true)) c.step-item.is c.loop-step.invariant.others c.carry_one.ensures.step;
       done = MatchResult-at_ok _ _ c.in_ok-carry_one.field-0 c.in_ok-carry_one.was next.1;
       count = omega (arith, c.loop-step.invariant.count, c.carry_one.ensures.count);
+      quiet = MatchResult-at_ok _ _ c.in_ok-carry_one.field-0 c.in_ok-carry_one.was c.carry_one.ensures.quiet ∙ c.loop-step.invariant.quiet;
       held = c.carry_one.ensures.held ∙ c.loop-step.invariant.held;
       told = λ told. told_turn c.args.steps.now c.loop-step.step-index c.step-item.result (g.D.Disk.files c.args.disk.now) (g.D.Disk.files c.loop-step.disk) _ (omega (arith, c.loop-step-test.true)) c.step-item.is (c.loop-step.invariant.told told)
           (MatchResult-at_ok _ _ c.in_ok-carry_one.field-0 c.in_ok-carry_one.was (c.carry_one.ensures.told (subst (λ (b : Bool). IsTrue b) (sym c.loop-step.invariant.telling) told)));

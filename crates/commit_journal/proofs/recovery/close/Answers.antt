@@ -1,5 +1,6 @@
-use Rattle.journal_model.specs.Literals.{journal_named, beside_named}
+use Rattle.journal_model.specs.Literals.{journal_named}
 use Rattle.commit_journal.proofs.Carries.{close_goes}
+use Rattle.commit_journal.proofs.Others.{journal_sync}
 use Rattle.commit_journal.proofs.recovery.close.Goals as goal
 
 pub sync-requires : goal.sync-requires
@@ -10,3 +11,6 @@ returns-clause-moments g c = (close_goes _ _ _ c.sync.result c.as_slice.ensures 
 
 pub returns-clause-done : goal.returns-clause-done
 returns-clause-done g c = (close_goes _ _ _ c.sync.result c.as_slice.ensures (g.met.D.Disk.sound c.args.disk.now) c.requires c.sync.ensures.step).1
+
+pub returns-clause-others : goal.returns-clause-others
+returns-clause-others g c = journal_sync c.args.steps.now _ _ _ c.sync.result c.as_slice.ensures (g.met.D.Disk.sound c.args.disk.now) c.sync.ensures.step

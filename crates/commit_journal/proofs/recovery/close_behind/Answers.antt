@@ -1,6 +1,5 @@
-use Rattle.std.proofs.Common.{◌≡◌, ◌∙◌, sym, ap, subst, IsTrue, Bool, OnOk}
-use Rattle.acq_outside.specs.Disk.{Files}
-use Rattle.commit_journal.specs.Phases.{closed_files, made_files}
+use Rattle.std.proofs.Common.{◌∙◌, sym, ap, subst, IsTrue, Bool}
+use Rattle.commit_journal.specs.Phases.{closed_files}
 use Rattle.commit_journal.proofs.Lists.{anyhow}
 use Rattle.commit_journal.proofs.Recovers.{onwards}
 use Rattle.commit_journal.proofs.recovery.close_behind.Goals as goal

@@ -1,7 +1,6 @@
-use Rattle.std.proofs.Common.{◌≡◌, ◌∙◌, sym, ap, subst, IsTrue, Bool, OnOk}
+use Rattle.std.proofs.Common.{◌≡◌, sym, subst, IsTrue, Bool, OnOk}
 use Rattle.acq_outside.specs.Disk.{Files}
-use Rattle.commit_journal.specs.Phases.{closed_files, made_files}
-use Rattle.commit_journal.proofs.Lists.{anyhow}
+use Rattle.commit_journal.specs.Phases.{closed_files}
 use Rattle.commit_journal.proofs.recovery.recover.Goals as goal
 
 pub returns-clause-told : goal.returns-clause-told

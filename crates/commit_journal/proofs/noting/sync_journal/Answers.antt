@@ -1,0 +1,17 @@
+use Rattle.std.proofs.Common.{[]}
+use Rattle.journal_model.specs.Literals.{journal_named}
+use Rattle.commit_journal.proofs.Others.{journal_sync}
+use Rattle.commit_journal.proofs.Notes.{sync_noted}
+use Rattle.commit_journal.proofs.noting.sync_journal.Goals as goal
+
+pub sync-requires : goal.sync-requires
+sync-requires g c = journal_named _ c.as_slice.ensures
+
+pub returns-clause-moments : goal.returns-clause-moments
+returns-clause-moments g c = (sync_noted _ c.args.body.now _ _ c.sync.result c.as_slice.ensures (g.met.D.Disk.sound c.args.disk.now) c.requires c.sync.ensures.step).0
+
+pub returns-clause-others : goal.returns-clause-others
+returns-clause-others g c = journal_sync [] _ _ _ c.sync.result c.as_slice.ensures (g.met.D.Disk.sound c.args.disk.now) c.sync.ensures.step
+
+pub returns-clause-done : goal.returns-clause-done
+returns-clause-done g c = (sync_noted _ c.args.body.now _ _ c.sync.result c.as_slice.ensures (g.met.D.Disk.sound c.args.disk.now) c.requires c.sync.ensures.step).1

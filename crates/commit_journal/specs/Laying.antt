@@ -1,0 +1,46 @@
+-- The states between the calls of a preparation.
+use Rattle.std.specs.Prelude.{◌≡◌, ℕ, List, [], ◌∷◌, Some}
+use Rattle.acq_outside.specs.Crash.{State, file_at, synced}
+use Rattle.acq_outside.specs.Moments.{Stands, Since}
+use Rattle.journal_model.specs.Names.{journal, partial}
+use Rattle.journal_model.specs.Rest.{IsIdle, IsPartSynced, KeepsRest, part_file, part_bytes}
+use Rattle.commit_journal.specs.declared.changing.Change.{Change}
+use Rattle.commit_journal.specs.declared.changing.Change.TheVariants.{Put, Drop}
+use Rattle.commit_journal.specs.Changes.{content_of, touched, IsNone}
+
+-- what a Put puts is there with these bytes of lists on their way, and lasts
+abbrev pub IsFilledFrom : (List ℕ → List ℕ) → State → Change → Type 0
+IsFilledFrom part s (Put name content) = IsPartSynced name.0 (content_of part name.0 content) s
+IsFilledFrom part s (Drop name) = Unit {0}
+
+abbrev pub AreFilledFrom : (List ℕ → List ℕ) → List Change → State → Type 0
+AreFilledFrom part [] s = Unit {0}
+AreFilledFrom part (change ∷ changes) s = IsFilledFrom part s change × AreFilledFrom part changes s
+
+-- lists on their way that have none of these names stay, and so does what a crash may leave of them
+abbrev pub KeepsUnnamedIn : List (List ℕ) → List State → List State → Type 0
+KeepsUnnamedIn names old new = (other : List ℕ) → IsNone (partial other) names → part_file new other ≡ part_file old other
+
+-- after some of the changes
+pub record Fills (done : List Change) (old now : List State) : Type 0 where
+  pub moments : Since old now (KeepsRest old)
+  pub others : KeepsUnnamedIn (touched done) old now
+  pub filled : Stands (AreFilledFrom (part_bytes old) done) now
+
+-- a commit may be prepared, and no change of names is pending
+pub record IsIdleUnmoved (s : State) : Type 0 where
+  pub idle : IsIdle s
+  pub unmoved : s.pending ≡ []
+
+-- and the journal reads so
+pub record IsNoted (bytes : List ℕ) (s : State) : Type 0 where
+  pub idle : IsIdle s
+  pub unmoved : s.pending ≡ []
+  pub seen : (i : ℕ) → s.base journal ≡ Some i → (file_at s.files i).seen ≡ bytes
+
+-- and it lasts
+pub record IsNotedLastingly (bytes : List ℕ) (s : State) : Type 0 where
+  pub unmoved : s.pending ≡ []
+  pub number : ℕ
+  pub leads : s.base journal ≡ Some number
+  pub file : file_at s.files number ≡ synced bytes

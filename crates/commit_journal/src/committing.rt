@@ -1,0 +1,125 @@
+//! A prepared commit is made: the gate before its record is opened, the record carried out, and the gate closed.
+ghost use Rattle.std.specs.Prelude.{◌≡◌, ◌≤◌, ◌+◌, length, [], OnOk, OnErr, Err};
+ghost use Rattle.acq_outside.specs.Count.{Rose};
+ghost use Rattle.acq_outside.specs.Moments.{Stands, Since, From};
+ghost use Rattle.journal_model.specs.Spelling.{all_steps};
+ghost use Rattle.journal_model.specs.Rest.{IsIdle, IsSettled, part_bytes};
+ghost use Rattle.commit_journal.specs.Opening.{Recovers};
+ghost use Rattle.commit_journal.specs.Changes.{filled_all, steps_in};
+ghost use Rattle.commit_journal.specs.Commits.{IsReady, KeepsOrSteps, Turns, RestsAfter, KeepsUnnamed, IsLater};
+ghost use Rattle.commit_journal.specs.Phases.{IsCarrying, IsOfCommit, LeavesOthers};
+ghost use Rattle.commit_journal.specs.Turning.{IsOpening, WritesOver, OpensAt, OpensOver};
+
+use crate::recovery::recover;
+use crate::{Journal, JournalError, Prepared};
+use acq_outside::{Disk, Fault};
+
+/// Writes the gate's byte as 1.
+fn write_gate<D: Disk>(disk: &mut D, prepared: &Prepared) -> Result<(), Fault>
+    requires { Stands (IsReady prepared.now.groups) (D.trace disk.old) }
+    ensures count { D.faults disk.old ≤ D.faults disk.new }
+    ensures fault { OnErr result (Rose (D.faults disk.old) (D.faults disk.new)) }
+    ensures quiet { OnOk result (D.faults disk.new ≡ D.faults disk.old) }
+    ensures held { D.held disk.new ≡ D.held disk.old }
+    ensures telling { D.tells disk.new ≡ D.tells disk.old }
+    ensures moments { Since (D.trace disk.old) (D.trace disk.new)
+        (KeepsOrSteps prepared.now.groups (filled_all (part_bytes (D.trace disk.old)) prepared.now.groups) (D.trace disk.old)) }
+    ensures once { length (D.trace disk.new) ≤ length (D.trace disk.old) + 1 }
+    ensures later { OnOk result (IsLater (D.trace disk.old) (D.trace disk.new)) }
+    ensures settled { Stands IsSettled (D.trace disk.old) → Stands IsSettled (D.trace disk.new) }
+    ensures others { LeavesOthers (IsOfCommit (all_steps (steps_in prepared.now.groups))) (D.trace disk.old) (D.trace disk.new) }
+    ensures over { OnOk result (Stands
+        (WritesOver prepared.now.groups (filled_all (part_bytes (D.trace disk.old)) prepared.now.groups) (D.trace disk.old)) (D.trace disk.new)) }
+    ensures done { OnOk result (Stands (IsOpening prepared.now.groups) (D.trace disk.new)) }
+{
+    disk.write_at(b"journal".as_slice(), 0, &[1])
+}
+
+/// Makes the open gate lasting.
+fn lay_gate<D: Disk>(disk: &mut D, prepared: &Prepared) -> Result<(), Fault>
+    requires { Stands (IsOpening prepared.now.groups) (D.trace disk.old) }
+    ensures count { D.faults disk.old ≤ D.faults disk.new }
+    ensures fault { OnErr result (Rose (D.faults disk.old) (D.faults disk.new)) }
+    ensures quiet { OnOk result (D.faults disk.new ≡ D.faults disk.old) }
+    ensures held { D.held disk.new ≡ D.held disk.old }
+    ensures telling { D.tells disk.new ≡ D.tells disk.old }
+    ensures recovers { Since (D.trace disk.old) (D.trace disk.new) (From Recovers (D.trace disk.old)) }
+    ensures opens { Since (D.trace disk.old) (D.trace disk.new) (OpensAt prepared.now.groups (D.trace disk.old)) }
+    ensures new { OnOk result (Stands (OpensAt prepared.now.groups (D.trace disk.old)) (D.trace disk.new)) }
+    ensures others { LeavesOthers (IsOfCommit (all_steps (steps_in prepared.now.groups))) (D.trace disk.old) (D.trace disk.new) }
+    ensures done { OnOk result (Stands (IsCarrying (all_steps (steps_in prepared.now.groups)) []) (D.trace disk.new)) }
+{
+    disk.sync(b"journal".as_slice())
+}
+
+/// Opens the gate before the record.
+#[tactic(auto, using(crate::proofs::Others::others_on))]
+fn open_gate<D: Disk>(disk: &mut D, prepared: &Prepared) -> Result<(), Fault>
+    requires { Stands (IsReady prepared.now.groups) (D.trace disk.old) }
+    ensures count { D.faults disk.old ≤ D.faults disk.new }
+    ensures fault { OnErr result (Rose (D.faults disk.old) (D.faults disk.new)) }
+    ensures quiet { OnOk result (D.faults disk.new ≡ D.faults disk.old) }
+    ensures held { D.held disk.new ≡ D.held disk.old }
+    ensures telling { D.tells disk.new ≡ D.tells disk.old }
+    ensures moments { Since (D.trace disk.old) (D.trace disk.new)
+        (KeepsOrSteps prepared.now.groups (filled_all (part_bytes (D.trace disk.old)) prepared.now.groups) (D.trace disk.old)) }
+    ensures turns { Turns prepared.now.groups (filled_all (part_bytes (D.trace disk.old)) prepared.now.groups) (D.trace disk.old) (D.trace disk.new) }
+    ensures later { OnOk result (IsLater (D.trace disk.old) (D.trace disk.new)) }
+    ensures settled { Stands IsSettled (D.trace disk.old) → Stands IsSettled (D.trace disk.new) }
+    ensures others { LeavesOthers (IsOfCommit (all_steps (steps_in prepared.now.groups))) (D.trace disk.old) (D.trace disk.new) }
+    ensures over { OnOk result (Stands
+        (OpensOver prepared.now.groups (filled_all (part_bytes (D.trace disk.old)) prepared.now.groups) (D.trace disk.old)) (D.trace disk.new)) }
+    ensures done { OnOk result (Stands (IsCarrying (all_steps (steps_in prepared.now.groups)) []) (D.trace disk.new)) }
+{
+    write_gate(disk, prepared)?;
+    lay_gate(disk, prepared)
+}
+
+/// Carries out the record behind the open gate, and closes the gate.
+#[tactic(auto, using(crate::proofs::Opens::named_steps))]
+fn carry_out<D: Disk>(disk: &mut D, prepared: &Prepared) -> Result<(), Fault>
+    requires { Stands (IsCarrying (all_steps (steps_in prepared.now.groups)) []) (D.trace disk.old) }
+    ensures count { D.faults disk.old ≤ D.faults disk.new }
+    ensures fault { OnErr result (Rose (D.faults disk.old) (D.faults disk.new)) }
+    ensures quiet { OnOk result (D.faults disk.new ≡ D.faults disk.old) }
+    ensures held { D.held disk.new ≡ D.held disk.old }
+    ensures telling { D.tells disk.new ≡ D.tells disk.old }
+    ensures moments { Since (D.trace disk.old) (D.trace disk.new) (From Recovers (D.trace disk.old)) }
+    ensures others { LeavesOthers (IsOfCommit (all_steps (steps_in prepared.now.groups))) (D.trace disk.old) (D.trace disk.new) }
+    ensures done { OnOk result (Stands IsIdle (D.trace disk.new)) }
+{
+    recover(disk, prepared.steps.as_slice())
+}
+
+/// Makes a commit whose record `prepare` has just laid down. All its changes are made or none is, whenever it is stopped:
+/// before the gate is open a crash leaves the lists before the commit, and from then on, once the journal is opened
+/// again, those after it. It takes no memory.
+///
+/// The disk stands as that `prepare` left it. `DiskFault` only where the disk's count of faults rose; the journal must
+/// then be opened again.
+pub fn commit<D: Disk>(
+    _journal: &mut Journal,
+    disk: &mut D,
+    prepared: Prepared,
+) -> Result<(), JournalError>
+    requires ready { Stands (IsReady prepared.groups) (D.trace disk.old) }
+    ensures count { D.faults disk.old ≤ D.faults disk.new }
+    ensures only_fault { OnErr result (Rose (D.faults disk.old) (D.faults disk.new)) }
+    ensures quiet { OnOk result (D.faults disk.new ≡ D.faults disk.old) }
+    ensures only { OnErr result (result ≡ Err JournalError.DiskFault) }
+    ensures held { D.held disk.new ≡ D.held disk.old }
+    ensures telling { D.tells disk.new ≡ D.tells disk.old }
+    ensures moments { Since (D.trace disk.old) (D.trace disk.new)
+        (KeepsOrSteps prepared.groups (filled_all (part_bytes (D.trace disk.old)) prepared.groups) (D.trace disk.old)) }
+    ensures turns { Turns prepared.groups (filled_all (part_bytes (D.trace disk.old)) prepared.groups) (D.trace disk.old) (D.trace disk.new) }
+    ensures rests { OnOk result (Stands
+        (RestsAfter prepared.groups (filled_all (part_bytes (D.trace disk.old)) prepared.groups) (D.trace disk.old)) (D.trace disk.new)) }
+    ensures idle { OnOk result (Stands IsIdle (D.trace disk.new)) }
+    ensures later { OnOk result (IsLater (D.trace disk.old) (D.trace disk.new)) }
+    ensures settled { Stands IsSettled (D.trace disk.old) → Stands IsSettled (D.trace disk.new) }
+    ensures others { KeepsUnnamed prepared.groups (D.trace disk.old) (D.trace disk.new) }
+{
+    open_gate(disk, &prepared)?;
+    carry_out(disk, &prepared)?;
+    Ok(())
+}

@@ -1,0 +1,76 @@
+//! A commit is prepared: all that it puts is laid under `partial/`, and its record behind the closed gate.
+ghost use Rattle.std.specs.Prelude.{◌≡◌, ◌≢◌, ◌≤◌, ◌∷◌, OnOk, OnErr, IfOk, IsErrOf, Err, ℕ};
+ghost use Rattle.acq_outside.specs.Count.{Rose};
+ghost use Rattle.acq_outside.specs.Moments.{Stands, Since};
+ghost use Rattle.journal_model.specs.Rest.{IsIdle, IsSettled, KeepsRest, part_bytes};
+ghost use Rattle.commit_journal.specs.Changes.{filled_all, all_changes, CanRecord, AreAllStaged};
+ghost use Rattle.commit_journal.specs.Commits.{IsReady, KeepsLists, ReadyAfter, KeepsUnnamed};
+ghost use Rattle.commit_journal.specs.Laying.{AreFilledFrom, IsNotedLastingly};
+
+use crate::filling::fill_all;
+use crate::noting::note;
+use crate::recording::{all_steps, record_of};
+use crate::{Change, Journal, JournalError, Prepared};
+use acq_base::Row;
+use acq_outside::{Disk, Fault};
+use journal_model::write_body;
+use std::alloc::Global;
+
+/// Lays what the changes put, and then their record.
+fn lay_out<D: Disk>(disk: &mut D, groups: &[Row<Change>], body: &[u8]) -> Result<(), Fault>
+    requires changes { CanRecord groups.now }
+    requires staged { Stands (AreAllStaged groups.now) (D.trace disk.old) }
+    requires idle { Stands IsIdle (D.trace disk.old) }
+    ensures count { D.faults disk.old ≤ D.faults disk.new }
+    ensures fault { OnErr result (Rose (D.faults disk.old) (D.faults disk.new)) }
+    ensures quiet { OnOk result (D.faults disk.new ≡ D.faults disk.old) }
+    ensures held { D.held disk.new ≡ D.held disk.old }
+    ensures telling { D.tells disk.new ≡ D.tells disk.old }
+    ensures moments { Since (D.trace disk.old) (D.trace disk.new) (KeepsRest (D.trace disk.old)) }
+    ensures others { KeepsUnnamed groups.now (D.trace disk.old) (D.trace disk.new) }
+    ensures filled { OnOk result (Stands (AreFilledFrom (part_bytes (D.trace disk.old)) (all_changes groups.now)) (D.trace disk.new)) }
+    ensures noted { OnOk result (Stands (IsNotedLastingly (0 ∷ body.now)) (D.trace disk.new)) }
+{
+    fill_all(disk, groups)?;
+    note(disk, body)
+}
+
+/// Prepares a commit of these groups of changes: what they hold is written under `partial/`, and the record into the
+/// journal behind its closed gate. Whenever it is stopped, the lists are those before it. All memory of the commit is
+/// taken here, before the first call of the disk.
+///
+/// There are fewer than 2^32 groups and 2^32 changes, a record may have their names, and no name is changed twice, a Put
+/// counting the name under which it is on its way. Each staged file is there and lasts. The journal is open for commits.
+/// `DiskFault` only where the disk's count of faults rose.
+pub fn prepare<D: Disk>(
+    alloc: Global,
+    _journal: &mut Journal,
+    disk: &mut D,
+    groups: Row<Row<Change>>,
+) -> Result<Prepared, JournalError>
+    requires changes { CanRecord groups }
+    requires staged { Stands (AreAllStaged groups) (D.trace disk.old) }
+    requires idle { Stands IsIdle (D.trace disk.old) }
+    ensures count { D.faults disk.old ≤ D.faults disk.new }
+    ensures fault { IsErrOf result JournalError.DiskFault → Rose (D.faults disk.old) (D.faults disk.new) }
+    ensures quiet { OnOk result (D.faults disk.new ≡ D.faults disk.old) }
+    ensures undamaged { (at : ℕ) → result ≢ Err (JournalError.BadJournal at) }
+    ensures dry { IsErrOf result JournalError.NoMemory → D.trace disk.new ≡ D.trace disk.old }
+    ensures dry_files { IsErrOf result JournalError.NoMemory → D.files disk.new ≡ D.files disk.old }
+    ensures held { D.held disk.new ≡ D.held disk.old }
+    ensures telling { D.tells disk.new ≡ D.tells disk.old }
+    ensures moments { Since (D.trace disk.old) (D.trace disk.new) (KeepsLists (D.trace disk.old)) }
+    ensures rests { Since (D.trace disk.old) (D.trace disk.new) (KeepsRest (D.trace disk.old)) }
+    ensures settled { Stands IsSettled (D.trace disk.old) → Stands IsSettled (D.trace disk.new) }
+    ensures can_commit { OnOk result (Stands (IsReady groups) (D.trace disk.new)) }
+    ensures ready { OnOk result (Stands (ReadyAfter groups (D.trace disk.old)) (D.trace disk.new)) }
+    ensures record { IfOk result (λ prepared. prepared.groups ≡ groups) }
+    ensures bytes { OnOk result (filled_all (part_bytes (D.trace disk.new)) groups ≡ filled_all (part_bytes (D.trace disk.old)) groups) }
+    ensures others { KeepsUnnamed groups (D.trace disk.old) (D.trace disk.new) }
+{
+    let rows = record_of(alloc, groups.as_slice())?;
+    let body = write_body(alloc, rows.as_slice())?;
+    let steps = all_steps(alloc, groups.as_slice())?;
+    lay_out(disk, groups.as_slice(), body.as_slice())?;
+    Ok(Prepared { groups, steps })
+}
