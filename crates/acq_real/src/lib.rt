@@ -26,3 +26,5 @@ mod sink;
 #[cfg(test)]
 mod tests;
 mod tree;
+#[cfg(test)]
+mod tree_tests;

@@ -1,5 +1,5 @@
 -- What one read gives is a part of the file.
-use Rattle.std.proofs.Common.{◌≡◌, ◌∙◌, ◌⊎◌, ℕ, ◌<◌, ◌≤◌, List, [], ◌++◌, length, take, drop, Option, inl, inr, ⊎_elim, refl, sym, ap, arith}
+use Rattle.std.proofs.Common.{◌≡◌, ◌∙◌, ℕ, ◌≤◌, List, [], ◌++◌, length, take, drop, Option, inr, ⊎_elim, sym, ap, arith}
 use Rattle.std.proofs.lemmas.List.{take_at, length-take-le}
 use Rattle.acq_outside.specs.Disk.{IsRead}
 use Rattle.file_method.specs.Piece.{IsPart, rest_of}

@@ -1,5 +1,5 @@
 -- The words of a method over a tree agree with the tree's mirror.
-use Rattle.std.proofs.Common.{◌≡◌, ◌∙◌, ◌⊎◌, ℕ, ◌+◌, ◌-◌, ◌<◌, ◌≤◌, List, [], ◌∷◌, length, take, drop, length-drop, Option, Some, None, IfSome, option_map, unwrap_or, inl, inr, ⊎_elim, refl, sym, ap, subst, arith}
+use Rattle.std.proofs.Common.{◌≡◌, ◌⊎◌, ℕ, ◌+◌, ◌-◌, ◌<◌, ◌≤◌, List, [], ◌∷◌, length, drop, length-drop, Option, Some, None, IfSome, option_map, unwrap_or, inl, inr, ⊎_elim, refl, sym, ap, subst, arith}
 use Rattle.acq_base.specs.declared.uri.Uri.{Uri}
 use Rattle.acq_base.specs.declared.uri.Scheme.TheVariants.{Http, File}
 use Rattle.acq_base.specs.declared.fetch.Job.{Job}
@@ -12,10 +12,10 @@ use Rattle.acq_outside.specs.Tree.{TreeFiles, file_at}
 use Rattle.acq_outside.specs.declared.word.Fetch.{Fetch}
 use Rattle.acq_outside.specs.declared.word.Word.{Word}
 use Rattle.acq_outside.specs.declared.word.Word.TheVariants.{Piece, Done, Other}
-use Rattle.acq_outside.specs.Word.{HasSize, IsPieceOf, IsWord, Tells, after_word, begun, further}
+use Rattle.acq_outside.specs.Word.{HasSize, IsPieceOf, IsWord, Tells, after_word, begun}
 use Rattle.file_method.specs.TreeMirror.{file_uri, mirror_of}
 use Rattle.file_method.specs.FileMethod.{FileState, IsFetchOf, world_of}
-use Rattle.file_method.specs.Piece.{IsPart, rest_of, word_of}
+use Rattle.file_method.specs.Piece.{IsPart, word_of}
 use Rattle.file_method.proofs.Mirrored.{answer_of, answered, elsewhere, is_file_uri}
 
 -- what holds of the file at a URI's path holds of the mirror's answer there

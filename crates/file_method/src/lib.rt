@@ -4,7 +4,11 @@
 //! words, joined, are the tree's file.
 #![tactic(auto)]
 
+pub use laws::words_are_the_file;
 pub use method::FileMethod;
 
+mod laws;
 mod method;
 mod piece;
+#[cfg(test)]
+mod tests;

@@ -12,6 +12,8 @@ pub use validity::valid;
 pub use writing::encode;
 
 mod cutting;
+#[cfg(test)]
+mod dice;
 mod error;
 mod laws;
 mod line;

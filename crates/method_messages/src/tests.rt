@@ -1,4 +1,5 @@
 use super::*;
+use crate::dice::{Dice, thousand};
 use crate::samples::{CUTS, LOOSE, TIGHT};
 use acq_base::{Bytes, NoMemory, Refusal, Row, Text};
 use std::alloc::Global;
@@ -232,6 +233,29 @@ fn random_messages_cut_at_random(rt: HostRuntime) -> Result<(), Fail> {
         rest = behind;
     }
     assert!(rt; again.as_slice() == TIGHT);
+    assert_eq!(rt; reader.rest(), None);
+    Ok(())
+}
+
+#[test]
+fn a_thousand_messages_cut_at_random(rt: HostRuntime) -> Result<(), Fail> {
+    let mut dice = Dice::new(1);
+    let (loose, tight) = thousand(rt.alloc(), &mut dice)?;
+    let mut reader = Reader::new(rt.alloc());
+    let mut again = Bytes::new(rt.alloc());
+    let mut rest = loose.as_slice();
+    let mut count = 0_u64;
+    for _ in 0..loose.len() {
+        let (piece, behind) = rest.split_at((dice.roll(120) as usize).min(rest.len()));
+        for message in reader.feed(rt.alloc(), piece)?.into_vec() {
+            again.append(written(rt.alloc(), &message)?.as_slice())?;
+            count = count.saturating_add(1);
+        }
+        rest = behind;
+    }
+    assert!(rt; rest.is_empty());
+    assert_eq!(rt; count, 1_000);
+    assert!(rt; again.as_slice() == tight.as_slice());
     assert_eq!(rt; reader.rest(), None);
     Ok(())
 }

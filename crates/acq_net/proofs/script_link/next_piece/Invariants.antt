@@ -1,0 +1,10 @@
+use Rattle.std.proofs.Common.{◌≡◌}
+use Rattle.acq_net.specs.ScriptLink.{bytes_of}
+use Rattle.acq_net.proofs.script_link.next_piece.Given as goal
+
+-- what was taken out has no bytes
+abbrev pub invariant-loop-pieces : goal.invariant-loop-pieces
+invariant-loop-pieces l = bytes_of l.pieces.items ≡ bytes_of l.fn.pieces.items
+
+abbrev pub decreases-loop-pieces : goal.decreases-loop-pieces
+decreases-loop-pieces l = goal.left-loop-pieces l

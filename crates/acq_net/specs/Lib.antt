@@ -1,0 +1,4 @@
+-- Cited by public clauses.
+pub mod Talk
+pub mod ScriptLink
+pub mod TcpLink

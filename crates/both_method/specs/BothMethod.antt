@@ -1,0 +1,59 @@
+-- What a method for both schemes shows.
+use Rattle.std.specs.Prelude.{◌≡◌, ℕ, ◌==◌, Bool, true, false, if◌then◌else◌, [], ◌∷◌, ◌++◌, Option, Some, None, IfSome}
+use Rattle.acq_base.specs.declared.fetch.Reply.TheVariants as replies
+use Rattle.acq_base.specs.declared.uri.Scheme.{Scheme}
+use Rattle.acq_base.specs.declared.uri.Scheme.TheVariants.{Http, File}
+use Rattle.acq_base.specs.Mirror.{World}
+use Rattle.acq_base.specs.Uri.{scheme_index}
+use Rattle.acq_outside.specs.Count.{one_more}
+use Rattle.acq_outside.specs.declared.word.Fetch.{Fetch}
+use Rattle.acq_outside.specs.declared.word.Word.{Word}
+use Rattle.acq_outside.specs.declared.word.Word.TheVariants.{Other}
+use Rattle.acq_outside.specs.Word.{IsWord}
+
+pub record BothState (F H : Type 0) : Type 0 where
+  pub files : F
+  pub peers : H
+  pub faults : ℕ
+  -- the scheme of the last fetch
+  pub turn : Option Scheme
+
+-- what is under way is so in the method that was asked last
+abbrev pub under_of : Option Scheme → Option Fetch → Option Fetch → Option Fetch
+under_of None files peers = None
+under_of (Some File) files peers = files
+under_of (Some Http) files peers = peers
+
+-- what is under way is a fetch of the last scheme
+abbrev pub IsTurn : Option Scheme → Option Fetch → Option Fetch → Type 0
+IsTurn turn files peers = IfSome (under_of turn files peers) (λ fetch. turn ≡ Some fetch.job.uri.scheme)
+
+-- a mirror's answers to URIs of one scheme
+abbrev pub entries_of : Scheme → World → World
+entries_of scheme [] = []
+entries_of scheme (entry ∷ entries) = if scheme_index entry.0.scheme == scheme_index scheme then entry ∷ entries_of scheme entries else entries_of scheme entries
+
+-- both mirrors together, where both are told: each for its own scheme
+abbrev pub joined : Option World → Option World → Option World
+joined None peers = None
+joined (Some files) None = None
+joined (Some files) (Some peers) = Some (entries_of File files ++ entries_of Http peers)
+
+abbrev pub is_fault : Word → Bool
+is_fault (Other (replies.Fault before after)) = true
+is_fault word = false
+
+-- a fault tells the counts of the method that says it
+abbrev pub own_word : ℕ → ℕ → Word → Word
+own_word before after (Other (replies.Fault their_before their_after)) = Other (replies.Fault before after)
+own_word before after word = word
+
+abbrev pub own_count : ℕ → Word → ℕ
+own_count count word = if is_fault word then one_more count else count
+
+-- It is the word of the one that was asked, whose counts were these, but that a fault tells one's own count, which rose.
+pub record IsTheirs (their_before their_after : ℕ) (world : Option World) (fetch : Fetch) (under : Option Fetch) (before after : ℕ) (word : Word) : Type 0 where
+  pub their : Word
+  pub is : IsWord their_before their_after world fetch under their
+  pub same : word ≡ own_word before after their
+  pub counted : after ≡ own_count before their

@@ -1,0 +1,33 @@
+-- What a method over HTTP shows.
+use Rattle.std.specs.Prelude.{◌≡◌, ℕ, Option}
+use Rattle.acq_base.specs.declared.fetch.Reply.TheVariants as replies
+use Rattle.acq_outside.specs.Count.{Rose}
+use Rattle.acq_outside.specs.declared.word.Word.{Word}
+use Rattle.acq_outside.specs.declared.word.Word.TheVariants.{Piece, Done, Other}
+use Rattle.http_method.specs.declared.reading.Place.{Place}
+use Rattle.http_method.specs.declared.reading.Reading.{Reading}
+use Rattle.http_method.specs.declared.reading.Said.{Said}
+
+pub record HttpState (L : Type 0) : Type 0 where
+  pub link : L
+  pub faults : ℕ
+  -- the host and port to which a connection is kept
+  pub kept : Option Place
+  -- the response of the fetch under way
+  pub reading : Option Reading
+
+-- a word, and what is kept behind it
+abbrev pub said_of : {L : Type 0} → Word → HttpState L → Said
+said_of word method = record { word = word; kept = method.kept; reading = method.reading }
+
+-- how often the link failed: a fault comes exactly where its count rose
+abbrev pub CountsFault : ℕ → ℕ → Word → Type 0
+CountsFault before after (Other (replies.Fault told_before told_after)) = Rose before after
+CountsFault before after (Piece place bytes) = after ≡ before
+CountsFault before after (Done size) = after ≡ before
+CountsFault before after (Other (replies.Served bytes)) = after ≡ before
+CountsFault before after (Other (replies.Moved place)) = after ≡ before
+CountsFault before after (Other (replies.Absent status)) = after ≡ before
+CountsFault before after (Other replies.TooBig) = after ≡ before
+CountsFault before after (Other (replies.Garbled at)) = after ≡ before
+CountsFault before after (Other replies.NoMemory) = after ≡ before

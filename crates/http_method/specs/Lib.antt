@@ -1,0 +1,3 @@
+-- Cited by public clauses.
+pub mod Reading
+pub mod HttpMethod

@@ -1,0 +1,206 @@
+-- What a method hears of a peer: the stream of a connection since its last request, in words.
+use Rattle.std.specs.Prelude.{◌≡◌, ◌≢◌, ◌⊎◌, ℕ, ◌+◌, length, ◌==◌, ◌&&◌, nat_lt, not, Bool, true, false, if◌then◌else◌, List, [], ◌++◌, bytes_eq, Option, Some, None, IfSome, IsSome, option_map, unwrap_or}
+use Rattle.acq_base.specs.declared.fetch.Job.{Job}
+use Rattle.acq_base.specs.declared.fetch.Reply.{Reply}
+use Rattle.acq_base.specs.declared.fetch.Reply.TheVariants as replies
+use Rattle.acq_base.specs.declared.uri.Uri.{Uri}
+use Rattle.acq_base.specs.Uri.{IsSound}
+use Rattle.acq_outside.specs.declared.word.Fetch.{Fetch}
+use Rattle.acq_outside.specs.declared.word.Word.{Word}
+use Rattle.acq_outside.specs.declared.word.Word.TheVariants.{Piece, Done, Other}
+use Rattle.acq_outside.specs.Word.{IsWord}
+use Rattle.acq_net.specs.Talk.{Talk, silent, is_none, receives}
+use Rattle.http_wire.specs.declared.ending.Ending.{Ending}
+use Rattle.http_wire.specs.declared.ending.Ending.TheVariants.{Served}
+use Rattle.http_wire.specs.declared.ending.State.{State}
+use Rattle.http_wire.specs.declared.ending.State.TheVariants as states
+use Rattle.http_wire.specs.Request.{request_text}
+use Rattle.http_wire.specs.Stream.{Heard, IsHeard}
+use Rattle.http_wire.specs.Wire.{Follows, IsReply, wire_state}
+use Rattle.http_method.specs.declared.reading.Behind.{Behind}
+use Rattle.http_method.specs.declared.reading.Behind.TheVariants.{Nothing, Bytes, End}
+use Rattle.http_method.specs.declared.reading.Reading.{Reading}
+use Rattle.http_method.specs.declared.reading.Place.{Place}
+use Rattle.http_method.specs.declared.reading.Said.{Said}
+
+-- what was said on a connection on which a request was sent whole and these bytes were received since
+abbrev pub asked : Talk → Job → List ℕ → Bool → Talk
+asked before job bytes ended = record { sent = before.sent ++ request_text job.uri job.from; received = before.received ++ bytes; ended = ended }
+
+-- so it was, where the link tells
+abbrev pub IsAsked : Option Talk → Talk → Job → List ℕ → Bool → Type 0
+IsAsked talk before job bytes ended = IfSome talk (λ told. told ≡ asked before job bytes ended)
+
+-- the peer has ended
+abbrev pub is_end : Behind → Bool
+is_end Nothing = false
+is_end Bytes = false
+is_end End = true
+
+-- these bytes stand behind the response
+abbrev pub StandsBehind : Behind → List ℕ → Type 0
+StandsBehind Nothing rest = rest ≡ []
+StandsBehind Bytes rest = rest ≢ []
+StandsBehind End rest = rest ≡ []
+
+-- A response is read: its wire follows the bytes received since the request, of which these, of the body, were given out.
+pub record Reads (talk : Option Talk) (reading : Reading) (before : Talk) (given : List ℕ) : Type 0 where
+  pub bytes : List ℕ
+  pub rest : List ℕ
+  pub follows : Follows reading.wire reading.fetch.job.max reading.fetch.job.from given bytes (is_end reading.behind)
+  pub stands : StandsBehind reading.behind rest
+  pub told : IsAsked talk before reading.fetch.job (bytes ++ rest) (is_end reading.behind)
+
+-- what holds of a response that is being read
+pub record IsReading (talk : Option Talk) (reading : Reading) : Type 0 where
+  pub before : Talk
+  pub given : List ℕ
+  pub reads : Reads talk reading before given
+  pub sound : IsSound reading.fetch.job.uri
+  pub going : wire_state reading.wire ≡ states.More → reading.behind ≡ Nothing
+
+-- the reading took these bytes of the link, or the peer's end
+pub record Received (reading next : Reading) (piece : List ℕ) : Type 0 where
+  pub is : (talk : Option Talk) (before : Talk) (given : List ℕ) → Reads talk reading before given → Reads (option_map (receives piece) talk) next before given
+
+-- the reading went on, and gave out these bytes
+pub record Goes (talk : Option Talk) (reading : Reading) (later : Option Talk) (next : Reading) (piece : List ℕ) : Type 0 where
+  pub is : (before : Talk) (given : List ℕ) → Reads talk reading before given → Reads later next before (given ++ piece)
+
+-- what stands behind the bytes that a wire took of a piece
+abbrev pub behind_of : ℕ → ℕ → Behind
+behind_of taken size = if nat_lt taken size then Bytes else Nothing
+
+-- the connection may serve another request
+abbrev pub is_kept : Behind → State → Bool
+is_kept Nothing (states.Done keep) = keep
+is_kept behind state = false
+
+-- the connection may serve another request: the response leaves it so, with nothing behind it
+abbrev pub leaves_open : Option Ending → Bool
+leaves_open (Some (Served keep)) = keep
+leaves_open _ = false
+
+abbrev pub keeps : Heard → Bool → Bool
+keeps heard ended = leaves_open heard.ending && is_none heard.rest && not ended
+
+abbrev pub place_of : Uri → Place
+place_of uri = record { host = uri.host; port = uri.port }
+
+abbrev pub kept_if : Bool → Uri → Option Place
+kept_if keep uri = if keep then Some (place_of uri) else None
+
+abbrev pub kept_for : Uri → Heard → Bool → Option Place
+kept_for uri heard ended = kept_if (keeps heard ended) uri
+
+-- it is kept for a URI's host and port
+abbrev pub is_for : Option Place → Uri → Bool
+is_for None uri = false
+is_for (Some place) uri = bytes_eq place.host uri.host && place.port == uri.port
+
+abbrev pub IsServed : Option Ending → Type 0
+IsServed (Some (Served keep)) = Unit {0}
+IsServed _ = ⊥
+
+-- the last word to a fetch is what is heard
+abbrev pub IsSaid : Uri → List ℕ → Heard → Word → Type 0
+IsSaid uri given heard (Piece place bytes) = ⊥
+IsSaid uri given heard (Done size) = IsServed heard.ending × (heard.body ≡ given)
+IsSaid uri given heard (Other reply) = IsReply uri given heard.ending heard.body reply
+
+-- The last word: what is heard of all bytes received since the request, and of whether a `receive` gave 0. The body is
+-- what was given out. The connection is kept exactly behind a whole response that leaves it open, with nothing behind it.
+pub record Ends (talk : Option Talk) (job : Job) (before : Talk) (given : List ℕ) (word : Word) (kept : Option Place) : Type 0 where
+  pub heard : Heard
+  pub bytes : List ℕ
+  pub ended : Bool
+  pub is : IsHeard job.max job.from bytes ended heard
+  pub told : IsAsked talk before job bytes ended
+  pub says : IsSaid job.uri given heard word
+  pub keeps_is : kept ≡ kept_for job.uri heard ended
+
+-- a piece goes on with the same job
+abbrev pub GoesOn : Option Talk → Job → Talk → List ℕ → Option Reading → Type 0
+GoesOn talk job before given None = ⊥
+GoesOn talk job before given (Some reading) = (reading.fetch.job ≡ job) × Reads talk reading before given
+
+-- What a word says of the bytes received since the request. A fault and want of memory say nothing of them.
+abbrev pub Hears : Option Talk → Job → Talk → List ℕ → Word → Option Place → Option Reading → Type 0
+Hears talk job before given (Piece place bytes) kept reading = GoesOn talk job before (given ++ bytes) reading
+Hears talk job before given (Done size) kept reading = Ends talk job before given (Done size) kept
+Hears talk job before given (Other (replies.Served bytes)) kept reading = ⊥
+Hears talk job before given (Other (replies.Moved place)) kept reading = Ends talk job before given (Other (replies.Moved place)) kept
+Hears talk job before given (Other (replies.Absent status)) kept reading = Ends talk job before given (Other (replies.Absent status)) kept
+Hears talk job before given (Other replies.TooBig) kept reading = Ends talk job before given (Other replies.TooBig) kept
+Hears talk job before given (Other (replies.Garbled at)) kept reading = Ends talk job before given (Other (replies.Garbled at)) kept
+Hears talk job before given (Other (replies.Fault told_before told_after)) kept reading = Unit {0}
+Hears talk job before given (Other replies.NoMemory) kept reading = Unit {0}
+
+abbrev pub HearsSo : Option Talk → Job → Talk → List ℕ → Said → Type 0
+HearsSo talk job before given said = Hears talk job before given said.word said.kept said.reading
+
+-- what is said next to a response that is being read
+pub record SaysOn (talk : Option Talk) (reading : Reading) (later : Option Talk) (said : Said) : Type 0 where
+  pub is : (before : Talk) (given : List ℕ) → Reads talk reading before given → HearsSo later reading.fetch.job before given said
+
+-- a piece is said of a reading that gave out its bytes
+pub record GivesOn (talk : Option Talk) (reading : Reading) (later : Option Talk) (piece : List ℕ) (said : Said) : Type 0 where
+  pub is : (before : Talk) (given : List ℕ) → Reads talk reading before (given ++ piece) → HearsSo later reading.fetch.job before given said
+
+-- the first word, on the connection that was kept for the URI's host and port, or on a new one
+pub record BeginsOn (talk : Option Talk) (kept : Option Place) (later : Option Talk) (job : Job) (said : Said) : Type 0 where
+  pub is : ((is_for kept job.uri ≡ true) × HearsSo later job (unwrap_or talk silent) [] said) ⊎ HearsSo later job silent [] said
+
+-- the first word on a new connection
+pub record BeginsAnew (later : Option Talk) (job : Job) (said : Said) : Type 0 where
+  pub is : HearsSo later job silent [] said
+
+-- the first word on the connection that is open, or on a new one
+pub record BeginsAgain (talk later : Option Talk) (job : Job) (said : Said) : Type 0 where
+  pub is : HearsSo later job (unwrap_or talk silent) [] said ⊎ HearsSo later job silent [] said
+
+-- no `receive` gave 0 on the connection that is kept
+abbrev pub IsOpen : Option Talk → Type 0
+IsOpen talk = IfSome talk (λ told. told.ended ≡ false)
+
+-- what a method keeps
+pub record Keeps (talk : Option Talk) (kept : Option Place) (reading : Option Reading) : Type 0 where
+  pub reads : IfSome reading (IsReading talk)
+  pub open_is : IfSome kept (λ place. IsOpen talk)
+  pub one : IsSome reading → kept ≡ None
+
+abbrev pub under_of : Option Reading → Option Fetch
+under_of None = None
+under_of (Some reading) = Some reading.fetch
+
+-- a word of a method that tells no mirror
+pub record IsTold (fetch : Fetch) (said : Said) : Type 0 where
+  pub is : (n : ℕ) → IsWord n n None fetch (under_of said.reading) said.word
+
+-- a whole file ends in its size, and what else is heard is said
+abbrev pub word_of : ℕ → Reply → Word
+word_of size (replies.Served bytes) = Done size
+word_of size (replies.Moved place) = Other (replies.Moved place)
+word_of size (replies.Absent status) = Other (replies.Absent status)
+word_of size replies.TooBig = Other replies.TooBig
+word_of size (replies.Garbled at) = Other (replies.Garbled at)
+word_of size (replies.Fault before after) = Other (replies.Fault before after)
+word_of size replies.NoMemory = Other replies.NoMemory
+
+abbrev pub is_file : Reply → Bool
+is_file (replies.Served bytes) = true
+is_file reply = false
+
+-- a connection is kept only behind a whole file
+abbrev pub IsKeptBehind : Word → Option Place → Type 0
+IsKeptBehind (Piece place bytes) kept = kept ≡ None
+IsKeptBehind (Done size) kept = Unit {0}
+IsKeptBehind (Other reply) kept = kept ≡ None
+
+-- what is said, and kept, where a piece was given out
+abbrev pub part_of : Reading → List ℕ → Said
+part_of reading bytes = record {
+  word = Piece reading.fetch.at bytes;
+  kept = None;
+  reading = Some (record { fetch = record { job = reading.fetch.job; at = reading.fetch.at + length bytes }; wire = reading.wire; behind = reading.behind });
+}

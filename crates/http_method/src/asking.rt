@@ -1,0 +1,160 @@
+//! Asks a peer for a file.
+ghost use Rattle.std.specs.Prelude.{◌≡◌, ◌⊎◌, ◌≤◌, true, IfOk, IfSome, OnErr, OnOk, option_map};
+ghost use Rattle.acq_base.specs.declared.uri.Scheme.TheVariants.{Http};
+ghost use Rattle.acq_base.specs.Uri.{IsSound};
+ghost use Rattle.acq_outside.specs.Count.{Rose};
+ghost use Rattle.acq_outside.specs.Word.{CanBegin, IsSoundWord, begun};
+ghost use Rattle.acq_net.specs.Talk.{sends, silent};
+ghost use Rattle.http_wire.specs.Request.{request_text};
+ghost use Rattle.http_method.specs.Reading.{BeginsAgain, BeginsAnew, BeginsOn, IsKeptBehind, IsOpen, IsTold, Keeps, is_end, is_for};
+
+use crate::hearing::receive_once;
+use crate::reading::{Behind, Place, Reading, Said};
+use crate::saying::{next_word, starved};
+use acq_base::{Bytes, Job, Uri};
+use acq_net::Link;
+use acq_outside::{Fault, OutError};
+use http_wire::request;
+use std::alloc::Global;
+
+/// Whether a connection is kept for a URI's host and port.
+fn is_for(kept: &Option<Place>, uri: &Uri) -> bool
+    ensures { result ≡ is_for kept.now uri.now }
+{
+    match kept {
+        Some(place) => place.host == uri.host && place.port == uri.port,
+        None => false,
+    }
+}
+
+/// Starts a fetch of an http URI, on the connection that is kept, if it is one to the URI's host and port.
+#[tactic(auto, using(crate::proofs::Begins::anew_on, crate::proofs::Begins::again_on, crate::proofs::Begins::dry_anew))]
+pub fn ask<L: Link>(
+    alloc: Global,
+    link: &mut L,
+    kept: Option<Place>,
+    job: &Job,
+) -> Result<Said, Fault>
+    requires sound { IsSound job.now.uri }
+    requires from { CanBegin job.now }
+    requires http { job.now.uri.scheme ≡ Http }
+    requires kept { IfSome kept (λ place. IsOpen (L.talk link.old)) }
+    ensures count { L.faults link.old ≤ L.faults link.new }
+    ensures fault { OnErr result (Rose (L.faults link.old) (L.faults link.new)) }
+    ensures quiet { OnOk result (L.faults link.new ≡ L.faults link.old) }
+    ensures made { is_for kept job.now.uri ≡ true → (L.made link.new ≡ L.made link.old) ⊎ Rose (L.ends link.old) (L.ends link.new) }
+    ensures sound { IfOk result (λ said. IsSoundWord said.word) }
+    ensures told { IfOk result (IsTold (begun job.now)) }
+    ensures keeps { IfOk result (λ said. Keeps (L.talk link.new) said.kept said.reading) }
+    ensures behind { IfOk result (λ said. IsKeptBehind said.word said.kept) }
+    ensures says { IfOk result (BeginsOn (L.talk link.old) kept (L.talk link.new) job.now) }
+{
+    let Ok(text) = request(alloc, &job.uri, job.from) else {
+        link.close();
+        return Ok(starved());
+    };
+    if is_for(&kept, &job.uri) {
+        return ask_again(alloc, link, &text, job);
+    }
+    ask_anew(alloc, link, &text, job)
+}
+
+/// Asks on a new connection.
+fn ask_anew<L: Link>(alloc: Global, link: &mut L, text: &Bytes, job: &Job) -> Result<Said, Fault>
+    requires sound { IsSound job.now.uri }
+    requires text { text.now ≡ request_text job.now.uri job.now.from }
+    ensures count { L.faults link.old ≤ L.faults link.new }
+    ensures fault { OnErr result (Rose (L.faults link.old) (L.faults link.new)) }
+    ensures quiet { OnOk result (L.faults link.new ≡ L.faults link.old) }
+    ensures ends { L.ends link.old ≤ L.ends link.new }
+    ensures sound { IfOk result (λ said. IsSoundWord said.word) }
+    ensures told { IfOk result (IsTold (begun job.now)) }
+    ensures keeps { IfOk result (λ said. Keeps (L.talk link.new) said.kept said.reading) }
+    ensures behind { IfOk result (λ said. IsKeptBehind said.word said.kept) }
+    ensures says { IfOk result (BeginsAnew (L.talk link.new) job.now) }
+{
+    let Ok(reading) = Reading::new(alloc, job) else {
+        link.close();
+        return Ok(starved());
+    };
+    connect(link, &job.uri)?;
+    send(link, text)?;
+    next_word(alloc, link, reading)
+}
+
+/// Connects to the host and port of a URI.
+fn connect<L: Link>(link: &mut L, uri: &Uri) -> Result<(), Fault>
+    ensures count { L.faults link.old ≤ L.faults link.new }
+    ensures fault { OnErr result (Rose (L.faults link.old) (L.faults link.new)) }
+    ensures quiet { OnOk result (L.faults link.new ≡ L.faults link.old) }
+    ensures ends { L.ends link.new ≡ L.ends link.old }
+    ensures fresh { OnOk result (L.talk link.new ≡ option_map (λ _. silent) (L.talk link.old)) }
+{
+    if link.connect(&uri.host, uri.port).is_err() {
+        link.close();
+        return Err(Fault);
+    }
+    Ok(())
+}
+
+/// Sends a request.
+fn send<L: Link>(link: &mut L, text: &Bytes) -> Result<(), Fault>
+    ensures count { L.faults link.old ≤ L.faults link.new }
+    ensures fault { OnErr result (Rose (L.faults link.old) (L.faults link.new)) }
+    ensures quiet { OnOk result (L.faults link.new ≡ L.faults link.old) }
+    ensures made { L.made link.new ≡ L.made link.old }
+    ensures ends { L.ends link.new ≡ L.ends link.old }
+    ensures sent { OnOk result (L.talk link.new ≡ option_map (sends text.now) (L.talk link.old)) }
+{
+    if link.send(text.as_slice()).is_err() {
+        link.close();
+        return Err(Fault);
+    }
+    Ok(())
+}
+
+/// Asks on the connection that is kept, and anew once where its peer ends before the first byte of a response.
+fn ask_again<L: Link>(alloc: Global, link: &mut L, text: &Bytes, job: &Job) -> Result<Said, Fault>
+    requires sound { IsSound job.now.uri }
+    requires text { text.now ≡ request_text job.now.uri job.now.from }
+    requires opened { IsOpen (L.talk link.old) }
+    ensures count { L.faults link.old ≤ L.faults link.new }
+    ensures fault { OnErr result (Rose (L.faults link.old) (L.faults link.new)) }
+    ensures quiet { OnOk result (L.faults link.new ≡ L.faults link.old) }
+    ensures made { (L.made link.new ≡ L.made link.old) ⊎ Rose (L.ends link.old) (L.ends link.new) }
+    ensures sound { IfOk result (λ said. IsSoundWord said.word) }
+    ensures told { IfOk result (IsTold (begun job.now)) }
+    ensures keeps { IfOk result (λ said. Keeps (L.talk link.new) said.kept said.reading) }
+    ensures behind { IfOk result (λ said. IsKeptBehind said.word said.kept) }
+    ensures says { IfOk result (BeginsAgain (L.talk link.old) (L.talk link.new) job.now) }
+{
+    let Ok(reading) = Reading::new(alloc, job) else {
+        link.close();
+        return Ok(starved());
+    };
+    let mut reading = reading;
+    send(link, text)?;
+    match receive_once(alloc, link, &mut reading) {
+        Ok(()) => {
+            if is_end(reading.behind) {
+                return ask_anew(alloc, link, text, job);
+            }
+            next_word(alloc, link, reading)
+        }
+        Err(OutError::Fault) => {
+            link.close();
+            Err(Fault)
+        }
+        Err(OutError::NoMemory) => {
+            link.close();
+            Ok(starved())
+        }
+    }
+}
+
+/// Whether the peer has ended.
+fn is_end(behind: Behind) -> bool
+    ensures { result ≡ is_end behind }
+{
+    matches!(behind, Behind::End)
+}

@@ -1,0 +1,143 @@
+//! Receives bytes of a link's peer into the response that is being read.
+ghost use Rattle.std.specs.Prelude.{◌≡◌, ◌≢◌, ◌<◌, ◌≤◌, true, false, [], length, vec_len, IfOk, IsErrOf, OnOk};
+ghost use Rattle.acq_outside.specs.Count.{Rose};
+ghost use Rattle.http_wire.specs.Wire.{IsDone, held, wire_state};
+ghost use Rattle.http_method.specs.Reading.{Goes, IsReading, Received, behind_of, is_end};
+
+use crate::reading::{Behind, Reading};
+use acq_base::{Bytes, NoMemory};
+use acq_net::Link;
+use acq_outside::OutError;
+use http_wire::{State, Wire};
+use std::alloc::Global;
+
+/// How many bytes are received at once, at most.
+const ROOM: usize = 65_536;
+
+/// Room for bytes that are received.
+fn room(alloc: Global, size: usize) -> Result<Vec<u8>, NoMemory>
+    ensures { IfOk result (λ room. vec_len room ≡ size) }
+{
+    Ok(vec![in alloc; 0u8; size]?)
+}
+
+/// What stands behind so many taken bytes of a piece.
+fn behind_of(taken: usize, size: usize) -> Behind
+    ensures { result ≡ behind_of taken size }
+{
+    if taken < size {
+        Behind::Bytes
+    } else {
+        Behind::Nothing
+    }
+}
+
+/// The peer has ended.
+#[tactic(auto, using(crate::proofs::Received::end_received))]
+fn end(reading: &mut Reading)
+    requires nothing { reading.old.behind ≡ Behind.Nothing }
+    ensures fetch { reading.new.fetch ≡ reading.old.fetch }
+    ensures going { wire_state reading.new.wire ≢ State.More }
+    ensures received { Received reading.old reading.new [] }
+{
+    reading.wire.ended();
+    reading.behind = Behind::End;
+}
+
+/// Takes bytes of the peer.
+fn feed(alloc: Global, reading: &mut Reading, piece: &[u8]) -> Result<(), NoMemory>
+    requires going { wire_state reading.old.wire ≡ State.More }
+    requires nothing { reading.old.behind ≡ Behind.Nothing }
+    requires some { 0 < length piece.now }
+    ensures fetch { reading.new.fetch ≡ reading.old.fetch }
+    ensures going { OnOk result (wire_state reading.new.wire ≡ State.More → reading.new.behind ≡ Behind.Nothing) }
+    ensures open { OnOk result (is_end reading.new.behind ≡ false) }
+    ensures received { OnOk result (Received reading.old reading.new piece.now) }
+{
+    let taken = reading.wire.feed(alloc, piece)?;
+    reading.behind = behind_of(taken, piece.len());
+    Ok(())
+}
+
+/// Receives once.
+pub fn receive_once<L: Link>(
+    alloc: Global,
+    link: &mut L,
+    reading: &mut Reading,
+) -> Result<(), OutError>
+    requires going { wire_state reading.old.wire ≡ State.More }
+    requires nothing { reading.old.behind ≡ Behind.Nothing }
+    ensures count { L.faults link.old ≤ L.faults link.new }
+    ensures fault { IsErrOf result OutError.Fault → Rose (L.faults link.old) (L.faults link.new) }
+    ensures quiet { OnOk result (L.faults link.new ≡ L.faults link.old) }
+    ensures dry { IsErrOf result OutError.NoMemory → L.faults link.new ≡ L.faults link.old }
+    ensures made { L.made link.new ≡ L.made link.old }
+    ensures ends { L.ends link.old ≤ L.ends link.new }
+    ensures ended { OnOk result (is_end reading.new.behind ≡ true → Rose (L.ends link.old) (L.ends link.new)) }
+    ensures fetch { reading.new.fetch ≡ reading.old.fetch }
+    ensures going { OnOk result (wire_state reading.new.wire ≡ State.More → reading.new.behind ≡ Behind.Nothing) }
+    ensures goes { OnOk result (Goes (L.talk link.old) reading.old (L.talk link.new) reading.new []) }
+{
+    let mut room = room(alloc, ROOM)?;
+    let n = link.receive(room.as_mut_slice())?;
+    if n == 0 {
+        end(reading);
+        return Ok(());
+    }
+    let (piece, _) = room.as_slice().split_at(n);
+    feed(alloc, reading, piece)?;
+    Ok(())
+}
+
+/// Whether the reading ended before a whole response.
+fn is_refused(wire: &Wire) -> bool
+    ensures refused { result ≡ true → (wire_state wire.now ≢ State.More) × ¬ (IsDone (wire_state wire.now)) }
+{
+    match wire.state() {
+        State::TooBig | State::Garbled(_) => true,
+        State::More | State::Done { keep: _ } => false,
+    }
+}
+
+/// Whether more bytes are wanted.
+fn is_going(wire: &Wire) -> bool
+    ensures going { result ≡ true → wire_state wire.now ≡ State.More }
+    ensures over { result ≡ false → wire_state wire.now ≢ State.More }
+{
+    match wire.state() {
+        State::More => true,
+        State::Done { keep: _ } | State::TooBig | State::Garbled(_) => false,
+    }
+}
+
+/// Receives until bytes of the body have come, which it gives out, or the reading has ended.
+pub fn listen<L: Link>(
+    alloc: Global,
+    link: &mut L,
+    reading: &mut Reading,
+) -> Result<Bytes, OutError>
+    requires is { IsReading (L.talk link.old) reading.old }
+    ensures count { L.faults link.old ≤ L.faults link.new }
+    ensures fault { IsErrOf result OutError.Fault → Rose (L.faults link.old) (L.faults link.new) }
+    ensures quiet { OnOk result (L.faults link.new ≡ L.faults link.old) }
+    ensures dry { IsErrOf result OutError.NoMemory → L.faults link.new ≡ L.faults link.old }
+    ensures made { L.made link.new ≡ L.made link.old }
+    ensures ends { L.ends link.old ≤ L.ends link.new }
+    ensures fetch { reading.new.fetch ≡ reading.old.fetch }
+    ensures is { OnOk result (IsReading (L.talk link.new) reading.new) }
+    ensures over { IfOk result (λ bytes. bytes ≡ [] → wire_state reading.new.wire ≢ State.More) }
+    ensures all { IfOk result (λ bytes. bytes ≡ [] → IsDone (wire_state reading.new.wire) → held reading.new.wire ≡ []) }
+    ensures goes { IfOk result (Goes (L.talk link.old) reading.old (L.talk link.new) reading.new) }
+{
+    for _ in 0..u64::MAX {
+        if is_refused(&reading.wire) {
+            return Ok(Bytes::new(alloc));
+        }
+        let bytes = reading.wire.take(alloc)?;
+        if !bytes.is_empty() || !is_going(&reading.wire) {
+            return Ok(bytes);
+        }
+        receive_once(alloc, link, reading)?;
+    }
+    Err(OutError::NoMemory)
+}

@@ -1,0 +1,159 @@
+//! The method over a link.
+ghost use Rattle.std.specs.Prelude.{◌≡◌};
+
+use crate::asking::ask;
+use crate::reading::{Place, Reading, Said};
+use crate::saying::next_word;
+use acq_base::{Job, Reply, Scheme};
+use acq_net::Link;
+use acq_outside::{Fault, Method, Word};
+use std::alloc::Global;
+use std::marker::Model;
+
+/// A method that fetches over HTTP. A URI of another scheme is absent with status 404, and the link isn't called for it.
+///
+/// Behind a whole file the connection is kept for its host and port, if the response leaves it open and no byte stands
+/// behind it, and behind nothing else. A kept connection whose peer ends before the first byte of the next response is made
+/// anew once. Everywhere else a peer that ends is heard as it is. Its mirror isn't told.
+#[derive(Drop)]
+pub struct HttpMethod<L: Link> {
+    link: L,
+    faults: u64,
+    kept: Option<Place>,
+    reading: Option<Reading>,
+}
+
+impl<L: Link> Model for HttpMethod<L> {
+    ghost use Rattle.http_method.specs.HttpMethod.{HttpState};
+    ghost use Rattle.http_method.specs.Reading.{Keeps};
+
+    ghost Value = { HttpState L };
+
+    ghost view = { λ method. record { link = method.link; faults = method.faults; kept = method.kept; reading = method.reading } };
+
+    ghost invariant = { λ method. Keeps (L.talk method.link) method.kept method.reading };
+}
+
+impl<L: Link> HttpMethod<L> {
+    ghost use Rattle.std.specs.Prelude.{◌≡◌, ◌≤◌, None, IfOk, OnErr};
+    ghost use Rattle.acq_outside.specs.Count.{one_more};
+    ghost use Rattle.http_method.specs.Reading.{Keeps};
+
+    /// A method over this link. No connection is kept, and no fetch is under way.
+    pub fn new(link: L) -> HttpMethod<L>
+        ensures link { result.link ≡ link }
+        ensures faults { result.faults ≡ 0 }
+        ensures kept { result.kept ≡ None }
+        ensures idle { result.reading ≡ None }
+    {
+        HttpMethod {
+            link,
+            faults: 0,
+            kept: None,
+            reading: None,
+        }
+    }
+
+    /// The link, as the method left it.
+    pub fn into_link(self) -> L
+        ensures { result ≡ self.link }
+    {
+        self.link
+    }
+
+    /// Keeps what is kept behind a word, and counts a fault.
+    fn settle(&mut self, said: Result<Said, Fault>) -> Word
+        requires keeps { IfOk said (λ one. Keeps (L.talk self.old.link) one.kept one.reading) }
+        requires kept { self.old.kept ≡ None }
+        requires idle { self.old.reading ≡ None }
+        ensures link { self.new.link ≡ self.old.link }
+        ensures word { IfOk said (λ one. result ≡ one.word) }
+        ensures kept { IfOk said (λ one. self.new.kept ≡ one.kept) }
+        ensures reading { IfOk said (λ one. self.new.reading ≡ one.reading) }
+        ensures quiet { IfOk said (λ one. self.new.faults ≡ self.old.faults) }
+        ensures fault { OnErr said (result ≡ Word.Other (Reply.Fault self.old.faults self.new.faults)) }
+        ensures none { OnErr said (self.new.kept ≡ None) }
+        ensures over { OnErr said (self.new.reading ≡ None) }
+        ensures counted { OnErr said (self.new.faults ≡ one_more self.old.faults) }
+    {
+        match said {
+            Ok(said) => {
+                self.kept = said.kept;
+                self.reading = said.reading;
+                said.word
+            }
+            Err(Fault) => {
+                let before = self.faults;
+                self.faults = self.faults.saturating_add(1);
+                let after = self.faults;
+                Word::Other(Reply::Fault { before, after })
+            }
+        }
+    }
+}
+
+impl<L: Link> Method for HttpMethod<L> {
+    ghost use Rattle.std.specs.Prelude.{◌≡◌, ◌⊎◌, ◌≤◌, true, IfSome, IsSome, None};
+    ghost use Rattle.acq_base.specs.declared.uri.Scheme.TheVariants.{File, Http};
+    ghost use Rattle.acq_base.specs.Uri.{IsSound};
+    ghost use Rattle.acq_outside.specs.Count.{Rose};
+    ghost use Rattle.acq_outside.specs.Word.{CanBegin, IsSoundWord, IsWord, begun};
+    ghost use Rattle.http_method.specs.HttpMethod.{CountsFault, said_of};
+    ghost use Rattle.http_method.specs.Reading.{BeginsOn, IsKeptBehind, SaysOn, is_for, under_of};
+
+    ghost faults = { λ method. method.faults };
+
+    ghost world = { λ _. None };
+
+    ghost under = { λ method. under_of method.reading };
+
+    fn faults(&self) -> u64 {
+        self.faults
+    }
+
+    // Beside what the trait says: a fault comes exactly where the link's count rose. The words are what is heard of the bytes
+    // received since the request, which was sent whole. A connection is kept only behind a whole file, and a fetch for its
+    // host and port makes another one only where the peer ended.
+
+    fn begin(&mut self, alloc: Global, job: &Job) -> Word
+        requires sound { IsSound job.now.uri }
+        requires from { CanBegin job.now }
+        ensures count { self.old.faults ≤ self.new.faults }
+        ensures sound { IsSoundWord result }
+        ensures word { IsWord self.old.faults self.new.faults None (begun job.now) (under_of self.new.reading) result }
+        ensures link_count { L.faults self.old.link ≤ L.faults self.new.link }
+        ensures link_fault { CountsFault (L.faults self.old.link) (L.faults self.new.link) result }
+        ensures made { is_for self.old.kept job.now.uri ≡ true → (L.made self.new.link ≡ L.made self.old.link) ⊎ Rose (L.ends self.old.link) (L.ends self.new.link) }
+        ensures says { job.now.uri.scheme ≡ Http → BeginsOn (L.talk self.old.link) self.old.kept (L.talk self.new.link) job.now (said_of result self.new) }
+        ensures behind { job.now.uri.scheme ≡ Http → IsKeptBehind result self.new.kept }
+        ensures elsewhere { job.now.uri.scheme ≡ File → (result ≡ Word.Other (Reply.Absent 404)) × (self.new.link ≡ self.old.link) × (self.new.kept ≡ self.old.kept) }
+    {
+        self.reading = None;
+        match job.uri.scheme {
+            Scheme::File => Word::Other(Reply::Absent(404)),
+            Scheme::Http => {
+                let kept = self.kept.take();
+                let said = ask(alloc, &mut self.link, kept, job);
+                self.settle(said)
+            }
+        }
+    }
+
+    fn more(&mut self, alloc: Global) -> Word
+        requires { IsSome (under_of self.old.reading) }
+        ensures count { self.old.faults ≤ self.new.faults }
+        ensures sound { IsSoundWord result }
+        ensures word { IfSome (under_of self.old.reading) (λ fetch. IsWord self.old.faults self.new.faults None fetch (under_of self.new.reading) result) }
+        ensures link_count { L.faults self.old.link ≤ L.faults self.new.link }
+        ensures link_fault { CountsFault (L.faults self.old.link) (L.faults self.new.link) result }
+        ensures made { L.made self.new.link ≡ L.made self.old.link }
+        ensures says { IfSome self.old.reading (λ reading. SaysOn (L.talk self.old.link) reading (L.talk self.new.link) (said_of result self.new)) }
+        ensures behind { IsKeptBehind result self.new.kept }
+    {
+        let Some(reading) = self.reading.take() else {
+            unreachable!()
+        };
+        let said = next_word(alloc, &mut self.link, reading);
+        self.settle(said)
+    }
+}

@@ -1,0 +1,198 @@
+//! What is said next to a fetch.
+ghost use Rattle.std.specs.Prelude.{◌≡◌, ◌≢◌, ◌+◌, ◌<◌, ◌≤◌, ◌&&◌, [], length, IfOk, OnErr, OnOk, None};
+ghost use Rattle.acq_outside.specs.Count.{Rose};
+ghost use Rattle.acq_outside.specs.Word.{IsSoundWord};
+ghost use Rattle.http_wire.specs.Wire.{IsDone, held, wire_state};
+ghost use Rattle.http_method.specs.Reading.{GivesOn, IsKeptBehind, IsReading, IsTold, Keeps, SaysOn, is_file, is_kept, kept_if, part_of, word_of};
+
+use crate::hearing::listen;
+use crate::reading::{Behind, Place, Reading, Said};
+use acq_base::{Bytes, Reply, Uri};
+use acq_net::Link;
+use acq_outside::{Fault, Fetch, OutError, Word};
+use http_wire::{State, endings_stay, one_reading, wires_tell};
+use std::alloc::Global;
+
+/// The most bytes of a piece.
+const MOST: usize = 65_536;
+
+/// Memory ran out, and nothing is kept.
+pub fn starved() -> Said
+    ensures word { result.word ≡ Word.Other Reply.NoMemory }
+    ensures kept { result.kept ≡ None }
+    ensures reading { result.reading ≡ None }
+{
+    Said {
+        word: Word::Other(Reply::NoMemory),
+        kept: None,
+        reading: None,
+    }
+}
+
+/// What comes next of the peer's response.
+#[tactic(auto, using(crate::proofs::Ending::goes_says, crate::proofs::Ending::dry_says))]
+pub fn next_word<L: Link>(alloc: Global, link: &mut L, reading: Reading) -> Result<Said, Fault>
+    requires { IsReading (L.talk link.old) reading }
+    ensures count { L.faults link.old ≤ L.faults link.new }
+    ensures fault { OnErr result (Rose (L.faults link.old) (L.faults link.new)) }
+    ensures quiet { OnOk result (L.faults link.new ≡ L.faults link.old) }
+    ensures made { L.made link.new ≡ L.made link.old }
+    ensures ends { L.ends link.old ≤ L.ends link.new }
+    ensures sound { IfOk result (λ said. IsSoundWord said.word) }
+    ensures told { IfOk result (IsTold reading.fetch) }
+    ensures keeps { IfOk result (λ said. Keeps (L.talk link.new) said.kept said.reading) }
+    ensures behind { IfOk result (λ said. IsKeptBehind said.word said.kept) }
+    ensures says { IfOk result (SaysOn (L.talk link.old) reading (L.talk link.new)) }
+{
+    let mut reading = reading;
+    match listen(alloc, link, &mut reading) {
+        Ok(bytes) => Ok(say(alloc, link, reading, bytes)),
+        Err(OutError::Fault) => {
+            link.close();
+            Err(Fault)
+        }
+        Err(OutError::NoMemory) => {
+            link.close();
+            Ok(starved())
+        }
+    }
+}
+
+/// Says what was heard.
+#[tactic(auto, using(crate::proofs::Ending::says_gives))]
+fn say<L: Link>(alloc: Global, link: &mut L, reading: Reading, bytes: Bytes) -> Said
+    requires is { IsReading (L.talk link.old) reading }
+    requires over { bytes ≡ [] → wire_state reading.wire ≢ State.More }
+    requires all { bytes ≡ [] → IsDone (wire_state reading.wire) → held reading.wire ≡ [] }
+    ensures faults { L.faults link.new ≡ L.faults link.old }
+    ensures made { L.made link.new ≡ L.made link.old }
+    ensures ends { L.ends link.new ≡ L.ends link.old }
+    ensures sound { IsSoundWord result.word }
+    ensures told { IsTold reading.fetch result }
+    ensures keeps { Keeps (L.talk link.new) result.kept result.reading }
+    ensures behind { IsKeptBehind result.word result.kept }
+    ensures gives { GivesOn (L.talk link.old) reading (L.talk link.new) bytes result }
+{
+    if bytes.is_empty() {
+        return finish(alloc, link, reading);
+    }
+    piece(link, reading, bytes)
+}
+
+/// A piece of these bytes.
+#[tactic(auto, using(crate::proofs::Ending::part_gives, crate::proofs::Ending::dry_gives))]
+fn piece<L: Link>(link: &mut L, reading: Reading, bytes: Bytes) -> Said
+    requires is { IsReading (L.talk link.old) reading }
+    requires some { 0 < length bytes }
+    ensures faults { L.faults link.new ≡ L.faults link.old }
+    ensures made { L.made link.new ≡ L.made link.old }
+    ensures ends { L.ends link.new ≡ L.ends link.old }
+    ensures sound { IsSoundWord result.word }
+    ensures told { IsTold reading.fetch result }
+    ensures keeps { Keeps (L.talk link.new) result.kept result.reading }
+    ensures behind { IsKeptBehind result.word result.kept }
+    ensures gives { GivesOn (L.talk link.old) reading (L.talk link.new) bytes result }
+{
+    // A wire holds no more bytes than it was fed at once, and none past its limit. Its contract doesn't say so.
+    let room = reading.fetch.job.max.saturating_sub(reading.fetch.at);
+    if bytes.len() > MOST || bytes.len() as u64 > room {
+        link.close();
+        return starved();
+    }
+    part(reading, bytes)
+}
+
+/// A piece of these bytes, which are within the limits.
+fn part(reading: Reading, bytes: Bytes) -> Said
+    requires some { 0 < length bytes }
+    requires small { length bytes ≤ 65536 }
+    requires within { reading.fetch.at + length bytes ≤ reading.fetch.job.max }
+    ensures { result ≡ part_of reading bytes }
+{
+    let at = reading.fetch.at;
+    let fetch = Fetch {
+        job: reading.fetch.job,
+        at: at + bytes.len() as u64,
+    };
+    Said {
+        word: Word::Piece { at, bytes },
+        kept: None,
+        reading: Some(Reading {
+            fetch,
+            wire: reading.wire,
+            behind: reading.behind,
+        }),
+    }
+}
+
+/// The last word: the response is whole, or refused.
+fn finish<L: Link>(alloc: Global, link: &mut L, reading: Reading) -> Said
+    requires is { IsReading (L.talk link.old) reading }
+    requires over { wire_state reading.wire ≢ State.More }
+    requires all { IsDone (wire_state reading.wire) → held reading.wire ≡ [] }
+    ensures faults { L.faults link.new ≡ L.faults link.old }
+    ensures made { L.made link.new ≡ L.made link.old }
+    ensures ends { L.ends link.new ≡ L.ends link.old }
+    ensures sound { IsSoundWord result.word }
+    ensures told { IsTold reading.fetch result }
+    ensures keeps { Keeps (L.talk link.new) result.kept result.reading }
+    ensures behind { IsKeptBehind result.word result.kept }
+    ensures says { SaysOn (L.talk link.old) reading (L.talk link.new) result }
+{
+    one_reading();
+    endings_stay();
+    wires_tell();
+    let keep = is_kept(reading.behind, reading.wire.state());
+    let reply = reading.wire.reply(alloc, &reading.fetch.job.uri);
+    let kept = keep_open(link, is_file(&reply), keep, reading.fetch.job.uri);
+    Said {
+        word: word_of(reading.fetch.at, reply),
+        kept,
+        reading: None,
+    }
+}
+
+/// Whether the connection may serve another request.
+fn is_kept(behind: Behind, state: State) -> bool
+    ensures { result ≡ is_kept behind state }
+{
+    match (behind, state) {
+        (Behind::Nothing, State::Done { keep }) => keep,
+        _ => false,
+    }
+}
+
+/// Whether a reply is a file.
+fn is_file(reply: &Reply) -> bool
+    ensures { result ≡ is_file reply.now }
+{
+    matches!(reply, Reply::Served(_))
+}
+
+/// The last word by the reply of a wire, whose body was given out.
+fn word_of(size: u64, reply: Reply) -> Word
+    ensures { result ≡ word_of size reply }
+{
+    match reply {
+        Reply::Served(_) => Word::Done { size },
+        other => Word::Other(other),
+    }
+}
+
+/// Keeps the connection to the URI's host and port behind a file, where it may be kept, or closes it.
+fn keep_open<L: Link>(link: &mut L, file: bool, keep: bool, uri: Uri) -> Option<Place>
+    ensures faults { L.faults link.new ≡ L.faults link.old }
+    ensures made { L.made link.new ≡ L.made link.old }
+    ensures ends { L.ends link.new ≡ L.ends link.old }
+    ensures talk { L.talk link.new ≡ L.talk link.old }
+    ensures kept { result ≡ kept_if (file && keep) uri }
+{
+    if file && keep {
+        return Some(Place {
+            host: uri.host,
+            port: uri.port,
+        });
+    }
+    link.close();
+    None
+}
