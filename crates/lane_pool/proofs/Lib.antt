@@ -1,0 +1,10 @@
+pub mod Counts
+pub mod Rows
+pub mod Rules
+pub mod Heard
+pub mod Slots
+pub mod Standing
+pub mod Joins
+pub mod Opens
+pub mod Apart
+pub mod SampleUri

@@ -1,0 +1,58 @@
+-- Rows that grow at their end, and rows in which one place changes.
+use Rattle.std.proofs.Common.{◌≡◌, ℕ, zero, suc, ◌-◌, ◌<◌, ◌≤◌, List, [], ◌∷◌, ◌++◌, map, length, set, get_or, Some, refl, ap, ◌∙◌, arith}
+use Rattle.std.specs.List.{slice_get}
+use Rattle.std.proofs.lemmas.List.{get_or-map, map-set}
+use Rattle.lane_pool.specs.Pool.{NoneFell}
+
+pub get_snoc_or : {A : Type 0} (l : List A) (a d : A) (j : ℕ) → j < length l → get_or (l ++ a ∷ []) j d ≡ get_or l j d
+get_snoc_or [] a d j h = absurd (omega arith)
+get_snoc_or (x ∷ xs) a d zero h = refl
+get_snoc_or (x ∷ xs) a d (suc j) h = get_snoc_or xs a d j (omega arith)
+
+pub get_last_or : {A : Type 0} (l : List A) (a d : A) (j : ℕ) → j ≡ length l → get_or (l ++ a ∷ []) j d ≡ a
+get_last_or [] a d zero h = refl
+get_last_or [] a d (suc j) h = absurd (omega arith)
+get_last_or (x ∷ xs) a d zero h = absurd (omega arith)
+get_last_or (x ∷ xs) a d (suc j) h = get_last_or xs a d j (omega arith)
+
+-- places behind the head of a row
+pub set_behind : {A B : Type 0} (f : A → B) (b : B) (xs : List A) (y : A) (lane : ℕ) → 0 < lane → b ∷ map f (set xs (lane - 1) y) ≡ set (b ∷ map f xs) lane (f y)
+set_behind f b xs y zero h = absurd (omega arith)
+set_behind f b xs y (suc k) h = ap (λ (n : ℕ). b ∷ map f (set xs n y)) (let e : suc k - 1 ≡ k = omega arith in e) ∙ ap (λ l. b ∷ l) (map-set f xs k y)
+
+pub get_or_behind : {A B : Type 0} (f : A → B) (b : B) (xs : List A) (d : A) (e : B) (lane : ℕ) → 0 < lane → lane - 1 < length xs → get_or (b ∷ map f xs) lane e ≡ f (get_or xs (lane - 1) d)
+get_or_behind f b xs d e zero h there = absurd (omega arith)
+get_or_behind f b xs d e (suc k) h there = get_or-map f xs k d e (omega arith) ∙ ap (λ (n : ℕ). f (get_or xs n d)) (omega arith)
+
+slice_get_map : {A B : Type 0} (f : A → B) (xs : List A) (k : ℕ) (d : A) → k < length xs → slice_get (map f xs) k ≡ Some (f (get_or xs k d))
+slice_get_map f [] k d h = absurd (omega arith)
+slice_get_map f (x ∷ xs) zero d h = refl
+slice_get_map f (x ∷ xs) (suc k) d h = slice_get_map f xs k d (omega arith)
+
+pub slice_get_behind : {A B : Type 0} (f : A → B) (b : B) (xs : List A) (d : A) (lane : ℕ) → 0 < lane → lane - 1 < length xs → slice_get (b ∷ map f xs) lane ≡ Some (f (get_or xs (lane - 1) d))
+slice_get_behind f b xs d zero h there = absurd (omega arith)
+slice_get_behind f b xs d (suc k) h there = slice_get_map f xs k d (omega arith) ∙ ap (λ (n : ℕ). Some (f (get_or xs n d))) (omega arith)
+
+-- counts that don't fall
+pub none_fell_refl : (xs : List ℕ) → NoneFell xs xs
+none_fell_refl [] = tt
+none_fell_refl (x ∷ xs) = (omega arith, none_fell_refl xs)
+
+pub none_fell_trans : (xs ys zs : List ℕ) → NoneFell xs ys → NoneFell ys zs → NoneFell xs zs
+none_fell_trans [] [] [] a b = tt
+none_fell_trans [] [] (z ∷ zs) a b = b
+none_fell_trans [] (y ∷ ys) zs a b = elim a [ ]
+none_fell_trans (x ∷ xs) [] zs a b = elim a [ ]
+none_fell_trans (x ∷ xs) (y ∷ ys) [] a b = elim b [ ]
+none_fell_trans (x ∷ xs) (y ∷ ys) (z ∷ zs) a b = (let m = a.0 in let n = b.0 in omega arith, none_fell_trans xs ys zs a.1 b.1)
+
+pub none_fell_set : (xs : List ℕ) (k y : ℕ) → get_or xs k 0 ≤ y → NoneFell xs (set xs k y)
+none_fell_set [] k y h = tt
+none_fell_set (x ∷ xs) zero y h = (h, none_fell_refl xs)
+none_fell_set (x ∷ xs) (suc k) y h = (omega arith, none_fell_set xs k y h)
+
+pub none_fell_at : (xs ys : List ℕ) → length xs ≡ length ys → ((i : ℕ) → i < length xs → get_or xs i 0 ≤ get_or ys i 0) → NoneFell xs ys
+none_fell_at [] [] len each = tt
+none_fell_at [] (y ∷ ys) len each = absurd (omega arith)
+none_fell_at (x ∷ xs) [] len each = absurd (omega arith)
+none_fell_at (x ∷ xs) (y ∷ ys) len each = (each 0 (omega arith), none_fell_at xs ys (omega arith) (λ i h. each (suc i) (omega arith)))

@@ -1,0 +1,161 @@
+-- What a word that came, and a job that went, do to the lanes.
+use Rattle.std.proofs.Common.{◌≡◌, ◌≢◌, ◌∙◌, ℕ, ◌+◌, ◌-◌, ◌<◌, ◌≤◌, max, List, ◌∷◌, length, set, get_or, Option, Some, None, IfSome, IfNone, Result, Ok, Err, OnOk, OnErr, MatchResult, sym, ap, subst, arith}
+use mathlib.Core.Logic.{dite}
+use native.Mathlib.Decide.{ℕ_discrete}
+use Rattle.std.specs.List.{slice_get}
+use Rattle.std.proofs.Math.ListN.{length-set}
+use Rattle.std.proofs.Math.Seq.{map-set_same}
+use Rattle.std.proofs.lemmas.List.{get_or-set_same, get_or-set_other, set-get_or}
+use Rattle.crossbeam_channel.specs.Claims.{view}
+use Rattle.crossbeam_channel.specs.Ends.{sends_on}
+use Rattle.acq_base.specs.Mirror.{World}
+use Rattle.acq_outside.specs.declared.word.Fetch.{Fetch}
+use Rattle.lane_pool.specs.declared.told.Told.{Told}
+use Rattle.lane_pool.specs.declared.rule.View.{View}
+use Rattle.lane_pool.specs.declared.replies.Replies.{Replies}
+use Rattle.lane_pool.specs.declared.lane.Lane.{Lane}
+use Rattle.lane_pool.specs.Words.{count_after, IsHeard}
+use Rattle.lane_pool.specs.Pool.{Pool, IsTold, NoneFell}
+use Rattle.lane_pool.specs.Rule.{world_at, IsReceived}
+use Rattle.lane_pool.specs.Slot.{IsChecked}
+use Rattle.lane_pool.specs.Standing.{pool_of, IsLane, AreLanes, HasReplies}
+use Rattle.lane_pool.proofs.Counts.{after_within}
+use Rattle.lane_pool.proofs.Heard.{is_heard}
+use Rattle.lane_pool.proofs.Rows.{set_behind, slice_get_behind, get_or_behind, none_fell_refl, none_fell_set}
+
+-- a lane's last count after a check is at or below what was taken, if it was before
+pub last_below : (o : Option Told) (told : Told) (out out' : Option Fetch) (B : Type 0) (last last' n : ℕ) → IfSome o (λ t. (t ≡ told) × IsChecked out last told out' last') → IfNone o B
+    → (B → last' ≡ last) → last ≤ n → last' ≤ max n (count_after 0 told.word)
+last_below None told out out' B last last' n some none same low = let e = same none in omega arith
+last_below (Some t) told out out' B last last' n some none same low = let e = some.1.counts in let h = after_within last n told.word low in omega arith
+
+module _ {M : Type 0} (world : M → Option World) where
+  pub took : (replies replies' : Replies) (lanes : List (Lane M)) (x : Told) (p p' : Lane M) → AreLanes world replies lanes → replies'.sends ≡ replies.sends
+      → IsReceived (view replies.pass) x (view replies'.pass) → p ≡ get_or lanes (x.lane - 1) p → p'.worker ≡ p.worker
+      → ((n : ℕ) → p.last ≤ n → p'.last ≤ max n (count_after 0 x.word)) → AreLanes world replies' (set lanes (x.lane - 1) p')
+  took replies replies' lanes x p p' s e t is same last =
+      let k : ℕ = x.lane - 1 in
+      let v : View = view replies.pass in
+      let v' : View = view replies'.pass in
+      let a_worker : 0 < x.lane = t.a_worker in
+      let lane : 1 + k ≡ x.lane = omega arith in
+      let there : k < length lanes = let a = t.a_lane in let b = s.taken in omega arith in
+      let old : IsLane world replies (1 + k) p = subst (λ (y : Lane M). IsLane world replies (1 + k) y) (sym is) (s.each k p there) in
+      let bump : ℕ = max (get_or v.taken x.lane 0) (count_after 0 x.word) in
+      let taken' : v'.taken ≡ set v.taken x.lane bump = ap (λ (y : View). y.taken) t.then in
+      let here : get_or v'.taken x.lane 0 ≡ bump = ap (λ (y : List ℕ). get_or y x.lane 0) taken' ∙ get_or-set_same v.taken x.lane bump 0 t.a_lane in
+      let else : (l : ℕ) → l ≢ x.lane → get_or v'.taken l 0 ≡ get_or v.taken l 0 = λ l h. ap (λ (y : List ℕ). get_or y l 0) taken' ∙ get_or-set_other v.taken x.lane l bump 0 h in
+      let worlds : (l : ℕ) → world_at v' l ≡ world_at v l = λ l. ap (λ (y : View). world_at y l) t.then in
+      let new : IsLane world replies' (1 + k) p' = record {
+        number_is = ap (λ y. y.lane) same ∙ old.number_is;
+        on = ap (λ y. sends_on y.sends.value) same ∙ old.on ∙ sym (ap sends_on e);
+        mirror = worlds (1 + k) ∙ old.mirror ∙ sym (ap (λ y. world y.method.value) same);
+        below = let a = ap (λ (l : ℕ). get_or v'.taken l 0) lane in let b = ap (λ (l : ℕ). get_or v.taken l 0) lane in let d = old.below in let f = last (get_or v.taken x.lane 0) (omega arith) in omega arith;
+      } in
+      let grown : length (set lanes k p') ≡ length lanes = length-set lanes k p' in
+      record {
+        taken = ap length taken' ∙ length-set v.taken x.lane bump ∙ s.taken ∙ ap (λ n. n + 1) (sym grown);
+        worlds = ap (λ (y : View). length y.worlds) t.then ∙ s.worlds ∙ ap (λ n. n + 1) (sym grown);
+        notes = ap (λ (y : View). length y.notes) t.then ∙ s.notes;
+        each = λ i d h. dite (ℕ_discrete i k)
+            (λ (q : i ≡ k). subst (λ (y : ℕ × Lane M). IsLane world replies' (1 + y.0) y.1) (λ j. (sym q j, sym (ap (λ (z : ℕ). get_or (set lanes k p') z d) q ∙ get_or-set_same lanes k p' d there) j)) new)
+            (λ (q : i ≢ k). let h' : i < length lanes = omega arith in
+            let o = s.each i d h' in
+            subst (λ (y : Lane M). IsLane world replies' (1 + i) y) (sym (get_or-set_other lanes k i p' d q)) record {
+              number_is = o.number_is;
+              on = o.on ∙ sym (ap sends_on e);
+              mirror = worlds (1 + i) ∙ o.mirror;
+              below = let a = else (1 + i) (λ z. q (omega arith)) in let b = o.below in omega arith;
+            });
+      }
+
+module _ {M : Type 0} (world : M → Option World) (faults : M → ℕ) (under : M → Option Fetch) where
+  pub same_worlds : (own : M) (lanes : List (Lane M)) (k : ℕ) (p p' : Lane M) → p ≡ get_or lanes k p → p'.worker ≡ p.worker
+      → (pool_of world faults under own (set lanes k p')).worlds ≡ (pool_of world faults under own lanes).worlds
+  same_worlds own lanes k p p' is same = ap (λ (y : List (Option World)). world own ∷ y)
+      (map-set_same (λ (y : Lane M). world y.worker.method.value) lanes k p' p (ap (λ y. world y.method.value) same ∙ ap (λ (y : Lane M). world y.worker.method.value) is))
+
+  pub same_counts : (own : M) (lanes : List (Lane M)) (k : ℕ) (p p' : Lane M) → p ≡ get_or lanes k p → p'.last ≡ p.last
+      → (pool_of world faults under own (set lanes k p')).counts ≡ (pool_of world faults under own lanes).counts
+  same_counts own lanes k p p' is same = ap (λ (y : List ℕ). faults own ∷ y) (map-set_same (λ (y : Lane M). y.last) lanes k p' p (same ∙ ap (λ (y : Lane M). y.last) is))
+
+  pub same_outs : (own : M) (lanes : List (Lane M)) (k : ℕ) (p p' : Lane M) → p ≡ get_or lanes k p → p'.slot ≡ p.slot
+      → (pool_of world faults under own (set lanes k p')).outs ≡ (pool_of world faults under own lanes).outs
+  same_outs own lanes k p p' is same = ap (λ (y : List (Option Fetch)). under own ∷ y) (map-set_same (λ (y : Lane M). y.slot) lanes k p' p (same ∙ ap (λ (y : Lane M). y.slot) is))
+
+  pub told : (own : M) (replies : Replies) (v' : View) (lanes : List (Lane M)) (x : Told) (p p' : Lane M) (o : Option Told) → AreLanes world replies lanes
+      → IsReceived (view replies.pass) x v' → p ≡ get_or lanes (x.lane - 1) p → p'.worker ≡ p.worker
+      → IfSome o (λ t. (t ≡ x) × IsChecked p.slot p.last x p'.slot p'.last)
+      → IfSome o (λ t. IsTold (pool_of world faults under own lanes) t (pool_of world faults under own (set lanes (x.lane - 1) p')))
+  told own replies v' lanes x p p' None s t is same h = tt
+  told own replies v' lanes x p p' (Some y) s t is same h =
+      let k : ℕ = x.lane - 1 in
+      let a_worker : 0 < x.lane = t.a_worker in
+      let lane : 1 + k ≡ x.lane = omega arith in
+      let there : k < length lanes = let a = t.a_lane in let b = s.taken in omega arith in
+      let old : IsLane world replies (1 + k) p = subst (λ (z : Lane M). IsLane world replies (1 + k) z) (sym is) (s.each k p there) in
+      let P : Pool = pool_of world faults under own lanes in
+      let Q : Pool = pool_of world faults under own (set lanes k p') in
+      let c = h.1 in
+      let test = c.passes in
+      let out : slice_get P.outs x.lane ≡ Some p.slot = slice_get_behind (λ (z : Lane M). z.slot) (under own) lanes p x.lane a_worker there ∙ ap (λ (z : Lane M). Some z.slot) (sym is) in
+      let w : get_or P.worlds x.lane None ≡ world_at (view replies.pass) x.lane = get_or_behind (λ (z : Lane M). world z.worker.method.value) (world own) lanes p None x.lane a_worker there
+      ∙ ap (λ (z : Lane M). world z.worker.method.value) (sym is) ∙ sym old.mirror ∙ ap (λ l. world_at (view replies.pass) l) lane in
+      let before : get_or P.counts x.lane 0 ≡ p.last = get_or_behind (λ (z : Lane M). z.last) (faults own) lanes p 0 x.lane a_worker there ∙ ap (λ (z : Lane M). z.last) (sym is) in
+      let heard : IsHeard p.last (world_at (view replies.pass) x.lane) test.fetch x.word = is_heard p.last (world_at (view replies.pass) x.lane) test.fetch x.job x.word t.word test.job test.stands test.in_order in
+      subst (λ (z : Told). IsTold P z Q) (sym h.0) record {
+        fetch = test.fetch;
+        worker = a_worker;
+        out = out ∙ ap (λ (z : Option Fetch). Some z) test.out_is;
+        job = test.job;
+        heard = subst (λ (z : ℕ × Option World). IsHeard z.0 z.1 test.fetch x.word) (λ j. (sym before j, sym w j)) heard;
+        worlds = same_worlds own lanes k p p' is same;
+        counts = set_behind (λ (z : Lane M). z.last) (faults own) lanes p' x.lane a_worker ∙ ap (λ (n : ℕ). set P.counts x.lane n) (c.counts ∙ ap (λ (n : ℕ). count_after n x.word) (sym before));
+        outs = set_behind (λ (z : Lane M). z.slot) (under own) lanes p' x.lane a_worker ∙ ap (λ (z : Option Fetch). set P.outs x.lane z) c.goes_on;
+      }
+
+-- nothing was taken, and the lanes are as they were
+pub unchanged : {A : Type 0} (o : Option Told) (xs : List A) (k : ℕ) (p p' : A) → p ≡ get_or xs k p → IfNone o (p' ≡ p) → IfNone o (set xs k p' ≡ xs)
+unchanged None xs k p p' is same = ap (λ y. set xs k y) (same ∙ is) ∙ set-get_or xs k p
+unchanged (Some t) xs k p p' is same = tt
+
+pub told_worlds : (o : Option Told) (P Q : Pool) → IfSome o (λ t. IsTold P t Q) → IfNone o (Q ≡ P) → Q.worlds ≡ P.worlds
+told_worlds None P Q some none = ap (λ (p : Pool). p.worlds) none
+told_worlds (Some t) P Q some none = some.worlds
+
+pub told_counts : (o : Option Told) (P Q : Pool) → IfSome o (λ t. IsTold P t Q) → IfNone o (Q ≡ P) → NoneFell P.counts Q.counts
+told_counts None P Q some none = subst (λ (p : Pool). NoneFell P.counts p.counts) (sym none) (none_fell_refl P.counts)
+told_counts (Some t) P Q some none = subst (λ (l : List ℕ). NoneFell P.counts l) (sym some.counts) (none_fell_set P.counts t.lane _ (let h = some.heard in let a = h.in_order in let b = h.rises in omega arith))
+
+pub if_none : {A : Type 0} (o : Option A) (P Q : Type 0) → (P → Q) → IfNone o P → IfNone o Q
+if_none None P Q f h = f h
+if_none (Some x) P Q f h = tt
+
+-- a job that went to a lane or came back
+module _ {M : Type 0} (world : M → Option World) where
+  pub given : (replies : Option Replies) (lanes : List (Lane M)) (k : ℕ) (p p' : Lane M) → HasReplies world replies lanes → k < length lanes → p ≡ get_or lanes k p → p'.worker ≡ p.worker → p'.last ≡ p.last
+      → HasReplies world replies (set lanes k p')
+  given None lanes k p p' s there is same last = absurd (let e = ap length s in omega arith)
+  given (Some replies) lanes k p p' s there is same last = record {
+    taken = s.taken ∙ ap (λ n. n + 1) (sym (length-set lanes k p'));
+    worlds = s.worlds ∙ ap (λ n. n + 1) (sym (length-set lanes k p'));
+    notes = s.notes;
+    each = λ i d h. dite (ℕ_discrete i k)
+        (λ (q : i ≡ k). let o = subst (λ (y : Lane M). IsLane world replies (1 + k) y) (sym is) (s.each k p there) in
+        let new : IsLane world replies (1 + k) p' = record {
+          number_is = ap (λ y. y.lane) same ∙ o.number_is;
+          on = ap (λ y. sends_on y.sends.value) same ∙ o.on;
+          mirror = o.mirror ∙ sym (ap (λ y. world y.method.value) same);
+          below = let a = o.below in omega arith;
+        } in
+        subst (λ (y : ℕ × Lane M). IsLane world replies (1 + y.0) y.1) (λ j. (sym q j, sym (ap (λ (z : ℕ). get_or (set lanes k p') z d) q ∙ get_or-set_same lanes k p' d there) j)) new)
+        (λ (q : i ≢ k). subst (λ (y : Lane M). IsLane world replies (1 + i) y) (sym (get_or-set_other lanes k i p' d q)) (s.each i d (let a = length-set lanes k p' in omega arith)));
+  }
+
+pub on_ok : {A B : Type 0} (r : Result A B) (P Q : Type 0) (R : B → Type 0) → MatchResult r (λ _. P) R → (P → Q) → OnOk r Q
+on_ok (Ok a) P Q R h f = f h
+on_ok (Err b) P Q R h f = tt
+
+pub on_err : {A B : Type 0} (r : Result A B) (P : A → Type 0) (C : B → Type 0) (R Q : Type 0) → MatchResult r P (λ b. C b × R) → (R → Q) → OnErr r Q
+on_err (Ok a) P C R Q h f = tt
+on_err (Err b) P C R Q h f = f h.1

@@ -1,0 +1,55 @@
+-- Lanes as callers see them. Lane 0 is the coordinator's own method, and each further lane is a worker's.
+use Rattle.std.specs.Prelude.{◌≡◌, ℕ, ◌<◌, ◌≤◌, List, [], ◌∷◌, map, slice_get, slice_set, slice_index, slice_index_or, Option, Some, None}
+use Rattle.acq_base.specs.Mirror.{World}
+use Rattle.acq_outside.specs.declared.word.Fetch.{Fetch}
+use Rattle.acq_outside.specs.Word.{after_word}
+use Rattle.lane_pool.specs.declared.told.Told.{Told}
+use Rattle.lane_pool.specs.Words.{count_after, IsHeard}
+
+-- By lane: the mirror that its method tells, if it tells one; its last count of faults, at first the method's own; and the
+-- fetch that is out on it.
+pub record Pool : Type 0 where
+  pub worlds : List (Option World)
+  pub counts : List ℕ
+  pub outs : List (Option Fetch)
+
+-- what is out at the start: what the coordinator's method has under way, and nothing on a worker's lane
+abbrev pub outs_at_start : {M : Type 0} → (M → Option Fetch) → List M → List (Option Fetch)
+outs_at_start under [] = []
+outs_at_start under (own ∷ others) = under own ∷ map (λ method. None) others
+
+-- the coordinator's own lane
+abbrev pub own_world : Pool → Option World
+own_world pool = slice_index_or pool.worlds 0 None
+
+abbrev pub own_count : Pool → ℕ
+own_count pool = slice_index pool.counts 0
+
+abbrev pub own_fetch : Pool → Option Fetch
+own_fetch pool = slice_index_or pool.outs 0 None
+
+-- all mirrors stay, and so do the counts and fetches of the workers' lanes
+pub record OthersStay (old new : Pool) : Type 0 where
+  pub worlds : new.worlds ≡ old.worlds
+  pub counts : new.counts ≡ slice_set old.counts 0 (own_count new)
+  pub outs : new.outs ≡ slice_set old.outs 0 (own_fetch new)
+
+-- A word was taken: it is to the job that is out on its lane, at the place where that job's bytes end, and its lane goes on
+-- behind it.
+pub record IsTold (old : Pool) (told : Told) (new : Pool) : Type 0 where
+  -- the fetch that was out
+  pub fetch : Fetch
+  pub worker : 0 < told.lane
+  pub out : slice_get old.outs told.lane ≡ Some (Some fetch)
+  pub job : told.job ≡ fetch.job
+  pub heard : IsHeard (slice_index old.counts told.lane) (slice_index_or old.worlds told.lane None) fetch told.word
+  pub worlds : new.worlds ≡ old.worlds
+  pub counts : new.counts ≡ slice_set old.counts told.lane (count_after (slice_index old.counts told.lane) told.word)
+  pub outs : new.outs ≡ slice_set old.outs told.lane (after_word fetch told.word)
+
+-- as many counts, none below what it was
+abbrev pub NoneFell : List ℕ → List ℕ → Type 0
+NoneFell [] [] = Unit {0}
+NoneFell [] (n ∷ ns) = ⊥
+NoneFell (m ∷ ms) [] = ⊥
+NoneFell (m ∷ ms) (n ∷ ns) = (m ≤ n) × NoneFell ms ns
