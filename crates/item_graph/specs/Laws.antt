@@ -4,7 +4,7 @@ use Rattle.acq_base.specs.Mirror.{World}
 use Rattle.acq_base.specs.declared.plan.Source.{Source}
 use Rattle.update_model.specs.Laws.{by_sum}
 use Rattle.update_model.specs.Obtained.{obtain}
-use Rattle.update_model.specs.Points.{Over, AsksFirst, start, ran}
+use Rattle.update_model.specs.Points.{Over, AsksFirst, start, run, ran}
 use Rattle.update_model.specs.Releases.{obtain_release}
 use Rattle.update_model.specs.Trails.{Told, Trail, Agrees, Lives, entries}
 use Rattle.update_model.specs.Walks.{Walk, IsRoute, release_walk, target_walk}
@@ -39,6 +39,12 @@ abbrev pub ItemsEndInRoutes : Type 0
 ItemsEndInRoutes =
     (item : Item) (retries : ℕ) (walk : Walk) (told : List Told) (end : End)
     → HasHeard item retries walk told → point_of item ≡ Over end → IsToldRoute retries walk told end
+
+-- the same of a walk, whatever it is that takes its answers in
+abbrev pub PointsEndInRoutes : Type 0
+PointsEndInRoutes =
+    (retries : ℕ) (walk : Walk) (told : List Told) (end : End)
+    → run retries (start retries walk) told ≡ Over end → IsToldRoute retries walk told end
 
 -- over answers that a mirror gave, and with none missing, a list's item ends as the list is obtained, by sum
 abbrev pub ItemsEndAsObtained : Type 0

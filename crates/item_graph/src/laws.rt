@@ -10,6 +10,7 @@ use update_model::{patches_lie_at_sound_uris, routes_end_as_obtained, runs_stand
 pub fn items_walk_routes()
     ensures stand { law.ItemsStandInRoutes }
     ensures ended { law.ItemsEndInRoutes }
+    ensures walks { law.PointsEndInRoutes }
 {
     runs_stand_in_routes();
 }

@@ -1,0 +1,94 @@
+-- Whole runs: calls of a board and answers to its jobs, in any order.
+use Rattle.std.specs.Prelude.{ℕ, ◌==◌, if◌then◌else◌, List, [], ◌∷◌, ◌++◌, slice_get, Option, Some, None}
+use Rattle.std.specs.List.{list_any}
+use Rattle.acq_base.specs.declared.installed.Old.{Old}
+use Rattle.update_model.specs.Points.{entry}
+use Rattle.update_model.specs.Trails.{Told}
+use Rattle.update_model.specs.declared.ask.Closed.{Closed}
+use Rattle.update_model.specs.declared.log.Asked.{Asked}
+use Rattle.update_model.specs.declared.settled.Settled.{Settled}
+use Rattle.board_model.specs.Boards.{Board, Asker, absorbed, asker_of, first_board, first_ready, issued, lane_with, settled_as, settled_of}
+use Rattle.board_model.specs.Keys.{path_at}
+use Rattle.board_model.specs.Slots.{Config, joined}
+use Rattle.board_model.specs.declared.key.Key.{Key}
+
+-- an answer of a lane's method to a job, which waits to be taken in
+pub record Answered : Type 0 where
+  pub no : ℕ
+  pub lane : ℕ
+  pub closed : Closed
+
+-- an answer that was taken in: which item heard it, and the log's entry of it
+pub record Note : Type 0 where
+  pub key : Key
+  pub told : Told
+  pub entry : Asked
+
+-- a board, the answers that wait, and those that were taken in
+pub record World : Type 0 where
+  pub board : Board
+  pub queue : List Answered
+  pub notes : List Note
+
+-- what may happen next: a lane's job goes out; the job that a lane has out is answered; the oldest answer is taken in; the
+-- first source that is ready is settled
+pub data Event : Type 0 where
+  Issue : (lane : ℕ) → Event
+  Answer : (lane method : ℕ) → (closed : Closed) → Event
+  Absorb : Event
+  Settle : Event
+
+-- a job is answered once
+abbrev pub answered : World → ℕ → Closed → Option ℕ → World
+answered w method closed None = w
+answered w method closed (Some number) =
+    if list_any (λ (a : Answered). a.no == number) w.queue
+    then w
+    else record w { queue = w.queue ++ (record { no = number; lane = method; closed = closed }) ∷ [] }
+
+abbrev pub told_by : Answered → Told
+told_by a = record { lane = a.lane; closed = a.closed }
+
+abbrev pub note_of : Asker → Told → Note
+note_of asker told = record {
+  key = asker.key;
+  told = told;
+  entry = entry asker.key.source (path_at asker.source asker.key.place) asker.ask told;
+}
+
+-- what is noted of an answer: nothing of one to a job that isn't out
+abbrev pub noted : Told → Option ℕ → Option Asker → List Note
+noted told (Some from) (Some asker) = note_of asker told ∷ []
+noted told None asker = []
+noted told (Some from) None = []
+
+abbrev pub take_first : World → List Answered → World
+take_first w [] = w
+take_first w (a ∷ queue) = record {
+  board = absorbed w.board a.lane a.no a.closed;
+  queue = queue;
+  notes = w.notes ++ noted (told_by a) (lane_with w.board.out a.no) (asker_of w.board a.no);
+}
+
+abbrev pub settle_as : World → ℕ → Option Settled → World
+settle_as w n None = w
+settle_as w n (Some settled) = record w { board = settled_as w.board n settled.verdict }
+
+abbrev pub settle_first : World → Option ℕ → World
+settle_first w None = w
+settle_first w (Some n) = settle_as w n (settled_of w.board n)
+
+abbrev pub happens : World → Event → World
+happens w (Issue lane) = record w { board = issued w.board lane }
+happens w (Answer lane method closed) = answered w method closed (joined (slice_get w.board.out lane))
+happens w Absorb = take_first w w.queue
+happens w Settle = settle_first w (first_ready w.board.slots)
+
+-- events one after another
+abbrev pub run : List Event → World → World
+run [] w = w
+run (event ∷ events) w = run events (happens w event)
+
+-- a board at its beginning, and nothing answered
+abbrev pub start : Config → List Old → ℕ → World
+start config olds lanes = record { board = first_board config olds lanes; queue = []; notes = [] }
