@@ -6,3 +6,5 @@ pub mod Steps
 pub mod Files
 pub mod Answering
 pub mod Fields
+pub mod Labels
+pub mod Sound

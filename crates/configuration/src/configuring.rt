@@ -1,6 +1,8 @@
 //! The configuration as a whole. It reads each file of the folder that counts once, and may take memory.
 
-ghost use Rattle.std.specs.Prelude.{◌≡◌, ◌≤◌, IsErrOf, OnOk};
+ghost use Rattle.std.specs.Prelude.{◌≡◌, ◌≤◌, IfOk, IsErrOf, OnOk};
+ghost use Rattle.acq_base.specs.Plan.{IsSound};
+ghost use Rattle.acq_base.specs.Settings.{IsSound as IsSoundSettings};
 ghost use Rattle.acq_outside.specs.Count.{Rose};
 ghost use Rattle.apt_conf.specs.Settings.{settings_of};
 ghost use Rattle.configuration.specs.Answers.{Gives};
@@ -47,6 +49,9 @@ pub fn configure<E: Etc>(
     ensures quiet { OnOk result (E.faults etc.new ≡ E.faults etc.old) }
     ensures same { E.files etc.new ≡ E.files etc.old }
     ensures answer { IsAnswer (E.files etc.old) options.now result }
+    // What it runs by is sound, whatever the files say.
+    ensures sound { IfOk result (λ configured. IsSound configured.plan) }
+    ensures settings { IfOk result (λ configured. IsSoundSettings configured.settings) }
 {
     let conf = read_pairs(alloc, etc, options.as_slice())?;
     let settings = settings_in(alloc, &conf)?;
@@ -63,6 +68,7 @@ pub fn configure<E: Etc>(
 /// The settings, or the first value that isn't allowed.
 fn settings_in(alloc: Global, conf: &Conf) -> Result<Settings, ConfigurationError>
     ensures read { Gives (of_value (settings_of conf.now)) result }
+    ensures sound { IfOk result IsSoundSettings }
     ensures outside { ¬ (IsErrOf result ConfigurationError.Fault) }
 {
     match settings(alloc, conf) {

@@ -1,12 +1,13 @@
 //! The entries of sources.list and of the files of sources.list.d, in this order. It reads each file once, and may take
 //! memory.
 
-ghost use Rattle.std.specs.Prelude.{◌≡◌, ◌⊎◌, ◌≤◌, ◌++◌, [], Err, IsErrOf, OnOk};
+ghost use Rattle.std.specs.Prelude.{◌≡◌, ◌⊎◌, ◌≤◌, ◌++◌, [], All, Err, IfOk, IsErrOf, OnOk};
 ghost use Rattle.acq_outside.specs.Count.{Rose};
 ghost use Rattle.acq_outside.specs.declared.etc.Place.TheVariants.{SourcesList as list_place, SourcesParts as list_parts};
 ghost use Rattle.configuration.specs.Answers.{Adds, AddsParts, AddsText, ReadsEntries};
 ghost use Rattle.configuration.specs.Configured as spec;
 ghost use Rattle.configuration.specs.Refusals.{in_list};
+ghost use Rattle.source_lists.specs.Sound.{IsSound};
 
 use crate::ConfigurationError;
 use crate::error::of_list;
@@ -28,6 +29,7 @@ pub fn read_entries<E: Etc>(
     ensures quiet { OnOk result (E.faults etc.new ≡ E.faults etc.old) }
     ensures same { E.files etc.new ≡ E.files etc.old }
     ensures read { ReadsEntries (E.files etc.old) arch.now result }
+    ensures sound { IfOk result (All IsSound) }
 {
     let mut entries = Row::new(alloc);
     add_single(alloc, etc, arch, &mut entries)?;
@@ -48,6 +50,7 @@ fn add_single<E: Etc>(
     ensures quiet { OnOk result (E.faults etc.new ≡ E.faults etc.old) }
     ensures same { E.files etc.new ≡ E.files etc.old }
     ensures read { AddsText (E.files etc.old) list_place [] (spec.list_text arch.now) entries.old entries.new result }
+    ensures sound { All IsSound entries.old → OnOk result (All IsSound entries.new) }
 {
     let file = single(alloc, Place::SourcesList, b"sources.list")?;
     add_file(alloc, etc, arch, file, Some(Form::List), entries)
@@ -66,6 +69,7 @@ fn add_parts<E: Etc>(
     ensures quiet { OnOk result (E.faults etc.new ≡ E.faults etc.old) }
     ensures same { E.files etc.new ≡ E.files etc.old }
     ensures read { AddsParts (E.files etc.old) list_parts names.now (spec.list_part arch.now) entries.old entries.new result }
+    ensures sound { All IsSound entries.old → OnOk result (All IsSound entries.new) }
 {
     for name in names {
         add_part(alloc, etc, arch, name, entries)?;
@@ -86,6 +90,7 @@ fn add_part<E: Etc>(
     ensures quiet { OnOk result (E.faults etc.new ≡ E.faults etc.old) }
     ensures same { E.files etc.new ≡ E.files etc.old }
     ensures read { AddsText (E.files etc.old) list_parts name.now (λ text. spec.list_part arch.now (name.now, text)) entries.old entries.new result }
+    ensures sound { All IsSound entries.old → OnOk result (All IsSound entries.new) }
 {
     let file = part(alloc, Place::SourcesParts, b"sources.list.d/", name)?;
     add_file(alloc, etc, arch, file, counts(name), entries)
@@ -105,12 +110,14 @@ fn add_file<E: Etc>(
     ensures quiet { OnOk result (E.faults etc.new ≡ E.faults etc.old) }
     ensures same { E.files etc.new ≡ E.files etc.old }
     ensures read { AddsText (E.files etc.old) file.place file.name (λ text. in_list file.label (spec.entries_by form file.label arch.now text)) entries.old entries.new result }
+    ensures sound { All IsSound entries.old → OnOk result (All IsSound entries.new) }
 {
     let text = read_text(alloc, etc, &file)?;
     add_text(alloc, arch, file.label, form, text.as_slice(), entries)
 }
 
 /// Adds the entries of a text in this form.
+#[tactic(auto, using(crate::proofs::Sound::more_sound))]
 fn add_text(
     alloc: Global,
     arch: &Text,
@@ -120,6 +127,7 @@ fn add_text(
     entries: &mut Row<Entry>,
 ) -> Result<(), ConfigurationError>
     ensures read { Adds (in_list label (spec.entries_by form label arch.now text.now)) entries.old entries.new result }
+    ensures sound { All IsSound entries.old → OnOk result (All IsSound entries.new) }
     ensures outside { ¬ (IsErrOf result ConfigurationError.Fault) }
 {
     match entries_by(alloc, form, &label, arch, text) {
@@ -136,7 +144,8 @@ fn entries_by(
     arch: &Text,
     text: &[u8],
 ) -> Result<Row<Entry>, ListError>
-    ensures { (result ≡ Err ListError.NoMemory) ⊎ (result ≡ spec.entries_by form label.now arch.now text.now) }
+    ensures value { (result ≡ Err ListError.NoMemory) ⊎ (result ≡ spec.entries_by form label.now arch.now text.now) }
+    ensures sound { IfOk result (All IsSound) }
 {
     match form {
         Some(Form::List) => read_list(alloc, label, text, arch),

@@ -1,7 +1,10 @@
 //! The plan of entries, with the closure that picks lists. It may take memory, and touches nothing else.
 
-ghost use Rattle.std.specs.Prelude.{◌≡◌, IsErrOf};
+ghost use Rattle.std.specs.Prelude.{◌≡◌, All, IfOk, IsErrOf};
+ghost use Rattle.acq_base.specs.Plan.{IsSound};
+ghost use Rattle.acq_base.specs.Settings.{IsSound as IsSoundSettings};
 ghost use Rattle.kept_hooks.specs.Picking.{is_picked};
+ghost use Rattle.source_lists.specs.Sound.{IsSound as IsSoundEntry};
 ghost use Rattle.target_plan.specs.Planning as plans;
 ghost use Rattle.configuration.specs.Answers.{Gives};
 ghost use Rattle.configuration.specs.Refusals.{in_plan};
@@ -20,6 +23,7 @@ pub fn plan_of(
     settings: &Settings,
 ) -> Result<Plan, ConfigurationError>
     ensures read { Gives (in_plan (plans.plan_of settings.now.pick settings.now entries.now)) result }
+    ensures sound { All IsSoundEntry entries.now → IsSoundSettings settings.now → IfOk result IsSound }
     ensures outside { ¬ (IsErrOf result ConfigurationError.Fault) }
 {
     let pick = settings.pick;

@@ -1,7 +1,7 @@
 //! What a run prints: the report of its sources, or the one line of a fault that stands in its place.
 //!
 //! `report` is a run's report, whole, as a function of the plan, the verdicts and the removed lists. `FaultLine` has all
-//! lines that begin with `E`.
+//! lines that begin with `E`, and says which of them stands for a refused configuration.
 #![tactic(auto)]
 
 pub use fault::FaultLine;
@@ -10,6 +10,7 @@ pub use whole::report;
 mod cause;
 mod fault;
 mod numbers;
+mod refused;
 mod source;
 #[cfg(test)]
 mod tests;

@@ -4,10 +4,12 @@ use crate::{FaultLine, report};
 use acq_base::{
     ByHash, Bytes, ListName, NoMemory, Plan, Row, Scheme, Sha, Source, Sum, Text, Uri, sum_of,
 };
+use configuration::ConfigurationError;
 use hash_gate::Verdict;
 use release_file::{Head, HeadField};
 use std::alloc::Global;
 use std::test::Fail;
+use target_plan::Place;
 use update_model::{Cause, Held, RunLog, Verdict2};
 
 fn text(alloc: Global, bytes: &[u8]) -> Result<Text, NoMemory> {
@@ -280,11 +282,11 @@ fn no_sources(rt: HostRuntime) -> Result<(), Fail> {
 fn fixed(place: usize) -> FaultLine {
     match place {
         0 => FaultLine::Words,
-        1 => FaultLine::TooMany,
+        1 => FaultLine::from(ConfigurationError::TooMany),
         2 => FaultLine::Disk,
-        3 => FaultLine::Memory,
+        3 => FaultLine::from(ConfigurationError::NoMemory),
         4 => FaultLine::Held,
-        _ => FaultLine::Etc,
+        _ => FaultLine::from(ConfigurationError::Fault),
     }
 }
 
@@ -309,27 +311,39 @@ fn fixed_lines(rt: HostRuntime) -> Result<(), Fail> {
     Ok(())
 }
 
-/// Faults of the configuration, the plan and the journal, and their lines.
-fn named(alloc: Global, place: usize) -> Result<FaultLine, NoMemory> {
-    Ok(match place {
-        0 => FaultLine::Conf {
+fn place(alloc: Global, file: &[u8], line: u64) -> Result<Place, NoMemory> {
+    Ok(Place {
+        file: text(alloc, file)?,
+        line,
+    })
+}
+
+/// Refused configurations.
+fn refused(alloc: Global, which: usize) -> Result<ConfigurationError, NoMemory> {
+    Ok(match which {
+        0 => ConfigurationError::Conf {
             file: text(alloc, b"sources.list.d/a.list")?,
             number: 17,
             line: 12,
         },
-        1 => FaultLine::Conf {
+        1 => ConfigurationError::Conf {
             file: text(alloc, b"Acquire::Retries")?,
             number: 21,
             line: 0,
         },
-        2 => FaultLine::Clash {
-            first: text(alloc, b"sources.list")?,
-            first_line: 1,
-            second: text(alloc, b"sources.list.d/b.sources")?,
-            second_line: 20,
+        2 => ConfigurationError::Clash {
+            first: place(alloc, b"sources.list", 1)?,
+            second: place(alloc, b"sources.list.d/b.sources", 20)?,
         },
-        3 => FaultLine::LongName(ListName(text(alloc, b"m_x")?)),
-        _ => FaultLine::Journal(16),
+        _ => ConfigurationError::LongName(ListName(text(alloc, b"m_x")?)),
+    })
+}
+
+/// Faults of the configuration, the plan and the journal, and their lines.
+fn named(alloc: Global, place: usize) -> Result<FaultLine, NoMemory> {
+    Ok(match place {
+        4 => FaultLine::Journal(16),
+        _ => FaultLine::from(refused(alloc, place)?),
     })
 }
 

@@ -41,6 +41,25 @@ fn the_last_value_in_order_counts(rt: HostRuntime) -> Result<(), Fail> {
     Ok(())
 }
 
+/// Options, and the least and the greatest seconds for which a Release is valid.
+const VALID_TIMES: [(&str, u64, u64); 3] = [
+    ("", 0, 0),
+    ("Acquire::Max-ValidTime=86400", 0, 86400),
+    ("Acquire::Min-ValidTime=1209600", 1209600, 0),
+];
+
+#[test]
+fn an_option_sets_how_long_a_release_is_valid(rt: HostRuntime) -> Result<(), Fail> {
+    for (lines, min, max) in VALID_TIMES {
+        let dates = configured(rt.alloc(), &[LINE], lines)?
+            .map_err(|_| Fail::from("refused"))?
+            .settings
+            .dates;
+        assert_eq!(rt; [dates.min, dates.max], [min, max]);
+    }
+    Ok(())
+}
+
 /// Options, and whether Origin, Label, Suite and Codename may change.
 const CHANGES: [(&str, [bool; 4]); 4] = [
     ("", [false, false, false, false]),

@@ -1,4 +1,5 @@
-use super::objects::{File, LINE, configured, shown};
+use super::objects::{File, LINE, configured, folder, options, shown};
+use crate::configure;
 use acq_base::Text;
 use acq_outside::Place;
 use std::alloc::Global;
@@ -127,5 +128,18 @@ fn the_first_refusal_in_order_counts(rt: HostRuntime) -> Result<(), Fail> {
         let text = refused(rt.alloc(), files, lines)?;
         assert_eq!(rt; text.as_bytes(), wanted.as_bytes(), "{wanted}");
     }
+    Ok(())
+}
+
+/// The first two calls list apt.conf.d and read apt.conf. The third, which fails, would read sources.list.
+#[test]
+fn a_refusal_comes_before_a_later_fault(rt: HostRuntime) -> Result<(), Fail> {
+    let alloc = rt.alloc();
+    let mut etc = folder(alloc, &[BAD_CONF, BAD_LIST], &[3])?;
+    let text = match configure(alloc, &mut etc, &options(alloc, "")?) {
+        Ok(_) => return Err(Fail::from("accepted")),
+        Err(refusal) => shown(alloc, &refusal)?,
+    };
+    assert_eq!(rt; text.as_bytes(), b"apt.conf 20 3".as_slice());
     Ok(())
 }

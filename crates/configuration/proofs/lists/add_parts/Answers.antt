@@ -10,6 +10,7 @@ loop-name-init g c = record {
   quiet = search rules;
   same = search rules;
   read = begins_at (g.E.Etc.files c.args.etc.now) SourcesParts (list_part c.args.arch.now) c.args.names.now c.args.entries.now;
+  sound = λ all. all;
 }
 
 pub loop-name-preserved : goal.loop-name-preserved
@@ -17,6 +18,7 @@ loop-name-preserved g c = record {
   quiet = search rules;
   same = search rules;
   read = goes_at (g.E.Etc.files c.args.etc.now) SourcesParts (list_part c.args.arch.now) (g.E.Etc.files c.loop-name.etc) c.loop-name.invariant.same c.args.names.now c.loop-name.name-index c.name-item.result c.args.entries.now c.loop-name.entries c.add_part.new.entries c.in_ok-add_part.field-0 c.loop-name.invariant.read c.loop-name-test.true c.name-item.is c.in_ok-add_part.ensures.read;
+  sound = λ all. c.in_ok-add_part.ensures.sound (c.loop-name.invariant.sound all);
 }
 
 pub returns-in_err-add_part-clause-read : goal.returns-in_err-add_part-clause-read
