@@ -34,9 +34,9 @@ uri_text uri = text_of_parts uri.scheme uri.host uri.port uri.path
 abbrev pub is_uri_character : ℕ → Bool
 is_uri_character c = is_alphanumeric c || list_any (λ d. c == d) (codes "-._~:/?[]@!$&'()*+,;=%")
 
--- no delimiter of another part, no blank and no control character
+-- an ASCII character that is no delimiter of another part, no blank and no control character
 abbrev pub IsHostCharacter : ℕ → Type 0
-IsHostCharacter c = (c ≢ 47) × (c ≢ 64) × (c ≢ 63) × (32 < c) × (c ≢ 127)
+IsHostCharacter c = (c ≢ 47) × (c ≢ 64) × (c ≢ 63) × (32 < c) × (c < 127)
 
 -- a colon stands only between `[` and `]`, as in an IPv6 address (RFC 3986, section 3.2.2)
 abbrev pub KeepsColonsInBrackets : List ℕ → Type 0

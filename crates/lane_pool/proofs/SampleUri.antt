@@ -6,7 +6,7 @@ use Rattle.acq_base.specs.declared.uri.Scheme.TheVariants.{Http}
 use Rattle.acq_base.specs.Uri.{IsSound, IsHostCharacter, KeepsColonsInBrackets, is_uri_character, text_of_parts}
 
 letter_fits : (letter : ℕ) → 97 ≤ letter → letter ≤ 122 → IsHostCharacter letter
-letter_fits letter low high = ((λ e. absurd (omega arith)), (λ e. absurd (omega arith)), (λ e. absurd (omega arith)), omega arith, (λ e. absurd (omega arith)))
+letter_fits letter low high = ((λ e. absurd (omega arith)), (λ e. absurd (omega arith)), (λ e. absurd (omega arith)), omega arith, omega arith)
 
 abbrev number_in : Option ℕ → ℕ
 number_in None = 0

@@ -122,10 +122,10 @@ host_lower =
     refl refl
 
 letter_host : (c : ℕ) → is_alphanumeric c ≡ true → IsHostCharacter c
-letter_host c a = let b = bounds c a in ((λ e. absurd (omega arith)), (λ e. b.4 e), (λ e. b.3 e), omega arith, (λ e. absurd (omega arith)))
+letter_host c a = let b = bounds c a in ((λ e. absurd (omega arith)), (λ e. b.4 e), (λ e. b.3 e), omega arith, omega arith)
 
 host_character : (c : ℕ) → is_host_character c ≡ true → IsHostCharacter c
-host_character = at_host IsHostCharacter letter_host ((λ e. cc), (λ e. cc), (λ e. cc), lit< tt, (λ e. cc)) ((λ e. cc), (λ e. cc), (λ e. cc), lit< tt, (λ e. cc))
+host_character = at_host IsHostCharacter letter_host ((λ e. cc), (λ e. cc), (λ e. cc), lit< tt, lit< tt) ((λ e. cc), (λ e. cc), (λ e. cc), lit< tt, lit< tt)
 
 -- what a URI of a host and a path needs
 record IsPlain (host path : List ℕ) : Type 0 where

@@ -82,7 +82,7 @@ colons (Ipv6 address) valid = in_brackets (hex_groups_text (ipv6_segments addres
 sound_host : (host : Host (List ℕ)) → IsHostOf kind.SpecialNotFile host → IsHttpHost (host_text host)
 sound_host host valid = record {
   nonempty = λ e. let some = host_nonempty host valid in omega (arith, ap length e);
-  plain = All-weaker IsHostByte IsHostCharacter (λ c byte. (byte.no_slash, byte.no_at, byte.no_question, byte.above, λ e. omega (arith, byte.below))) (host_text host) (host_text_plain kind.SpecialNotFile host valid);
+  plain = All-weaker IsHostByte IsHostCharacter (λ c byte. (byte.no_slash, byte.no_at, byte.no_question, byte.above, byte.below)) (host_text host) (host_text_plain kind.SpecialNotFile host valid);
   colons = colons host valid;
 }
 
