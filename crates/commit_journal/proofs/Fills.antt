@@ -16,7 +16,7 @@ use Rattle.commit_journal.proofs.Parted.{none_split, apart_split, away_turned, a
 
 -- one call after another
 rest_by_steps : IsBySteps StaysAtRest
-rest_by_steps a b c first later = record { rest = λ folder rest. later.rest folder (first.rest folder rest); idle = λ idle. later.idle (first.idle idle) }
+rest_by_steps a b c first later = record { rest = λ idle folder rest. later.rest (first.idle idle) folder (first.rest idle folder rest); idle = λ idle. later.idle (first.idle idle) }
 
 pub rests_on : (old mid new : List State) → Since old mid (KeepsRest old) → Since mid new (KeepsRest mid) → Since old new (KeepsRest old)
 rests_on old mid new first later = onward StaysAtRest rest_by_steps old mid new first later
@@ -37,7 +37,7 @@ filled_after part (Drop name ∷ done) names s t same away filled = (tt, filled_
 filled_stays : (part : List ℕ → List ℕ) (done more : List Change) (mid new : List State) → (mid ≡ [] → new ≡ []) → KeepsUnnamedIn (touched more) mid new → Away (touched done) (touched more) → Stands (AreFilledFrom part done) mid → Stands (AreFilledFrom part done) new
 filled_stays part done more mid [] untold keeps away filled = tt
 filled_stays part done more [] (t ∷ past) untold keeps away filled = absurd (let clash = untold refl in cc)
-filled_stays part done more (s ∷ before) (t ∷ past) untold keeps away filled = filled_after part done (touched more) s t keeps away filled
+filled_stays part done more (s ∷ before) (t ∷ past) untold keeps away filled = filled_after part done (touched more) s t (λ name none. keeps (partial name) none) away filled
 
 -- what is laid from later bytes is laid from earlier ones
 content_same : (one two : List ℕ → List ℕ) (name : List ℕ) (content : Content) → one name ≡ two name → content_of one name content ≡ content_of two name content
@@ -52,7 +52,7 @@ filled_earlier one two (Drop name ∷ more) names s same away filled = (tt, fill
 
 stands_earlier : (done more : List Change) (old mid new : List State) → KeepsUnnamedIn (touched done) old mid → Away (touched more) (touched done) → Stands (AreFilledFrom (part_bytes mid) more) new → Stands (AreFilledFrom (part_bytes old) more) new
 stands_earlier done more old mid [] keeps away filled = tt
-stands_earlier done more old mid (t ∷ past) keeps away filled = filled_earlier (part_bytes mid) (part_bytes old) more (touched done) t (λ name none. part_same mid old name (keeps name none)) away filled
+stands_earlier done more old mid (t ∷ past) keeps away filled = filled_earlier (part_bytes mid) (part_bytes old) more (touched done) t (λ name none. part_same mid old name (keeps (partial name) none)) away filled
 
 filled_joined : (part : List ℕ → List ℕ) (a b : List Change) (s : State) → AreFilledFrom part a s → AreFilledFrom part b s → AreFilledFrom part (a ++ b) s
 filled_joined part [] b s in_a in_b = in_b
@@ -77,7 +77,7 @@ staged_stands : (done more rest : List Change) (old mid : List State) → (old �
 staged_stands done more rest old [] untold keeps away staged = tt
 staged_stands done more rest [] (t ∷ past) untold keeps away staged = absurd (let clash = untold refl in cc)
 staged_stands done more rest (s ∷ before) (t ∷ past) untold keeps away staged =
-    staged_after more (touched done) s t keeps away (staged_split more rest s (staged_split done (more ++ rest) s staged).1).0
+    staged_after more (touched done) s t (λ name none. keeps (partial name) none) away (staged_split more rest s (staged_split done (more ++ rest) s staged).1).0
 
 -- A turn of a loop: some changes are done, and now come more of all.
 pub record Coming (all done more : List Change) (old mid : List State) : Type 0 where
@@ -108,7 +108,7 @@ coming all done more rest old mid is allowed apart staged idle fills =
 pub fills_more : (all done more : List Change) (old mid new : List State) → Coming all done more old mid → Fills done old mid → Since mid new (KeepsRest mid) → KeepsUnnamedIn (touched more) mid new → Stands (AreFilledFrom (part_bytes mid) more) new → Fills (done ++ more) old new
 fills_more all done more old mid new comes fills moments keeps filled = record {
   moments = rests_on old mid new fills.moments moments;
-  others = λ other none. let each = none_split done more (partial other) none in keeps other each.1 ∙ fills.others other each.0;
+  others = λ other none. let each = none_split done more other none in keeps other each.1 ∙ fills.others other each.0;
   filled = stands_joined (part_bytes old) done more new
       (filled_stays (part_bytes old) done more mid new moments.untold keeps comes.front fills.filled)
       (stands_earlier done more old mid new fills.others (away_turned (touched done) (touched more) comes.front) filled);
@@ -117,8 +117,8 @@ fills_more all done more old mid new comes fills moments keeps filled = record {
 -- stopped within it
 pub others_within : (all done more rest : List Change) (old mid new : List State) → all ≡ done ++ (more ++ rest) → Fills done old mid → KeepsUnnamedIn (touched more) mid new → KeepsUnnamedIn (touched all) old new
 others_within all done more rest old mid new is fills keeps other none =
-    let outer = none_split done (more ++ rest) (partial other) (subst (λ (l : List Change). IsNone (partial other) (touched l)) is none) in
-    let inner = none_split more rest (partial other) outer.1 in
+    let outer = none_split done (more ++ rest) other (subst (λ (l : List Change). IsNone other (touched l)) is none) in
+    let inner = none_split more rest other outer.1 in
     keeps other inner.0 ∙ fills.others other outer.0
 
 -- a change of a group, and a group among all

@@ -17,3 +17,4 @@ mod Notes
 mod Prepares
 mod Running
 mod Samples
+mod Allowed

@@ -51,7 +51,7 @@ list_file s t idle sound is list of_list = ap (λ (m : Names). option_map (file_
 
 behind_stays : (s t : State) (idle : IsIdle s) → IsSound s → IsBehind s t idle → StaysAtRest s t
 behind_stays s t idle sound is = record {
-  rest = λ folder rest. record {
+  rest = λ before folder rest. record {
     leaves = λ image left.
         let earlier = changed_by s t idle.number sound (idle_quiet s idle) (idle_quiet t (idle_in s t idle is)) is.base is.files
         (λ list k of_list base. list_other s idle sound list k of_list (leads_now s list idle.aside (list_not_aside list of_list) ∙ base)) image left in
@@ -96,7 +96,7 @@ names_behind s idle = record { aside = tt; number = idle.number; leads = journal
 
 names_stay : (s : State) → IsIdle s → StaysAtRest s (after s SyncNames)
 names_stay s idle = record {
-  rest = λ folder rest. record {
+  rest = λ before folder rest. record {
     leaves = λ image left. rest.leaves image (names_back s image left);
     settled = (names_recover s).settled rest.settled;
     lists_are = rest.lists_are;
@@ -127,8 +127,8 @@ torn_idle done torn part idle = record {
 
 torn_stays : (s done torn : State) → IsTorn None done torn → IsIdle done → StaysAtRest s done → StaysAtRest s torn
 torn_stays s done torn part idle stays = record {
-  rest = λ folder rest.
-      let now = stays.rest folder rest in
+  rest = λ before folder rest.
+      let now = stays.rest before folder rest in
       record {
         leaves = λ image left. now.leaves image (leaves_as_done done None torn image part left);
         settled = λ name i counts leads. ⊎_elim

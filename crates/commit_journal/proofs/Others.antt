@@ -7,13 +7,14 @@ use Rattle.acq_outside.specs.declared.change.Change.TheVariants.{Write, Cut, Syn
 use Rattle.acq_outside.specs.declared.state.FileState.{FileState}
 use Rattle.acq_outside.specs.declared.state.NameChange.{NameChange}
 use Rattle.acq_outside.specs.declared.state.NameChange.TheVariants.{Moved, Removed}
-use Rattle.journal_model.specs.Names.{journal}
-use Rattle.journal_model.specs.Rest.{file_named}
+use Rattle.journal_model.specs.Names.{journal, beside}
+use Rattle.journal_model.specs.Rest.{file_named, file_now}
 use Rattle.journal_model.specs.Twice.{IsIn, with_other}
 use Rattle.journal_model.specs.Aside.{IsOn, call_changes, torn_changes, other_file}
 use Rattle.journal_model.specs.declared.step.Step.{Step}
 use Rattle.journal_model.specs.declared.step.Step.TheVariants.{Put, Drop}
-use Rattle.commit_journal.specs.Phases.{LeavesOthers, IsOfCommit, file_now, call_of}
+use Rattle.commit_journal.specs.Opening.{LeavesOthers}
+use Rattle.commit_journal.specs.Phases.{IsOfCommit, IsOfMaking, call_of}
 
 -- a call's own names
 abbrev pub Owns : (List ℕ → Type 0) → Change → Type 0
@@ -112,3 +113,19 @@ journal_sync steps name old new result is sound goes = call_leaves (IsOfCommit s
 
 pub names_sync : {T E : Type 0} (steps : List Step) (old new : List State) (result : Result T E) → AllSound old → Goes SyncNames old new result → LeavesOthers (IsOfCommit steps) old new
 names_sync steps old new result sound goes = call_leaves (IsOfCommit steps) SyncNames old new result tt sound goes
+
+-- a new journal is made beside
+pub beside_write : {T E : Type 0} (name : List ℕ) (at : ℕ) (bytes : List ℕ) (old new : List State) (result : Result T E) → name ≡ beside → AllSound old → Goes (Write name at bytes) old new result → LeavesOthers IsOfMaking old new
+beside_write name at bytes old new result is sound goes = call_leaves IsOfMaking (Write name at bytes) old new result (inr is) sound goes
+
+pub beside_cut : {T E : Type 0} (name : List ℕ) (len : ℕ) (old new : List State) (result : Result T E) → name ≡ beside → AllSound old → Goes (Cut name len) old new result → LeavesOthers IsOfMaking old new
+beside_cut name len old new result is sound goes = call_leaves IsOfMaking (Cut name len) old new result (inr is) sound goes
+
+pub beside_sync : {T E : Type 0} (name : List ℕ) (old new : List State) (result : Result T E) → name ≡ beside → AllSound old → Goes (Sync name) old new result → LeavesOthers IsOfMaking old new
+beside_sync name old new result is sound goes = call_leaves IsOfMaking (Sync name) old new result (inr is) sound goes
+
+pub beside_named : {T E : Type 0} (from to : List ℕ) (old new : List State) (result : Result T E) → from ≡ beside → to ≡ journal → AllSound old → Goes (Rename from to) old new result → LeavesOthers IsOfMaking old new
+beside_named from to old new result is_from is_to sound goes = call_leaves IsOfMaking (Rename from to) old new result (inr is_from, inl is_to) sound goes
+
+pub beside_lasts : {T E : Type 0} (old new : List State) (result : Result T E) → AllSound old → Goes SyncNames old new result → LeavesOthers IsOfMaking old new
+beside_lasts old new result sound goes = call_leaves IsOfMaking SyncNames old new result tt sound goes

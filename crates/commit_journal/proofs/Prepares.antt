@@ -1,5 +1,5 @@
 -- A commit that is laid out is ready.
-use Rattle.std.proofs.Common.{◌≡◌, inl, inr, refl, sym, ap, ◌∙◌, subst, ℕ, List, [], ◌∷◌, ◌++◌, Some, length, ◌<◌, ◌^◌, Result, Ok, Err, OnOk}
+use Rattle.std.proofs.Common.{◌≡◌, ◌≢◌, inl, inr, refl, sym, ap, ◌∙◌, subst, ℕ, List, [], ◌∷◌, ◌++◌, Some, length, ◌<◌, ◌^◌, Result, Ok, Err, OnOk}
 use Rattle.acq_outside.specs.Disk.{Files}
 use Rattle.acq_outside.specs.Crash.{State, synced, reads}
 use Rattle.acq_outside.specs.Moments.{Stands, Since}
@@ -16,22 +16,19 @@ use Rattle.commit_journal.specs.declared.changing.Content.{Content}
 use Rattle.commit_journal.specs.declared.changing.Content.TheVariants.{Held, Staged}
 use Rattle.commit_journal.specs.Changes.{Filled, PutFile, DropFile, content_of, filled, filled_all, steps_in, all_changes, touched_all, CanRecord}
 use Rattle.commit_journal.specs.Commits.{parts_of, AreLaidOut, IsReady, KeepsLists, ReadyAfter, KeepsUnnamed}
-use Rattle.commit_journal.specs.Phases.{IsOfCommit, LeavesOthers, file_now}
+use Rattle.commit_journal.specs.Opening.{LeavesOthers}
+use Rattle.commit_journal.specs.Phases.{IsOfCommit}
 use Rattle.commit_journal.proofs.Recordable.{all_few, all_short, all_allowed}
 use Rattle.journal_model.specs.declared.step.Step.{Step}
 use Rattle.commit_journal.specs.Laying.{AreFilledFrom, KeepsUnnamedIn, IsNotedLastingly}
 
 -- what was laid stays while the record is written
-own_names : (name : List ℕ) → IsOfCommit [] (partial name) → ⊥
-own_names name (inl is) = apart_names (partial name) journal (partial_aside name) refl is
-own_names name (inr none) = none.1
-
-part_now : (trace : List State) (other : List ℕ) → part_file trace other ≡ file_now trace (partial other)
-part_now [] other = refl
-part_now (s ∷ past) other = refl
+own_names : (name : List ℕ) → name ≢ journal → IsOfCommit [] name → ⊥
+own_names name away (inl is) = away is
+own_names name away (inr none) = none.1
 
 parts_kept : (mid new : List State) → LeavesOthers (IsOfCommit []) mid new → (name : List ℕ) → part_file new name ≡ part_file mid name
-parts_kept mid new leaves name = part_now new name ∙ leaves.same (partial name) (own_names name) ∙ sym (part_now mid name)
+parts_kept mid new leaves name = leaves.same (partial name) (own_names (partial name) (apart_names (partial name) journal (partial_aside name) refl))
 
 filled_kept : (part : List ℕ → List ℕ) (changes : List Change) (s t : State) → ((name : List ℕ) → file_named t (partial name) ≡ file_named s (partial name)) → AreFilledFrom part changes s → AreFilledFrom part changes t
 filled_kept part [] s t same filled = tt
@@ -49,7 +46,7 @@ filled_at (Ok x) part changes mid new untold leaves filled = filled_on part chan
 filled_at (Err e) part changes mid new untold leaves filled = tt
 
 pub unnamed_on : (groups : List (List Change)) (old mid new : List State) → KeepsUnnamedIn (touched_all groups) old mid → LeavesOthers (IsOfCommit []) mid new → KeepsUnnamed groups old new
-unnamed_on groups old mid new first later other none = parts_kept mid new later other ∙ first other none
+unnamed_on groups old mid new first later other away none = later.same other (own_names other away) ∙ first other none
 
 -- all that the record puts is there
 laid_out : (part : List ℕ → List ℕ) (changes : List Change) (s : State) → AreFilledFrom part changes s → AreLaidOut changes s
@@ -74,16 +71,25 @@ is_ready groups part slice body changes (t ∷ past) can is same all noted fille
 }
 
 -- at each moment the lists stay
-pub keeps_lists : (old new : List State) → Since old new (KeepsRest old) → Since old new (KeepsLists old)
-keeps_lists [] new since = no_time [] new (KeepsLists []) (since.untold refl)
-keeps_lists (s ∷ past) new since = since_map (KeepsRest (s ∷ past)) (KeepsLists (s ∷ past)) (s ∷ past) new (λ t stays folder rest. (stays.rest folder rest).leaves) since
+pub keeps_lists : (old new : List State) → Stands IsIdle old → Since old new (KeepsRest old) → Since old new (KeepsLists old)
+keeps_lists [] new idle since = no_time [] new (KeepsLists []) (since.untold refl)
+keeps_lists (s ∷ past) new idle since = since_map (KeepsRest (s ∷ past)) (KeepsLists (s ∷ past)) (s ∷ past) new (λ t stays folder rest. (stays.rest idle folder rest).leaves) since
 
-pub rest_on : (folder : Files) (old new : List State) → Since old new (KeepsRest old) → Stands (IsAtRest folder) old → Stands (IsAtRest folder) new
-rest_on folder old new since rest = handed_on StaysAtRest (IsAtRest folder) old new (λ s t stays. stays.rest folder) since rest
+abbrev IsIdleAtRest : Files → State → Type 0
+IsIdleAtRest folder s = IsIdle s × IsAtRest folder s
 
-pub ready_after : (groups : List (List Change)) (old new : List State) → Since old new (KeepsRest old) → Stands (IsReady groups) new → Stands (ReadyAfter groups old) new
-ready_after groups old [] since ready = tt
-ready_after groups old (t ∷ past) since ready = λ folder rest. let now = rest_on folder old (t ∷ past) since rest in record { ready = ready; leaves = now.leaves; settled = now.settled }
+at_rest : (folder : Files) (now : List State) → Stands (IsIdleAtRest folder) now → Stands (IsAtRest folder) now
+at_rest folder [] has = tt
+at_rest folder (s ∷ past) has = has.1
+
+pub rest_on : (folder : Files) (old new : List State) → Stands IsIdle old → Since old new (KeepsRest old) → Stands (IsAtRest folder) old → Stands (IsAtRest folder) new
+rest_on folder [] new idle since rest = subst (λ (l : List State). Stands (IsAtRest folder) l) (sym (since.untold refl)) tt
+rest_on folder (s ∷ past) new idle since rest =
+    at_rest folder new (handed_on StaysAtRest (IsIdleAtRest folder) (s ∷ past) new (λ a b stays has. (stays.idle has.0, stays.rest has.0 folder has.1)) since (idle, rest))
+
+pub ready_after : (groups : List (List Change)) (old new : List State) → Stands IsIdle old → Since old new (KeepsRest old) → Stands (IsReady groups) new → Stands (ReadyAfter groups old) new
+ready_after groups old [] idle since ready = tt
+ready_after groups old (t ∷ past) idle since ready = λ folder rest. let now = rest_on folder old (t ∷ past) idle since rest in record { ready = ready; leaves = now.leaves; settled = now.settled }
 
 settled_at : (folder : Files) (now : List State) → Stands (IsAtRest folder) now → Stands IsSettled now
 settled_at folder [] rest = tt
@@ -91,7 +97,7 @@ settled_at folder (s ∷ past) rest = rest.settled
 
 pub settled_kept : (old new : List State) → Since old new (KeepsRest old) → Stands IsIdle old → Stands IsSettled old → Stands IsSettled new
 settled_kept [] new since idle settled = subst (λ (l : List State). Stands IsSettled l) (sym (since.untold refl)) tt
-settled_kept (s ∷ past) new since idle settled = settled_at (lists (reads s)) new (rest_on (lists (reads s)) (s ∷ past) new since (rests s idle settled))
+settled_kept (s ∷ past) new since idle settled = settled_at (lists (reads s)) new (rest_on (lists (reads s)) (s ∷ past) new idle since (rests s idle settled))
 
 -- what the record puts is as it was
 filled_same : (part : List ℕ → List ℕ) (t : State) (changes : List Change) → AreFilledFrom part changes t → filled (parts_of t) changes ≡ filled part changes

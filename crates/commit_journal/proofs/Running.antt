@@ -81,7 +81,7 @@ none_stands commits folder most now rest = stands_as (IsAtRest folder) (LeavesFi
 
 pub stopped_now : (commits : List Commit) (acknowledged begun : ℕ) (old now : List State) (folder : Files) → Moment commits acknowledged begun old now → Stands (IsAtRest folder) old → Stands (LeavesFirst commits folder acknowledged begun) now
 stopped_now commits _ _ old _ folder rests rest = none_stands commits folder 0 old rest
-stopped_now commits acknowledged begun old now folder (waits {mid = mid} since moment) rest = stopped_now commits acknowledged begun mid now folder moment (rest_on folder old mid since rest)
+stopped_now commits acknowledged begun old now folder (waits {mid = mid} idle since moment) rest = stopped_now commits acknowledged begun mid now folder moment (rest_on folder old mid idle since rest)
 stopped_now commits _ _ old now folder (prepares since) rest =
     newest (LeavesFirst commits folder 0 0) old now (since_map (Leaves folder) (LeavesFirst commits folder 0 0) old now (none_yet commits folder 0) (prepared_since folder old now rest since)) (none_stands commits folder 0 old rest)
 stopped_now _ _ _ old now folder (begins {commits = commits} commit has) rest =
@@ -92,10 +92,10 @@ stopped_now _ _ _ old now folder (acknowledges {commits = commits} {acknowledged
 
 pub stopped_since : (commits : List Commit) (acknowledged begun : ℕ) (old now : List State) (folder : Files) → Moment commits acknowledged begun old now → Stands (IsAtRest folder) old → Since old now (LeavesFirst commits folder 0 begun)
 stopped_since commits _ _ old _ folder rests rest = no_time old old (LeavesFirst commits folder 0 0) refl
-stopped_since commits acknowledged begun old now folder (waits {mid = mid} since moment) rest =
+stopped_since commits acknowledged begun old now folder (waits {mid = mid} idle since moment) rest =
     since_more (LeavesFirst commits folder 0 begun) old mid now
-    (since_map (Leaves folder) (LeavesFirst commits folder 0 begun) old mid (none_yet commits folder begun) (prepared_since folder old mid rest (keeps_lists old mid since)))
-    (stopped_since commits acknowledged begun mid now folder moment (rest_on folder old mid since rest))
+    (since_map (Leaves folder) (LeavesFirst commits folder 0 begun) old mid (none_yet commits folder begun) (prepared_since folder old mid rest (keeps_lists old mid idle since)))
+    (stopped_since commits acknowledged begun mid now folder moment (rest_on folder old mid idle since rest))
 stopped_since commits _ _ old now folder (prepares since) rest = since_map (Leaves folder) (LeavesFirst commits folder 0 0) old now (none_yet commits folder 0) (prepared_since folder old now rest since)
 stopped_since _ _ _ old now folder (begins {commits = commits} commit has) rest = begun_since commit commits folder old now has rest
 stopped_since _ _ _ old now folder (acknowledges {commits = commits} {acknowledged = acknowledged} {begun = begun} {mid = mid} commit done moment) rest =

@@ -8,7 +8,7 @@ use Rattle.acq_outside.specs.Crashes.{reads_left}
 use Rattle.journal_model.specs.Names.{journal, partial}
 use Rattle.journal_model.specs.Spelling.{all_steps}
 use Rattle.journal_model.specs.Reopen.{lists, Leaves, LeavesEither}
-use Rattle.journal_model.specs.Rest.{IsIdle, IsSettled, IsAtRest, part_file}
+use Rattle.journal_model.specs.Rest.{IsIdle, IsSettled, IsAtRest}
 use Rattle.journal_model.specs.Twice.{IsIn, Touches}
 use Rattle.journal_model.specs.Views.{apart_names, partial_aside}
 use Rattle.journal_model.specs.declared.step.Step.{Step}
@@ -17,7 +17,8 @@ use Rattle.commit_journal.specs.declared.changing.Change.TheVariants.{Put, Drop}
 use Rattle.commit_journal.specs.Changes.{Filled, stepped_all, steps_of, steps_in, all_changes, touched, IsNone}
 use Rattle.commit_journal.specs.Commits.{IsReadyOver, KeepsOrSteps, Turns, RestsAfter, KeepsUnnamed, IsLater}
 use Rattle.commit_journal.specs.Opening.{Recovers}
-use Rattle.commit_journal.specs.Phases.{LeavesOthers, IsOfCommit, file_now}
+use Rattle.commit_journal.specs.Opening.{LeavesOthers}
+use Rattle.commit_journal.specs.Phases.{IsOfCommit}
 use Rattle.commit_journal.specs.Turning.{IsOpeningTo, OpensAt, WritesOver, OpensOver}
 use Rattle.commit_journal.proofs.Recordable.{all_in}
 use Rattle.commit_journal.proofs.Lists.{idle_rests, reads_stand}
@@ -155,13 +156,9 @@ touched_in (Put own content ∷ changes) step name (inr later) touch none = touc
 touched_in (Drop own ∷ changes) step name (inl same) touch none = none.0 (sym (subst (λ (s : Step). Touches s name) same touch))
 touched_in (Drop own ∷ changes) step name (inr later) touch none = touched_in changes step name later touch none.1
 
-part_now : (trace : List State) (other : List ℕ) → part_file trace other ≡ file_now trace (partial other)
-part_now [] other = refl
-part_now (s ∷ past) other = refl
-
 pub unnamed_stay : (groups : List (List Change)) (old new : List State) → LeavesOthers (IsOfCommit (all_steps (steps_in groups))) old new → KeepsUnnamed groups old new
-unnamed_stay groups old new leaves other none = part_now new other ∙ leaves.same (partial other) away ∙ sym (part_now old other)
+unnamed_stay groups old new leaves other apart none = leaves.same other away
   where
-    away : IsOfCommit (all_steps (steps_in groups)) (partial other) → ⊥
-    away (inl is) = apart_names (partial other) journal (partial_aside other) refl is
-    away (inr touched_by) = touched_in (all_changes groups) touched_by.0 (partial other) (subst (λ (l : List Step). IsIn touched_by.0 l) (all_in groups) touched_by.1) touched_by.2 none
+    away : IsOfCommit (all_steps (steps_in groups)) other → ⊥
+    away (inl is) = apart is
+    away (inr touched_by) = touched_in (all_changes groups) touched_by.0 other (subst (λ (l : List Step). IsIn touched_by.0 l) (all_in groups) touched_by.1) touched_by.2 none

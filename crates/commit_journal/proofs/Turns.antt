@@ -14,7 +14,8 @@ use Rattle.journal_model.specs.declared.step.Step.{Step}
 use Rattle.journal_model.specs.declared.step.Gate.{Gate}
 use Rattle.journal_model.specs.declared.step.Gate.TheVariants.{Open, Damaged, Shut}
 use Rattle.commit_journal.specs.Opening.{Recovers}
-use Rattle.commit_journal.specs.Phases.{IsCarrying, IsOfCommit, LeavesOthers, AllNamed, NamesSteps, call_of}
+use Rattle.commit_journal.specs.Opening.{LeavesOthers}
+use Rattle.commit_journal.specs.Phases.{IsCarrying, IsOfCommit, AllNamed, NamesSteps, call_of}
 use Rattle.commit_journal.proofs.Recovers.{onwards}
 use Rattle.commit_journal.proofs.Carries.{carry_goes}
 use Rattle.commit_journal.proofs.Others.{call_leaves, others_on, owns_step}

@@ -1,12 +1,12 @@
 -- What a preparation and a commit leave at each moment.
-use Rattle.std.specs.Prelude.{◌≡◌, ℕ, ◌+◌, ◌<◌, ◌≤◌, List, [], ◌∷◌, length, Some}
+use Rattle.std.specs.Prelude.{◌≡◌, ◌≢◌, ℕ, ◌+◌, ◌<◌, ◌≤◌, List, [], ◌∷◌, length, Some}
 use Rattle.acq_outside.specs.Disk.{Files}
 use Rattle.acq_outside.specs.Crash.{State, file_at, synced}
 use Rattle.acq_outside.specs.Moments.{Stands, Since}
 use Rattle.journal_model.specs.Names.{journal, partial}
 use Rattle.journal_model.specs.Spelling.{body_of}
 use Rattle.journal_model.specs.Reopen.{Leaves, LeavesEither}
-use Rattle.journal_model.specs.Rest.{IsSettled, IsAtRest, IsPartSynced, file_named, part_file, bytes_in}
+use Rattle.journal_model.specs.Rest.{IsSettled, IsAtRest, IsPartSynced, file_named, file_now, bytes_in}
 use Rattle.commit_journal.specs.declared.changing.Change.{Change}
 use Rattle.commit_journal.specs.declared.changing.Change.TheVariants.{Put, Drop}
 use Rattle.commit_journal.specs.Changes.{Filled, content_of, steps_in, stepped_all, all_changes, touched_all, IsNone, CanRecord}
@@ -70,9 +70,9 @@ Turns groups steps old now = (folder : Files) → Stands (IsReadyOver groups fol
 abbrev pub RestsAfter : List (List Change) → List (List Filled) → List State → State → Type 0
 RestsAfter groups steps old s = (folder : Files) → Stands (IsReadyOver groups folder) old → IsAtRest (stepped_all steps folder) s
 
--- lists on their way that no change names stay, and so does what a crash may leave of them
+-- the files of all names stay that are neither the journal nor changed, and so does what lasts of them
 abbrev pub KeepsUnnamed : List (List Change) → List State → List State → Type 0
-KeepsUnnamed groups old new = (other : List ℕ) → IsNone (partial other) (touched_all groups) → part_file new other ≡ part_file old other
+KeepsUnnamed groups old new = (other : List ℕ) → other ≢ journal → IsNone other (touched_all groups) → file_now new other ≡ file_now old other
 
 -- the disk's clock has gone on, where it is told
 abbrev pub IsLater : List State → List State → Type 0

@@ -2,8 +2,8 @@
 use Rattle.std.specs.Prelude.{◌≡◌, ℕ, List, [], ◌∷◌, Some}
 use Rattle.acq_outside.specs.Crash.{State, file_at, synced}
 use Rattle.acq_outside.specs.Moments.{Stands, Since}
-use Rattle.journal_model.specs.Names.{journal, partial}
-use Rattle.journal_model.specs.Rest.{IsIdle, IsPartSynced, KeepsRest, part_file, part_bytes}
+use Rattle.journal_model.specs.Names.{journal}
+use Rattle.journal_model.specs.Rest.{IsIdle, IsPartSynced, KeepsRest, file_now, part_bytes}
 use Rattle.commit_journal.specs.declared.changing.Change.{Change}
 use Rattle.commit_journal.specs.declared.changing.Change.TheVariants.{Put, Drop}
 use Rattle.commit_journal.specs.Changes.{content_of, touched, IsNone}
@@ -17,9 +17,9 @@ abbrev pub AreFilledFrom : (List ℕ → List ℕ) → List Change → State →
 AreFilledFrom part [] s = Unit {0}
 AreFilledFrom part (change ∷ changes) s = IsFilledFrom part s change × AreFilledFrom part changes s
 
--- lists on their way that have none of these names stay, and so does what a crash may leave of them
+-- the files of all names but these stay, and so does what lasts of them
 abbrev pub KeepsUnnamedIn : List (List ℕ) → List State → List State → Type 0
-KeepsUnnamedIn names old new = (other : List ℕ) → IsNone (partial other) names → part_file new other ≡ part_file old other
+KeepsUnnamedIn names old new = (other : List ℕ) → IsNone other names → file_now new other ≡ file_now old other
 
 -- after some of the changes
 pub record Fills (done : List Change) (old now : List State) : Type 0 where

@@ -1,11 +1,13 @@
 -- What an opening finds, and what it keeps at every moment.
-use Rattle.std.specs.Prelude.{◌≡◌, ◌≢◌, ◌⊎◌, ℕ, nat_eq, Bool, false, List, [], ◌∷◌, Option, Some, None, Result, Err}
+use Rattle.std.specs.Prelude.{◌≡◌, ◌≢◌, ◌⊎◌, ℕ, nat_eq, nat_lt, Bool, true, false, List, [], ◌∷◌, Option, Some, None, Result, Err}
 use Rattle.acq_outside.specs.Disk.{Files}
-use Rattle.acq_outside.specs.Crash.{State, reads}
-use Rattle.journal_model.specs.Names.{journal}
+use Rattle.acq_outside.specs.Crash.{State}
+use Rattle.journal_model.specs.Names.{journal, beside}
 use Rattle.journal_model.specs.Reading.{gate_in}
-use Rattle.journal_model.specs.Reopen.{reopened, LeavesAsOf}
-use Rattle.journal_model.specs.Rest.{IsSettled}
+use Rattle.journal_model.specs.Reopen.{LeavesAsOf}
+use Rattle.journal_model.specs.Rest.{IsSettled, file_now}
+use Rattle.journal_model.specs.Twice.{Touches, IsIn}
+use Rattle.journal_model.specs.declared.step.Step.{Step}
 use Rattle.journal_model.specs.declared.step.Gate.{Gate}
 use Rattle.journal_model.specs.declared.step.Gate.TheVariants.{Open, Damaged, Shut}
 use Rattle.commit_journal.specs.declared.error.JournalError.{JournalError}
@@ -16,10 +18,6 @@ use Rattle.commit_journal.specs.declared.error.JournalError.TheVariants.{DiskFau
 pub record Recovers (s t : State) : Type 0 where
   pub images : LeavesAsOf s t
   pub settled : IsSettled s → IsSettled t
-
--- what reads give stands for the same lists
-abbrev pub StandsForSame : State → State → Type 0
-StandsForSame s t = reopened (reads t) ≡ reopened (reads s)
 
 abbrev pub damage_at : Gate → Option ℕ
 damage_at (Open steps) = None
@@ -40,3 +38,25 @@ abbrev pub is_open : Option (List ℕ) → Bool
 is_open None = false
 is_open (Some []) = false
 is_open (Some (gate ∷ body)) = nat_eq gate 1
+
+-- Whose files an opening may change.
+
+-- the files of all other names stay, and so does what lasts of them
+pub record LeavesOthers (Own : List ℕ → Type 0) (old new : List State) : Type 0 where
+  pub same : (name : List ℕ) → (Own name → ⊥) → file_now new name ≡ file_now old name
+
+-- what a record behind an open gate changes
+abbrev pub IsOfRecord : Gate → List ℕ → Type 0
+IsOfRecord (Open steps) name = (step : Step) × IsIn step steps × Touches step name
+IsOfRecord (Damaged at) name = ⊥
+IsOfRecord Shut name = ⊥
+
+-- byte 0 is neither 0 nor 1, or isn't there
+abbrev pub is_unmade : Option (List ℕ) → Bool
+is_unmade None = true
+is_unmade (Some []) = true
+is_unmade (Some (gate ∷ body)) = nat_lt 1 gate
+
+-- the journal, what the record changes that is carried out, and the place where a new journal is made, where one is
+abbrev pub IsOfOpening : Option (List ℕ) → List ℕ → Type 0
+IsOfOpening content name = (name ≡ journal) ⊎ (IsOfRecord (gate_in content) name ⊎ ((is_unmade content ≡ true) × (name ≡ beside)))

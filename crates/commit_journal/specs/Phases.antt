@@ -1,5 +1,5 @@
 -- The states between the calls of an opening.
-use Rattle.std.specs.Prelude.{◌≡◌, ◌≢◌, ◌⊎◌, ℕ, List, [], ◌∷◌, Option, Some, None}
+use Rattle.std.specs.Prelude.{◌≡◌, ◌≢◌, ◌⊎◌, ℕ, true, List, [], ◌∷◌, Option, Some, None}
 use Rattle.acq_outside.specs.Disk.{Files, after_write, after_cut, after_rename}
 use Rattle.acq_outside.specs.Crash.{State, names_of, file_at, synced}
 use Rattle.acq_outside.specs.declared.state.FileState.{FileState}
@@ -9,14 +9,14 @@ use Rattle.acq_outside.specs.declared.change.Change.TheVariants.{Rename, Remove}
 use Rattle.journal_model.specs.Fine.{IsNamedStep}
 use Rattle.journal_model.specs.Names.{journal, beside, partial}
 use Rattle.journal_model.specs.Steps.{carried}
-use Rattle.journal_model.specs.Reading.{gate_of, gate_in}
+use Rattle.journal_model.specs.Reading.{gate_of}
 use Rattle.journal_model.specs.Twice.{Touches, IsIn, AreOf}
-use Rattle.journal_model.specs.Rest.{file_named}
 use Rattle.journal_model.specs.Aside.{IsQuiet}
 use Rattle.journal_model.specs.declared.step.Step.{Step}
 use Rattle.journal_model.specs.declared.step.Step.TheVariants.{Put, Drop}
 use Rattle.journal_model.specs.declared.step.Gate.{Gate}
 use Rattle.journal_model.specs.declared.step.Gate.TheVariants.{Open, Damaged, Shut}
+use Rattle.commit_journal.specs.Opening.{is_unmade}
 use Rattle.commit_journal.specs.declared.opening.First.{First}
 use Rattle.commit_journal.specs.declared.opening.First.TheVariants.{Closed, Opened, Other}
 
@@ -33,7 +33,7 @@ pub record IsLaid (s : State) : Type 0 where
 abbrev pub IsFirst : First → Option (List ℕ) → Type 0
 IsFirst Closed content = (rest : List ℕ) × (content ≡ Some (0 ∷ rest))
 IsFirst Opened content = (rest : List ℕ) × (content ≡ Some (1 ∷ rest))
-IsFirst Other content = gate_in content ≡ Shut
+IsFirst Other content = is_unmade content ≡ true
 
 -- what a byte that was read says of the first byte, where n bytes were read
 abbrev pub IsFirstOf : ℕ → ℕ → First → Type 0
@@ -115,20 +115,15 @@ NamesSteps (Open steps) = AllNamed steps
 NamesSteps (Damaged at) = Unit {0}
 NamesSteps Shut = Unit {0}
 
--- The files that calls leave as they are.
-
--- the file that a name leads to; none where the disk tells nothing
-abbrev pub file_now : List State → List ℕ → Option FileState
-file_now [] name = None
-file_now (s ∷ past) name = file_named s name
-
--- those of other names stay, and so does what a crash may leave of them
-pub record LeavesOthers (Own : List ℕ → Type 0) (old new : List State) : Type 0 where
-  pub same : (name : List ℕ) → (Own name → ⊥) → file_now new name ≡ file_now old name
+-- Whose files calls may change.
 
 -- the journal, and what the steps change
 abbrev pub IsOfCommit : List Step → List ℕ → Type 0
 IsOfCommit steps name = (name ≡ journal) ⊎ ((step : Step) × IsIn step steps × Touches step name)
+
+-- the journal, and where a new one is made
+abbrev pub IsOfMaking : List ℕ → Type 0
+IsOfMaking name = (name ≡ journal) ⊎ (name ≡ beside)
 
 -- What reads give after an opening's last calls.
 

@@ -4,7 +4,7 @@ use Rattle.acq_outside.specs.Disk.{Files}
 use Rattle.acq_outside.specs.Crash.{State, IsImage}
 use Rattle.acq_outside.specs.Moments.{Stands, Since}
 use Rattle.journal_model.specs.Reopen.{reopened}
-use Rattle.journal_model.specs.Rest.{IsAtRest, KeepsRest, part_bytes}
+use Rattle.journal_model.specs.Rest.{IsIdle, IsAtRest, KeepsRest, part_bytes}
 use Rattle.commit_journal.specs.declared.changing.Change.{Change}
 use Rattle.commit_journal.specs.Changes.{Filled, filled_all, stepped_all}
 use Rattle.commit_journal.specs.Commits.{KeepsLists, ReadyAfter, KeepsOrSteps, RestsAfter}
@@ -31,7 +31,7 @@ pub record HasCommitted (commit : Commit) (old now : List State) : Type 0 where
 -- disk to another. Between commits it does what keeps a disk at rest, and prepares the next.
 pub data Moment : List Commit → ℕ → ℕ → List State → List State → Type 0 where
   rests : {commits : List Commit} {now : List State} → Moment commits 0 0 now now
-  waits : {commits : List Commit} {acknowledged begun : ℕ} {old mid now : List State} → Since old mid (KeepsRest old) → Moment commits acknowledged begun mid now → Moment commits acknowledged begun old now
+  waits : {commits : List Commit} {acknowledged begun : ℕ} {old mid now : List State} → Stands IsIdle old → Since old mid (KeepsRest old) → Moment commits acknowledged begun mid now → Moment commits acknowledged begun old now
   prepares : {commits : List Commit} {old now : List State} → Since old now (KeepsLists old) → Moment commits 0 0 old now
   begins : {commits : List Commit} {old now : List State} → (commit : Commit) → HasBegun commit old now → Moment (commit ∷ commits) 0 1 old now
   acknowledges : {commits : List Commit} {acknowledged begun : ℕ} {old mid now : List State} → (commit : Commit) → HasCommitted commit old mid → Moment commits acknowledged begun mid now

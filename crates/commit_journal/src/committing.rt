@@ -4,10 +4,10 @@ ghost use Rattle.acq_outside.specs.Count.{Rose};
 ghost use Rattle.acq_outside.specs.Moments.{Stands, Since, From};
 ghost use Rattle.journal_model.specs.Spelling.{all_steps};
 ghost use Rattle.journal_model.specs.Rest.{IsIdle, IsSettled, part_bytes};
-ghost use Rattle.commit_journal.specs.Opening.{Recovers};
+ghost use Rattle.commit_journal.specs.Opening.{Recovers, LeavesOthers};
 ghost use Rattle.commit_journal.specs.Changes.{filled_all, steps_in};
 ghost use Rattle.commit_journal.specs.Commits.{IsReady, KeepsOrSteps, Turns, RestsAfter, KeepsUnnamed, IsLater};
-ghost use Rattle.commit_journal.specs.Phases.{IsCarrying, IsOfCommit, LeavesOthers};
+ghost use Rattle.commit_journal.specs.Phases.{IsCarrying, IsOfCommit};
 ghost use Rattle.commit_journal.specs.Turning.{IsOpening, WritesOver, OpensAt, OpensOver};
 
 use crate::recovery::recover;

@@ -6,8 +6,8 @@ ghost use Rattle.acq_outside.specs.Disk.{after_cut, after_write, after_rename};
 ghost use Rattle.acq_outside.specs.Moments.{Stands, Since, From};
 ghost use Rattle.journal_model.specs.Names.{journal, beside};
 ghost use Rattle.journal_model.specs.Rest.{IsIdle};
-ghost use Rattle.commit_journal.specs.Opening.{Recovers};
-ghost use Rattle.commit_journal.specs.Phases.{IsUnset, IsBeside, LastsBeside, IsNamed, made_files};
+ghost use Rattle.commit_journal.specs.Opening.{Recovers, LeavesOthers};
+ghost use Rattle.commit_journal.specs.Phases.{IsUnset, IsBeside, LastsBeside, IsNamed, IsOfMaking, made_files};
 
 use acq_outside::{Disk, Fault};
 
@@ -19,6 +19,7 @@ fn cut_beside<D: Disk>(disk: &mut D) -> Result<(), Fault>
     ensures held { D.held disk.new ≡ D.held disk.old }
     ensures telling { D.tells disk.new ≡ D.tells disk.old }
     ensures moments { Since (D.trace disk.old) (D.trace disk.new) (From Recovers (D.trace disk.old)) }
+    ensures others { LeavesOthers IsOfMaking (D.trace disk.old) (D.trace disk.new) }
     ensures told { IsTrue (D.tells disk.old) → OnOk result (D.files disk.new ≡ after_cut (D.files disk.old) beside 0) }
     ensures done { OnOk result (Stands (IsBeside []) (D.trace disk.new)) }
 {
@@ -33,6 +34,7 @@ fn write_beside<D: Disk>(disk: &mut D) -> Result<(), Fault>
     ensures held { D.held disk.new ≡ D.held disk.old }
     ensures telling { D.tells disk.new ≡ D.tells disk.old }
     ensures moments { Since (D.trace disk.old) (D.trace disk.new) (From Recovers (D.trace disk.old)) }
+    ensures others { LeavesOthers IsOfMaking (D.trace disk.old) (D.trace disk.new) }
     ensures told { IsTrue (D.tells disk.old) → OnOk result (D.files disk.new ≡ after_write (D.files disk.old) beside 0 (0 ∷ [])) }
     ensures done { OnOk result (Stands (IsBeside (0 ∷ [])) (D.trace disk.new)) }
 {
@@ -47,6 +49,7 @@ fn sync_beside<D: Disk>(disk: &mut D) -> Result<(), Fault>
     ensures held { D.held disk.new ≡ D.held disk.old }
     ensures telling { D.tells disk.new ≡ D.tells disk.old }
     ensures moments { Since (D.trace disk.old) (D.trace disk.new) (From Recovers (D.trace disk.old)) }
+    ensures others { LeavesOthers IsOfMaking (D.trace disk.old) (D.trace disk.new) }
     ensures same { D.files disk.new ≡ D.files disk.old }
     ensures done { OnOk result (Stands LastsBeside (D.trace disk.new)) }
 {
@@ -62,6 +65,7 @@ fn name_it<D: Disk>(disk: &mut D) -> Result<(), Fault>
     ensures held { D.held disk.new ≡ D.held disk.old }
     ensures telling { D.tells disk.new ≡ D.tells disk.old }
     ensures moments { Since (D.trace disk.old) (D.trace disk.new) (From Recovers (D.trace disk.old)) }
+    ensures others { LeavesOthers IsOfMaking (D.trace disk.old) (D.trace disk.new) }
     ensures told { IsTrue (D.tells disk.old) → OnOk result (D.files disk.new ≡ after_rename (D.files disk.old) beside journal) }
     ensures done { OnOk result (Stands IsNamed (D.trace disk.new)) }
 {
@@ -76,6 +80,7 @@ fn name_lastingly<D: Disk>(disk: &mut D) -> Result<(), Fault>
     ensures held { D.held disk.new ≡ D.held disk.old }
     ensures telling { D.tells disk.new ≡ D.tells disk.old }
     ensures moments { Since (D.trace disk.old) (D.trace disk.new) (From Recovers (D.trace disk.old)) }
+    ensures others { LeavesOthers IsOfMaking (D.trace disk.old) (D.trace disk.new) }
     ensures same { D.files disk.new ≡ D.files disk.old }
     ensures done { OnOk result (Stands IsIdle (D.trace disk.new)) }
 {
@@ -83,7 +88,7 @@ fn name_lastingly<D: Disk>(disk: &mut D) -> Result<(), Fault>
 }
 
 /// Makes the new file, with the gate closed.
-#[tactic(auto, using(crate::proofs::Recovers::onwards))]
+#[tactic(auto, using(crate::proofs::Recovers::onwards, crate::proofs::Others::others_on))]
 fn lay_beside<D: Disk>(disk: &mut D) -> Result<(), Fault>
     requires { Stands IsUnset (D.trace disk.old) }
     ensures count { D.faults disk.old ≤ D.faults disk.new }
@@ -92,6 +97,7 @@ fn lay_beside<D: Disk>(disk: &mut D) -> Result<(), Fault>
     ensures held { D.held disk.new ≡ D.held disk.old }
     ensures telling { D.tells disk.new ≡ D.tells disk.old }
     ensures moments { Since (D.trace disk.old) (D.trace disk.new) (From Recovers (D.trace disk.old)) }
+    ensures others { LeavesOthers IsOfMaking (D.trace disk.old) (D.trace disk.new) }
     ensures told { IsTrue (D.tells disk.old) → OnOk result (D.files disk.new ≡ after_write (after_cut (D.files disk.old) beside 0) beside 0 (0 ∷ [])) }
     ensures done { OnOk result (Stands LastsBeside (D.trace disk.new)) }
 {
@@ -101,7 +107,7 @@ fn lay_beside<D: Disk>(disk: &mut D) -> Result<(), Fault>
 }
 
 /// Makes a new journal whose gate is closed.
-#[tactic(auto, using(crate::proofs::Recovers::onwards))]
+#[tactic(auto, using(crate::proofs::Recovers::onwards, crate::proofs::Others::others_on))]
 pub fn make_new<D: Disk>(disk: &mut D) -> Result<(), Fault>
     requires { Stands IsUnset (D.trace disk.old) }
     ensures count { D.faults disk.old ≤ D.faults disk.new }
@@ -110,6 +116,7 @@ pub fn make_new<D: Disk>(disk: &mut D) -> Result<(), Fault>
     ensures held { D.held disk.new ≡ D.held disk.old }
     ensures telling { D.tells disk.new ≡ D.tells disk.old }
     ensures moments { Since (D.trace disk.old) (D.trace disk.new) (From Recovers (D.trace disk.old)) }
+    ensures others { LeavesOthers IsOfMaking (D.trace disk.old) (D.trace disk.new) }
     ensures told { IsTrue (D.tells disk.old) → OnOk result (D.files disk.new ≡ made_files (D.files disk.old)) }
     ensures done { OnOk result (Stands IsIdle (D.trace disk.new)) }
 {

@@ -3,7 +3,8 @@ ghost use Rattle.std.specs.Prelude.{◌≡◌, ◌≤◌, [], ◌∷◌, OnOk, O
 ghost use Rattle.acq_outside.specs.Count.{Rose};
 ghost use Rattle.acq_outside.specs.Moments.{Stands, Since};
 ghost use Rattle.journal_model.specs.Rest.{IsIdle, KeepsRest};
-ghost use Rattle.commit_journal.specs.Phases.{IsOfCommit, LeavesOthers};
+ghost use Rattle.commit_journal.specs.Opening.{LeavesOthers};
+ghost use Rattle.commit_journal.specs.Phases.{IsOfCommit};
 ghost use Rattle.commit_journal.specs.Laying.{IsIdleUnmoved, IsNoted, IsNotedLastingly};
 
 use acq_outside::{Disk, Fault};

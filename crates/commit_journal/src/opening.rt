@@ -1,13 +1,13 @@
 //! Opening a journal that a stop may have left in any state.
-ghost use Rattle.std.specs.Prelude.{◌≡◌, ◌≢◌, ◌≤◌, ℕ, [], IsTrue, IsErrOf, IfOk, OnOk, OnErr, Err, false};
+ghost use Rattle.std.specs.Prelude.{◌≡◌, ◌≢◌, ◌≤◌, ℕ, [], IsTrue, IsErrOf, IfOk, OnOk, OnErr, Err, true, false};
 ghost use Rattle.acq_outside.specs.Count.{Rose};
 ghost use Rattle.acq_outside.specs.Moments.{Stands, Since, From};
 ghost use Rattle.journal_model.specs.Names.{journal};
 ghost use Rattle.journal_model.specs.Reading.{gate_in};
 ghost use Rattle.journal_model.specs.Rest.{IsIdle, IsSettled, IsAtRest};
 ghost use Rattle.journal_model.specs.Reopen.{reopened, lists_now};
-ghost use Rattle.commit_journal.specs.Opening.{Recovers, FindsDamage, damage_of, is_open};
-ghost use Rattle.commit_journal.specs.Phases.{IsUnmoved, IsLaid, IsFirst, IsFirstOf, NamesSteps};
+ghost use Rattle.commit_journal.specs.Opening.{Recovers, LeavesOthers, IsOfOpening, FindsDamage, damage_of, is_open};
+ghost use Rattle.commit_journal.specs.Phases.{IsUnmoved, IsLaid, IsFirst, IsFirstOf, IsOfCommit, NamesSteps};
 
 use crate::JournalError;
 use crate::making::make_new;
@@ -42,6 +42,7 @@ fn lay_names<D: Disk>(disk: &mut D) -> Result<(), Fault>
     ensures held { D.held disk.new ≡ D.held disk.old }
     ensures telling { D.tells disk.new ≡ D.tells disk.old }
     ensures same { D.files disk.new ≡ D.files disk.old }
+    ensures others { LeavesOthers (IsOfCommit []) (D.trace disk.old) (D.trace disk.new) }
     ensures moments { Since (D.trace disk.old) (D.trace disk.new) (From Recovers (D.trace disk.old)) }
     ensures done { OnOk result (Stands IsUnmoved (D.trace disk.new)) }
 {
@@ -57,6 +58,7 @@ fn lay_journal<D: Disk>(disk: &mut D) -> Result<(), Fault>
     ensures held { D.held disk.new ≡ D.held disk.old }
     ensures telling { D.tells disk.new ≡ D.tells disk.old }
     ensures same { D.files disk.new ≡ D.files disk.old }
+    ensures others { LeavesOthers (IsOfCommit []) (D.trace disk.old) (D.trace disk.new) }
     ensures moments { Since (D.trace disk.old) (D.trace disk.new) (From Recovers (D.trace disk.old)) }
     ensures done { OnOk result (Stands IsLaid (D.trace disk.new)) }
 {
@@ -71,6 +73,7 @@ fn lay<D: Disk>(disk: &mut D) -> Result<(), Fault>
     ensures held { D.held disk.new ≡ D.held disk.old }
     ensures telling { D.tells disk.new ≡ D.tells disk.old }
     ensures same { D.files disk.new ≡ D.files disk.old }
+    ensures others { LeavesOthers (IsOfCommit []) (D.trace disk.old) (D.trace disk.new) }
     ensures moments { Since (D.trace disk.old) (D.trace disk.new) (From Recovers (D.trace disk.old)) }
     ensures done { OnOk result (Stands IsLaid (D.trace disk.new)) }
 {
@@ -114,6 +117,7 @@ fn judge<D: Disk>(alloc: Global, disk: &mut D) -> Result<Gate, JournalError>
     ensures count { D.faults disk.old ≤ D.faults disk.new }
     ensures fault { IsErrOf result JournalError.DiskFault → Rose (D.faults disk.old) (D.faults disk.new) }
     ensures quiet { OnOk result (D.faults disk.new ≡ D.faults disk.old) }
+    ensures dry { IsErrOf result JournalError.NoMemory → D.faults disk.new ≡ D.faults disk.old }
     ensures held { D.held disk.new ≡ D.held disk.old }
     ensures telling { D.tells disk.new ≡ D.tells disk.old }
     ensures same { D.files disk.new ≡ D.files disk.old }
@@ -137,9 +141,12 @@ fn open_gate<D: Disk>(alloc: Global, disk: &mut D) -> Result<(), JournalError>
     ensures count { D.faults disk.old ≤ D.faults disk.new }
     ensures fault { IsErrOf result JournalError.DiskFault → Rose (D.faults disk.old) (D.faults disk.new) }
     ensures quiet { OnOk result (D.faults disk.new ≡ D.faults disk.old) }
+    ensures dry { IsErrOf result JournalError.NoMemory → D.faults disk.new ≡ D.faults disk.old }
+    ensures steady { (at : ℕ) → result ≡ Err (JournalError.BadJournal at) → D.faults disk.new ≡ D.faults disk.old }
     ensures held { D.held disk.new ≡ D.held disk.old }
     ensures telling { D.tells disk.new ≡ D.tells disk.old }
     ensures moments { Since (D.trace disk.old) (D.trace disk.new) (From Recovers (D.trace disk.old)) }
+    ensures others { IsTrue (D.tells disk.old) → is_open (D.files disk.old journal) ≡ true → LeavesOthers (IsOfOpening (D.files disk.old journal)) (D.trace disk.old) (D.trace disk.new) }
     ensures done { OnOk result (Stands IsIdle (D.trace disk.new)) }
     ensures lists { IsTrue (D.tells disk.old) → OnOk result (reopened (D.files disk.new) ≡ reopened (D.files disk.old)) }
     ensures damage { IsTrue (D.tells disk.old) → FindsDamage (damage_of (D.files disk.old)) result }
@@ -165,9 +172,12 @@ fn open_whole<D: Disk>(alloc: Global, disk: &mut D) -> Result<Journal, JournalEr
     ensures count { D.faults disk.old ≤ D.faults disk.new }
     ensures fault { IsErrOf result JournalError.DiskFault → Rose (D.faults disk.old) (D.faults disk.new) }
     ensures quiet { OnOk result (D.faults disk.new ≡ D.faults disk.old) }
+    ensures dry { IsErrOf result JournalError.NoMemory → D.faults disk.new ≡ D.faults disk.old }
+    ensures steady { (at : ℕ) → result ≡ Err (JournalError.BadJournal at) → D.faults disk.new ≡ D.faults disk.old }
     ensures held { D.held disk.new ≡ D.held disk.old }
     ensures telling { D.tells disk.new ≡ D.tells disk.old }
     ensures recovers { Since (D.trace disk.old) (D.trace disk.new) (From Recovers (D.trace disk.old)) }
+    ensures others { IsTrue (D.tells disk.old) → LeavesOthers (IsOfOpening (D.files disk.old journal)) (D.trace disk.old) (D.trace disk.new) }
     ensures idle { OnOk result (Stands IsIdle (D.trace disk.new)) }
     ensures lists { IsTrue (D.tells disk.old) → OnOk result (reopened (D.files disk.new) ≡ reopened (D.files disk.old)) }
     ensures damage { IsTrue (D.tells disk.old) → FindsDamage (damage_of (D.files disk.old)) result }
@@ -197,10 +207,13 @@ pub fn open_journal<D: Disk>(alloc: Global, disk: &mut D) -> Result<Journal, Jou
     ensures count { D.faults disk.old ≤ D.faults disk.new }
     ensures fault { IsErrOf result JournalError.DiskFault → Rose (D.faults disk.old) (D.faults disk.new) }
     ensures quiet { OnOk result (D.faults disk.new ≡ D.faults disk.old) }
+    ensures dry { IsErrOf result JournalError.NoMemory → D.faults disk.new ≡ D.faults disk.old }
+    ensures steady { (at : ℕ) → result ≡ Err (JournalError.BadJournal at) → D.faults disk.new ≡ D.faults disk.old }
     ensures held { D.held disk.new ≡ D.held disk.old }
     ensures telling { D.tells disk.new ≡ D.tells disk.old }
     ensures recovers { Since (D.trace disk.old) (D.trace disk.new) (From Recovers (D.trace disk.old)) }
     ensures settled { Stands IsSettled (D.trace disk.old) → Stands IsSettled (D.trace disk.new) }
+    ensures others { IsTrue (D.tells disk.old) → LeavesOthers (IsOfOpening (D.files disk.old journal)) (D.trace disk.old) (D.trace disk.new) }
     ensures idle { OnOk result (Stands IsIdle (D.trace disk.new)) }
     ensures lists { IsTrue (D.tells disk.old) → OnOk result (reopened (D.files disk.new) ≡ reopened (D.files disk.old)) }
     ensures rests { Stands IsSettled (D.trace disk.old) → OnOk result (Stands (IsAtRest (lists_now (D.trace disk.old))) (D.trace disk.new)) }

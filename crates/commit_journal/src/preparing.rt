@@ -56,6 +56,7 @@ pub fn prepare<D: Disk>(
     ensures quiet { OnOk result (D.faults disk.new ≡ D.faults disk.old) }
     ensures undamaged { (at : ℕ) → result ≢ Err (JournalError.BadJournal at) }
     ensures dry { IsErrOf result JournalError.NoMemory → D.trace disk.new ≡ D.trace disk.old }
+    ensures dry_faults { IsErrOf result JournalError.NoMemory → D.faults disk.new ≡ D.faults disk.old }
     ensures dry_files { IsErrOf result JournalError.NoMemory → D.files disk.new ≡ D.files disk.old }
     ensures held { D.held disk.new ≡ D.held disk.old }
     ensures telling { D.tells disk.new ≡ D.tells disk.old }

@@ -7,8 +7,8 @@ ghost use Rattle.journal_model.specs.Rest.{IsIdle};
 ghost use Rattle.journal_model.specs.Steps.{stepped, carried};
 ghost use Rattle.journal_model.specs.Twice.{IsIn};
 ghost use Rattle.journal_model.specs.Fine.{IsNamedStep};
-ghost use Rattle.commit_journal.specs.Opening.{Recovers};
-ghost use Rattle.commit_journal.specs.Phases.{IsCarrying, IsDone, IsTurned, IsOfCommit, LeavesOthers, AllNamed, call_of, closed_files};
+ghost use Rattle.commit_journal.specs.Opening.{Recovers, LeavesOthers};
+ghost use Rattle.commit_journal.specs.Phases.{IsCarrying, IsDone, IsTurned, IsOfCommit, AllNamed, call_of, closed_files};
 
 use acq_outside::{Disk, Fault};
 use journal_model::{PartialName, Step};

@@ -1,5 +1,5 @@
 -- While no gate is open and neither a list nor the journal is touched, a crash leaves the lists that it left.
-use Rattle.std.proofs.Common.{◌≡◌, ◌≢◌, ◌⊎◌, inl, inr, ⊎_elim, refl, sym, ap, ◌∙◌, subst, arith, ℕ, true, false, List, [], ◌∷◌, ◌++◌, length, drop, Option, Some, None, option_map, Result, Ok, Err, OnOk}
+use Rattle.std.proofs.Common.{◌≡◌, ◌≢◌, ◌⊎◌, inl, inr, ⊎_elim, refl, sym, ap, ◌∙◌, subst, arith, ℕ, true, false, List, [], ◌∷◌, ◌++◌, length, Option, Some, None, option_map, Result, Ok, Err}
 use Rattle.std.proofs.lemmas.Bool.{cases_eq}
 use Rattle.std.proofs.lemmas.List.{get_or-set_other}
 use Rattle.acq_outside.specs.Disk.{Files}
@@ -16,7 +16,7 @@ use Rattle.acq_outside.specs.declared.state.NameChange.TheVariants.{Made}
 use Rattle.journal_model.specs.Names.{journal, partial, is_aside, is_list}
 use Rattle.journal_model.specs.Reading.{gate_of, gate_in}
 use Rattle.journal_model.specs.Reopen.{lists, opened, reopened, LeavesAsOf}
-use Rattle.journal_model.specs.Rest.{AllAside, IsClosed, IsIdle, IsRecorded, IsSettled, StaysAtRest, KeepsOthers, file_named, part_file}
+use Rattle.journal_model.specs.Rest.{AllAside, IsClosed, IsIdle, IsRecorded, IsSettled, StaysAtRest, KeepsOthers, file_named, file_now}
 use Rattle.journal_model.specs.Twice.{with_same, with_other}
 use Rattle.journal_model.specs.Views.{view, image_view, view_image, apart_names, list_not_aside, off_all, part_aside, more_aside, lists_same, instead, instead_same, instead_other}
 use Rattle.journal_model.specs.declared.step.Gate.TheVariants.{Shut}
@@ -237,9 +237,9 @@ reads_named s name = at (names_of s name)
     at None = refl
     at (Some i) = refl
 
-pub stays_at_rest : (name : List ℕ) (changed : Option ℕ) (s t : State) → IsSound s → ChangesOnly name changed s t → is_aside name ≡ true → IsIdle s → StaysAtRest s t
-stays_at_rest name changed s t sound only aside idle = record {
-  rest = λ folder rest. record {
+pub stays_at_rest : (name : List ℕ) (changed : Option ℕ) (s t : State) → IsSound s → ChangesOnly name changed s t → is_aside name ≡ true → StaysAtRest s t
+stays_at_rest name changed s t sound only aside = record {
+  rest = λ idle folder rest. record {
     leaves = λ image is. let earlier = leaves_as name changed s t sound only aside (idle_quiet s idle) image is in earlier.same ∙ rest.leaves earlier.before earlier.was;
     settled = stays_settled name changed s t only aside (idle_quiet s idle) rest.settled;
     lists_are = λ list is.
@@ -251,25 +251,26 @@ stays_at_rest name changed s t sound only aside idle = record {
   idle = λ before. stays_idle name changed s t only aside before;
 }
 
-partial_one : (a b : List ℕ) → partial a ≡ partial b → a ≡ b
-partial_one a b is = ap (drop 8) is
+any_stands : (old : List State) → Stands (λ s. Unit {0}) old
+any_stands [] = tt
+any_stands (s ∷ past) = tt
 
 -- A call on the file of a name aside keeps what is at rest so, whatever it answers, and other names' files as they are.
-pub aside_goes : {T E : Type 0} (Q : State → Type 0) (name : List ℕ) (call : Change) (old new : List State) (result : Result T E) → is_aside name ≡ true → IsOn name call → AllSound old
-    → ((s : State) → IsSound s → IsIdle s → Q (after s call)) → Stands IsIdle old → Goes call old new result → Since old new (From StaysAtRest old) × OnOk result (Stands Q new)
-aside_goes Q name call old new result aside on sound ends stands is =
-    goes StaysAtRest IsIdle Q call old new result sound
-    (λ s sound_s idle. stays_at_rest name (changed_file s call) s (after s call) sound_s (call_changes name s call sound_s on) aside idle)
-    (λ s torn sound_s idle part. stays_at_rest name (changed_file s call) s torn sound_s (torn_changes name (changed_file s call) s (after s call) torn (call_changes name s call sound_s on) part) aside idle)
-    ends stands is
+pub aside_stays : {T E : Type 0} (name : List ℕ) (call : Change) (old new : List State) (result : Result T E) → is_aside name ≡ true → IsOn name call → AllSound old → Goes call old new result
+    → Since old new (From StaysAtRest old)
+aside_stays name call old new result aside on sound is =
+    (goes StaysAtRest (λ s. Unit {0}) (λ s. Unit {0}) call old new result sound
+    (λ s sound_s has. stays_at_rest name (changed_file s call) s (after s call) sound_s (call_changes name s call sound_s on) aside)
+    (λ s torn sound_s has part. stays_at_rest name (changed_file s call) s torn sound_s (torn_changes name (changed_file s call) s (after s call) torn (call_changes name s call sound_s on) part) aside)
+    (λ s sound_s has. tt) (any_stands old) is).0
 
--- the partial files of other lists stay
+-- the files of other names stay
 pub parts_stay : {T E : Type 0} (name : List ℕ) (call : Change) (old new : List State) (result : Result T E) → IsOn (partial name) call → AllSound old → Goes call old new result → KeepsOthers name old new
-parts_stay name call [] new (Ok x) on sound is other differ = ap (λ (l : List State). part_file l other) is
-parts_stay name call [] new (Err e) on sound is other differ = ap (λ (l : List State). part_file l other) is
+parts_stay name call [] new (Ok x) on sound is other differ = ap (λ (l : List State). file_now l other) is
+parts_stay name call [] new (Err e) on sound is other differ = ap (λ (l : List State). file_now l other) is
 parts_stay name call (s ∷ past) new (Ok x) on sound is other differ =
-    ap (λ (l : List State). part_file l other) is ∙ other_file (partial name) (changed_file s call) s (after s call) (call_changes (partial name) s call sound.0 on) (partial other) (λ same. differ (partial_one other name same))
-parts_stay name call (s ∷ past) new (Err e) on sound (inl same) other differ = ap (λ (l : List State). part_file l other) same
+    ap (λ (l : List State). file_now l other) is ∙ other_file (partial name) (changed_file s call) s (after s call) (call_changes (partial name) s call sound.0 on) other differ
+parts_stay name call (s ∷ past) new (Err e) on sound (inl same) other differ = ap (λ (l : List State). file_now l other) same
 parts_stay name call (s ∷ past) new (Err e) on sound (inr part) other differ =
-    ap (λ (l : List State). part_file l other) part.2
-    ∙ other_file (partial name) (changed_file s call) s part.0 (torn_changes (partial name) (changed_file s call) s (after s call) part.0 (call_changes (partial name) s call sound.0 on) part.1) (partial other) (λ same. differ (partial_one other name same))
+    ap (λ (l : List State). file_now l other) part.2
+    ∙ other_file (partial name) (changed_file s call) s part.0 (torn_changes (partial name) (changed_file s call) s (after s call) part.0 (call_changes (partial name) s call sound.0 on) part.1) other differ

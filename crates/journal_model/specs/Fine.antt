@@ -75,25 +75,26 @@ apart_push (u ∷ steps) s apart new = (
   apart_push steps s apart.1 (λ b name is. new b name (inr is)),
 )
 
-both : (a b : Bool) → (a && b) ≡ true → (a ≡ true) × (b ≡ true)
+pub both : (a b : Bool) → (a && b) ≡ true → (a ≡ true) × (b ≡ true)
 both true b is = (refl, is)
 both false b is = absurd cc
 
-never : (a : Bool) → not a ≡ true → a ≡ false
+pub never : (a : Bool) → not a ≡ true → a ≡ false
 never true is = absurd cc
 never false is = refl
 
 -- what the test of a name tells
-record IsFit (put : Bool) (name : List ℕ) : Type 0 where
-  named : IsName name
-  short : length name ≤ most_long put
-  other : name ≢ journal
+pub record IsFit (put : Bool) (name : List ℕ) : Type 0 where
+  pub named : IsName name
+  pub short : length name ≤ most_long put
+  pub not_lock : name ≢ lock
+  pub other : name ≢ journal
 
 most_short : (put : Bool) → most_long put ≤ 255
 most_short true = omega arith
 most_short false = omega arith
 
-fit_name : (put : Bool) (name : List ℕ) → is_name_of put name ≡ true → IsFit put name
+pub fit_name : (put : Bool) (name : List ℕ) → is_name_of put name ≡ true → IsFit put name
 fit_name put name is =
     let parts = both (not (nat_eq (length name) 0) && not (nat_lt (most_long put) (length name))) (is_utf8 name && (not (same_name name lock) && not (same_name name journal))) is in
     let lengths = both (not (nat_eq (length name) 0)) (not (nat_lt (most_long put) (length name))) parts.0 in
@@ -106,6 +107,7 @@ fit_name put name is =
     record {
       named = record { text = IsUtf8-from_is_utf8 name texts.0; nonempty = grind (arith, nat_tests); short = omega (arith, within, most) };
       short = within;
+      not_lock = λ same. let yes : same_name name lock ≡ true = is_same name lock same in let no_clash : same_name name lock ≡ false = never _ others.0 in cc;
       other = λ same. let yes : same_name name journal ≡ true = is_same name journal same in let no_clash : same_name name journal ≡ false = never _ others.1 in cc;
     }
 
@@ -126,13 +128,13 @@ fine_push before put name fine allowed =
     }
 
 -- what is read is fine
-abbrev done : {A : Type 0} → A → Result A ℕ
+abbrev pub done : {A : Type 0} → A → Result A ℕ
 done x = Ok x
 
-ok_is : {A : Type 0} (x y : A) → done x ≡ done y → x ≡ y
+pub ok_is : {A : Type 0} (x y : A) → done x ≡ done y → x ≡ y
 ok_is x y e = cc
 
-bind_ok : {A B : Type 0} (r : Result A ℕ) (f : A → Result B ℕ) (y : B) → (r >>= f) ≡ Ok y → (x : A) × (r ≡ Ok x) × (f x ≡ Ok y)
+pub bind_ok : {A B : Type 0} (r : Result A ℕ) (f : A → Result B ℕ) (y : B) → (r >>= f) ≡ Ok y → (x : A) × (r ≡ Ok x) × (f x ≡ Ok y)
 bind_ok (Ok x) f y e = (x, refl, e)
 bind_ok (Err d) f y e = absurd cc
 
@@ -189,7 +191,7 @@ sealed_same : (body : List ℕ) (steps : List Step) (rest : List ℕ) (x : List 
 unfolding sealed
 sealed_same body steps rest x e = sealed_case (nat_lt (length rest) 32) (bytes_eq (take 32 rest) (sha256 (take (length body - length rest) body))) steps (drop 32 rest) (length rest) x e
 
-none_fine : AreFine []
+pub none_fine : AreFine []
 none_fine = record { apart = tt; away = λ s is. absurd is; named = λ s is. absurd is }
 
 old_fine : (bytes : List ℕ) (x : List Step) → old_at bytes ≡ Ok x → AreFine x

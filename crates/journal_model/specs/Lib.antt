@@ -12,6 +12,8 @@ pub mod Aside
 pub mod Literals
 pub mod Fine
 pub mod Again
+pub mod Spelled
+pub mod Places
 pub mod Resting
 -- Cited by this crate's own functions alone.
 pub mod Writing

@@ -66,23 +66,29 @@ pub record IsAtRest (folder : Files) (s : State) : Type 0 where
   pub settled : IsSettled s
   pub lists_are : (name : List ℕ) → is_list name ≡ true → reads s name ≡ folder name
 
--- what is at rest stays so with its lists, and a commit may be prepared if one might before
+-- where a commit might be prepared, one still may, and what was at rest is so with its lists
 pub record StaysAtRest (s t : State) : Type 0 where
-  pub rest : (folder : Files) → IsAtRest folder s → IsAtRest folder t
+  pub rest : IsIdle s → (folder : Files) → IsAtRest folder s → IsAtRest folder t
   pub idle : IsIdle s → IsIdle t
 
 abbrev pub KeepsRest : List State → State → Type 0
 KeepsRest = From StaysAtRest
 
--- The lists on their way.
+-- Files by their names.
 
 abbrev pub file_named : State → List ℕ → Option FileState
 file_named s name = option_map (file_at s.files) (names_of s name)
 
--- the file in which a list is on its way; none where the disk tells nothing
+-- the file that a name leads to, whole, with what lasts of it; none where the disk tells nothing
+abbrev pub file_now : List State → List ℕ → Option FileState
+file_now [] name = None
+file_now (s ∷ past) name = file_named s name
+
+-- The lists on their way.
+
+-- the file in which a list is on its way
 abbrev pub part_file : List State → List ℕ → Option FileState
-part_file [] name = None
-part_file (s ∷ past) name = file_named s (partial name)
+part_file trace name = file_now trace (partial name)
 
 abbrev pub bytes_in : Option FileState → List ℕ
 bytes_in None = []
@@ -92,9 +98,9 @@ bytes_in (Some file) = file.seen
 abbrev pub part_bytes : List State → List ℕ → List ℕ
 part_bytes trace name = bytes_in (part_file trace name)
 
--- those of other lists stay, and so does what a crash may leave of them
+-- the files of all other names stay, and so does what lasts of them
 abbrev pub KeepsOthers : List ℕ → List State → List State → Type 0
-KeepsOthers name old new = (other : List ℕ) → other ≢ name → part_file new other ≡ part_file old other
+KeepsOthers name old new = (other : List ℕ) → other ≢ partial name → file_now new other ≡ file_now old other
 
 -- a list is on its way
 pub record IsPartThere (name : List ℕ) (s : State) : Type 0 where

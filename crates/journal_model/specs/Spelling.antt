@@ -1,6 +1,6 @@
 -- The bytes of a journal's record: version 1, which older versions of this program wrote, and version 2. Numbers have
 -- their highest byte first.
-use Rattle.std.specs.Prelude.{◌≡◌, ℕ, ◌<◌, ◌^◌, true, false, List, [], ◌∷◌, ◌++◌, length}
+use Rattle.std.specs.Prelude.{◌≡◌, ◌⊎◌, ℕ, ◌<◌, ◌^◌, true, false, List, [], ◌∷◌, ◌++◌, length}
 use Rattle.std.specs.Int.{w16, w32, to_be_bytes}
 use Rattle.sha2.specs.Sha256.{sha256}
 use Rattle.journal_model.specs.Reading.{is_allowed}
@@ -54,3 +54,19 @@ AreAllowed before (Drop name ∷ steps) = (is_allowed before false name ≡ true
 abbrev pub AreShort : List (List Step) → Type 0
 AreShort [] = Unit {0}
 AreShort (group ∷ groups) = (length group < 2 ^ 32) × AreShort groups
+
+-- What is a record in bytes, with these steps. Version 2 leaves free how they stand in groups.
+pub record IsOldRecord (body : List ℕ) (steps : List Step) : Type 0 where
+  pub few : length steps < 2 ^ 32
+  pub is : body ≡ old_body_of steps
+
+pub record IsNewRecord (body : List ℕ) (steps : List Step) : Type 0 where
+  pub groups : List (List Step)
+  pub few : length groups < 2 ^ 32
+  pub short : AreShort groups
+  pub all : all_steps groups ≡ steps
+  pub is : body ≡ body_of groups
+
+pub record IsRecord (body : List ℕ) (steps : List Step) : Type 0 where
+  pub allowed : AreAllowed [] steps
+  pub spelled : IsOldRecord body steps ⊎ IsNewRecord body steps

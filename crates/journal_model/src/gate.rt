@@ -1,5 +1,5 @@
 //! The gate of a journal, and what stands behind it.
-ghost use Rattle.std.specs.Prelude.{◌≡◌, IfOk};
+ghost use Rattle.std.specs.Prelude.{◌≡◌, slice_get, Some, IfOk, OnErr};
 ghost use Rattle.journal_model.specs.Reading.{gate_of};
 
 use crate::Gate;
@@ -10,6 +10,7 @@ use std::alloc::Global;
 /// What a journal's bytes say. It takes memory only where the gate is open, which is where byte 0 is 1.
 pub fn read_gate(alloc: Global, bytes: &[u8]) -> Result<Gate, NoMemory>
     ensures gate { IfOk result (λ gate. gate ≡ gate_of bytes.now) }
+    ensures thrifty { OnErr result (slice_get bytes.now 0 ≡ Some 1) }
 {
     match bytes.split_first() {
         None => Ok(Gate::Shut),

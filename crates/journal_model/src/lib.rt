@@ -3,7 +3,7 @@
 #![tactic(auto)]
 
 pub use gate::read_gate;
-pub use laws::{idle_is_closed, idle_rests, records_are_read};
+pub use laws::{damage_is_within, idle_is_closed, idle_rests, records_are_read, records_only};
 pub use partial_name::PartialName;
 pub use record::ReadError;
 pub use step::{Gate, Step};

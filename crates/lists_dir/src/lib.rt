@@ -3,9 +3,11 @@
 //! Nothing is changed, and a fault comes only where the disk's count of faults rose.
 #![tactic(auto)]
 
+pub use names::names_are_of_a_disk;
 pub use reading::installed;
 pub use verifying::verify;
 
+mod names;
 mod reading;
 #[cfg(test)]
 mod tests;

@@ -1,6 +1,7 @@
 //! What is installed of a source. It may take memory, and changes nothing.
 
 ghost use Rattle.std.specs.Prelude.{◌≡◌, ◌≤◌, ◌++◌, All, IfOk, OnOk, IsErrOf, IsTrue};
+ghost use Rattle.acq_base.specs.Plan.{IsPlanned};
 ghost use Rattle.acq_outside.specs.Count.{Rose};
 ghost use Rattle.acq_outside.specs.Disk.{IsName};
 ghost use Rattle.lists_dir.specs.Installed.{installed_of, lists_of, listed};
@@ -12,10 +13,9 @@ use std::alloc::Global;
 /// What is installed of a source: its Release, and the files under its planned targets' names, as they are, in the order
 /// of the targets. A target without a file has none there.
 ///
-/// `Fault` only where the disk's count of faults rose, and `NoMemory` where memory ran out.
+/// The source is one of a sound plan. `Fault` only where the disk's count of faults rose, and `NoMemory` where memory ran out.
 pub fn installed<D: Disk>(alloc: Global, disk: &mut D, source: &Source) -> Result<Old, OutError>
-    requires release { IsName source.now.release_name.0 }
-    requires targets { All (λ target. IsName target.name.0) source.now.targets }
+    requires { IsPlanned source.now }
     ensures count { D.faults disk.old ≤ D.faults disk.new }
     ensures fault { IsErrOf result OutError.Fault → Rose (D.faults disk.old) (D.faults disk.new) }
     ensures quiet { OnOk result (D.faults disk.new ≡ D.faults disk.old) }

@@ -1,7 +1,11 @@
 //! Digests are examples of FIPS 180-4.
+ghost use Rattle.std.specs.Prelude.{◌≡◌, ◌∷◌, [], IfOk};
+ghost use Rattle.acq_base.specs.Plan.{IsPlanned};
+ghost use Rattle.acq_base.specs.declared.uri.Scheme.TheVariants.{File};
+
 use super::*;
 use acq_base::{
-    ByHash, Bytes, Kind, ListName, NoMemory, Old, Row, Scheme, Source, Target, Text, Uri, read_sum,
+    ByHash, Bytes, Kind, ListName, NoMemory, Row, Scheme, Source, Target, Text, Uri, read_sum,
 };
 use acq_outside::{MemDisk, is_name};
 use std::alloc::Global;
@@ -12,11 +16,16 @@ const LIST: &[u8] = b"m.example_d_dists_s_Release";
 const ABC: &[u8] = b"ba7816bf8f01cfea414140de5dae2223b00361a396177a9cb410ff61f20015ad";
 
 /// A disk with one list of these bytes, of which the call of this number is to fail, if any.
-fn disk_with(alloc: Global, list: &[u8], failing: Option<u64>) -> Result<MemDisk, Fail> {
+fn disk_with(
+    alloc: Global,
+    name: &[u8],
+    list: &[u8],
+    failing: Option<u64>,
+) -> Result<MemDisk, Fail> {
     let mut bytes = Bytes::new(alloc);
     bytes.append(list)?;
     let mut files = Row::new(alloc);
-    files.push((Text::from_bytes(alloc, LIST)?, bytes))?;
+    files.push((Text::from_bytes(alloc, name)?, bytes))?;
     let mut numbers = Row::new(alloc);
     if let Some(number) = failing {
         numbers.push(number)?;
@@ -55,14 +64,14 @@ fn files_that_fit(rt: HostRuntime) -> Result<(), Fail> {
         (b"".as_slice(), b"3".as_slice(), false),
         (b"".as_slice(), b"0".as_slice(), false),
     ] {
-        let mut disk = disk_with(alloc, list, None)?;
+        let mut disk = disk_with(alloc, LIST, list, None)?;
         assert_eq!(rt;
             verified(alloc, &mut disk, LIST, size)?,
             Some(fits),
             "at {list:?} {size:?}"
         );
     }
-    let mut disk = disk_with(alloc, b"abc", None)?;
+    let mut disk = disk_with(alloc, LIST, b"abc", None)?;
     assert_eq!(rt; verified(alloc, &mut disk, b"other", b"3")?, Some(false));
     Ok(())
 }
@@ -70,64 +79,59 @@ fn files_that_fit(rt: HostRuntime) -> Result<(), Fail> {
 #[test]
 fn a_call_that_fails_within_is_a_fault(rt: HostRuntime) -> Result<(), Fail> {
     for number in [1, 2] {
-        let mut disk = disk_with(rt.alloc(), b"abc", Some(number))?;
+        let mut disk = disk_with(rt.alloc(), LIST, b"abc", Some(number))?;
         assert_eq!(rt; verified(rt.alloc(), &mut disk, LIST, b"3")?, None);
         assert_eq!(rt; verified(rt.alloc(), &mut disk, LIST, b"3")?, Some(true));
     }
     Ok(())
 }
 
-/// A URI of this path on this machine.
-fn file(alloc: Global, path: &[u8]) -> Result<Uri, NoMemory> {
+/// `file:///LETTER`
+fn uri(alloc: Global, letter: u8) -> Result<Uri, NoMemory>
+    ensures { IfOk result (λ uri. uri ≡ record { scheme = File; host = []; port = 0; path = 47 ∷ letter ∷ [] }) }
+{
+    let mut path = Text::from_bytes(alloc, b"/")?;
+    path.push(letter)?;
     Ok(Uri {
         scheme: Scheme::File,
         host: Text::new(alloc),
         port: 0,
-        path: Text::from_bytes(alloc, path)?,
+        path,
     })
 }
 
-/// What is installed of a source whose Release and one target have these names.
-#[tactic(auto, using(crate::proofs::Pieces::named))]
-fn read_source(
-    alloc: Global,
-    disk: &mut MemDisk,
-    release: &[u8],
-    list: &[u8],
-) -> Result<Old, Fail> {
-    let release_name = ListName(Text::from_bytes(alloc, release)?);
-    let name = ListName(Text::from_bytes(alloc, list)?);
-    if !is_name(release_name.0.as_bytes()) || !is_name(name.0.as_bytes()) {
-        return Err(Fail::from("no name"));
-    }
+/// A source whose Release is `file:///r`, with one target, `file:///t`.
+fn source(alloc: Global) -> Result<Source, NoMemory>
+    ensures { IfOk result IsPlanned }
+{
     let mut targets = Row::new(alloc);
     targets.push(Target {
-        path: Text::from_bytes(alloc, b"main/source/Sources")?,
-        uri: file(alloc, b"/d/dists/s/main/source/Sources")?,
-        name,
+        path: Text::from_bytes(alloc, b"t")?,
+        uri: uri(alloc, b't')?,
+        name: ListName(Text::from_bytes(alloc, b"_t")?),
         kind: Kind::Sources,
     })?;
-    let source = Source {
-        base: file(alloc, b"/d")?,
+    Ok(Source {
+        base: uri(alloc, b'd')?,
         suite: Text::from_bytes(alloc, b"s")?,
-        release: file(alloc, b"/d/dists/s/Release")?,
-        release_name,
+        release: uri(alloc, b'r')?,
+        release_name: ListName(Text::from_bytes(alloc, b"_r")?),
         by_hash: ByHash::No,
         pdiffs: false,
         targets,
-    };
-    Ok(installed(alloc, disk, &source)?)
+    })
 }
 
 #[test]
 fn what_is_installed(rt: HostRuntime) -> Result<(), Fail> {
     let alloc = rt.alloc();
-    let mut disk = disk_with(alloc, b"abc", None)?;
     let mut bytes = Bytes::new(alloc);
     bytes.append(b"abc")?;
-    let release = read_source(alloc, &mut disk, LIST, b"other")?;
+    let mut disk = disk_with(alloc, b"_r", b"abc", None)?;
+    let release = installed(alloc, &mut disk, &source(alloc)?)?;
     assert!(rt; release.release.as_ref() == Some(&bytes) && release.lists.is_empty());
-    let list = read_source(alloc, &mut disk, b"other", LIST)?;
+    let mut disk = disk_with(alloc, b"_t", b"abc", None)?;
+    let list = installed(alloc, &mut disk, &source(alloc)?)?;
     assert!(rt; list.release.is_none() && list.lists.len() == 1);
     Ok(())
 }

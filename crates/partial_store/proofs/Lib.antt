@@ -1,2 +1,3 @@
 pub mod PartNames
 pub mod PartCalls
+pub mod Lasting

@@ -10,10 +10,10 @@ use Rattle.acq_outside.specs.declared.change.Change.TheVariants.{Write, Cut, Syn
 use Rattle.acq_outside.specs.declared.state.FileState.{FileState}
 use Rattle.acq_outside.specs.declared.state.NameChange.TheVariants.{Made}
 use Rattle.journal_model.specs.Names.{partial}
-use Rattle.journal_model.specs.Rest.{IsIdle, IsPartThere, KeepsRest, KeepsOthers, file_named, part_bytes, bytes_in}
+use Rattle.journal_model.specs.Rest.{IsPartThere, KeepsRest, KeepsOthers, file_named, part_bytes, bytes_in}
 use Rattle.journal_model.specs.Twice.{with_same}
 use Rattle.journal_model.specs.Views.{partial_aside}
-use Rattle.journal_model.specs.Aside.{IsOn, aside_goes, parts_stay}
+use Rattle.journal_model.specs.Aside.{IsOn, aside_stays, parts_stay}
 
 -- ---- one state
 
@@ -85,38 +85,36 @@ put_ends name at bytes (s ∷ past) new (Ok x) sound there long is =
 put_ends name at bytes (s ∷ past) new (Err e) sound there long is = tt
 
 -- what is at rest stays so
-pub stays : {T E : Type 0} (name : List ℕ) (call : Change) (old new : List State) (result : Result T E) → IsOn (partial name) call → AllSound old → Stands IsIdle old → Goes call old new result
-    → Since old new (KeepsRest old)
-stays name call old new result on sound idle is =
-    (aside_goes (λ s. Unit {0}) (partial name) call old new result (partial_aside name) on sound (λ s sound_s idle_s. tt) idle is).0
+pub stays : {T E : Type 0} (name : List ℕ) (call : Change) (old new : List State) (result : Result T E) → IsOn (partial name) call → AllSound old → Goes call old new result → Since old new (KeepsRest old)
+stays name call old new result on sound is = aside_stays (partial name) call old new result (partial_aside name) on sound is
 
 -- a call on a list's file by its path
 
 abbrev pub Leaves : {T E : Type 0} → List ℕ → List ℕ → List State → List State → Result T E → Type 0
 Leaves name bytes old new result = Since old new (KeepsRest old) × KeepsOthers name old new × OnOk result (Ends name bytes new)
 
-pub cut_goes : {T E : Type 0} (name path : List ℕ) (len : ℕ) (old new : List State) (result : Result T E) → path ≡ partial name → AllSound old → Stands IsIdle old → Goes (Cut path len) old new result
+pub cut_goes : {T E : Type 0} (name path : List ℕ) (len : ℕ) (old new : List State) (result : Result T E) → path ≡ partial name → AllSound old → Goes (Cut path len) old new result
     → Leaves name (take len (part_bytes old name)) old new result
-cut_goes name path len old new result at sound idle is =
+cut_goes name path len old new result at sound is =
     let call : Goes (Cut (partial name) len) old new result = subst (λ (p : List ℕ). Goes (Cut p len) old new result) at is in (
-      stays name (Cut (partial name) len) old new result refl sound idle call,
+      stays name (Cut (partial name) len) old new result refl sound call,
       parts_stay name (Cut (partial name) len) old new result refl sound call,
       cut_ends name len old new result sound call,
     )
 
-pub put_goes : {T E : Type 0} (name path : List ℕ) (at len : ℕ) (bytes : List ℕ) (old new : List State) (result : Result T E) → path ≡ partial name → at ≡ len → AllSound old → Stands IsIdle old
+pub put_goes : {T E : Type 0} (name path : List ℕ) (at len : ℕ) (bytes : List ℕ) (old new : List State) (result : Result T E) → path ≡ partial name → at ≡ len → AllSound old
     → Stands (IsPartThere name) old → (IsTold old → length (part_bytes old name) ≡ len) → Goes (Write path at bytes) old new result
     → Leaves name (part_bytes old name ++ bytes) old new result
-put_goes name path at len bytes old new result here end sound idle there long is =
+put_goes name path at len bytes old new result here end sound there long is =
     let call : Goes (Write (partial name) at bytes) old new result = subst (λ (p : List ℕ). Goes (Write p at bytes) old new result) here is in (
-      stays name (Write (partial name) at bytes) old new result refl sound idle call,
+      stays name (Write (partial name) at bytes) old new result refl sound call,
       parts_stay name (Write (partial name) at bytes) old new result refl sound call,
       put_ends name at bytes old new result sound there (λ told. long told ∙ sym end) call,
     )
 
-pub sync_moments : {T E : Type 0} (name path : List ℕ) (old new : List State) (result : Result T E) → path ≡ partial name → AllSound old → Stands IsIdle old → Goes (Sync path) old new result → Since old new (KeepsRest old)
-sync_moments name path old new result at sound idle is =
-    stays name (Sync (partial name)) old new result refl sound idle (subst (λ (p : List ℕ). Goes (Sync p) old new result) at is)
+pub sync_moments : {T E : Type 0} (name path : List ℕ) (old new : List State) (result : Result T E) → path ≡ partial name → AllSound old → Goes (Sync path) old new result → Since old new (KeepsRest old)
+sync_moments name path old new result at sound is =
+    stays name (Sync (partial name)) old new result refl sound (subst (λ (p : List ℕ). Goes (Sync p) old new result) at is)
 
 pub sync_others : {T E : Type 0} (name path : List ℕ) (old new : List State) (result : Result T E) → path ≡ partial name → AllSound old → Goes (Sync path) old new result → KeepsOthers name old new
 sync_others name path old new result at sound is =

@@ -5,7 +5,7 @@ ghost use Rattle.acq_outside.specs.Count.{Rose};
 ghost use Rattle.acq_outside.specs.Disk.{IsRead};
 ghost use Rattle.acq_outside.specs.Moments.{IsTold, Since, Stands};
 ghost use Rattle.journal_model.specs.Names.{IsPutName};
-ghost use Rattle.journal_model.specs.Rest.{IsIdle, IsPartSynced, IsPartThere, KeepsOthers, KeepsRest, part_bytes, size_below};
+ghost use Rattle.journal_model.specs.Rest.{IsPartSynced, IsPartThere, KeepsOthers, KeepsRest, part_bytes, size_below};
 ghost use Rattle.partial_store.specs.Parts.{part_of};
 
 use crate::Part;
@@ -15,12 +15,11 @@ use journal_model::PartialName;
 
 /// Begins a list's file, or goes on with the first `keep` bytes of the one that is there; an absent one counts as empty.
 ///
-/// It has at least `keep` bytes, and no change of a list's name is pending. `Fault` only where the disk's count of faults
-/// rose; the file may then have been cut, or made.
+/// It has at least `keep` bytes. `Fault` only where the disk's count of faults rose; the file may then have been cut, or
+/// made.
 pub fn begin<D: Disk>(disk: &mut D, name: &ListName, keep: u64) -> Result<Part, Fault>
     requires name { IsPutName name.now.0 }
     requires keep { IsTold (D.trace disk.old) → keep ≤ length (part_bytes (D.trace disk.old) name.now.0) }
-    requires idle { Stands IsIdle (D.trace disk.old) }
     ensures count { D.faults disk.old ≤ D.faults disk.new }
     ensures fault { OnErr result (Rose (D.faults disk.old) (D.faults disk.new)) }
     ensures quiet { OnOk result (D.faults disk.new ≡ D.faults disk.old) }
@@ -46,7 +45,6 @@ pub fn put<D: Disk>(disk: &mut D, part: &mut Part, piece: &[u8]) -> Result<(), F
     requires there { Stands (IsPartThere part.old.name) (D.trace disk.old) }
     requires len { IsTold (D.trace disk.old) → length (part_bytes (D.trace disk.old) part.old.name) ≡ part.old.len }
     requires room { part.old.len + length piece.now < 2 ^ 64 }
-    requires idle { Stands IsIdle (D.trace disk.old) }
     ensures count { D.faults disk.old ≤ D.faults disk.new }
     ensures fault { OnErr result (Rose (D.faults disk.old) (D.faults disk.new)) }
     ensures quiet { OnOk result (D.faults disk.new ≡ D.faults disk.old) }
@@ -72,7 +70,6 @@ pub fn put<D: Disk>(disk: &mut D, part: &mut Part, piece: &[u8]) -> Result<(), F
 pub fn finish<D: Disk>(disk: &mut D, part: Part) -> Result<u64, Fault>
     requires there { Stands (IsPartThere part.name) (D.trace disk.old) }
     requires len { IsTold (D.trace disk.old) → length (part_bytes (D.trace disk.old) part.name) ≡ part.len }
-    requires idle { Stands IsIdle (D.trace disk.old) }
     ensures count { D.faults disk.old ≤ D.faults disk.new }
     ensures fault { OnErr result (Rose (D.faults disk.old) (D.faults disk.new)) }
     ensures quiet { OnOk result (D.faults disk.new ≡ D.faults disk.old) }

@@ -7,9 +7,6 @@ put_some-requires-clause-idle g c = idle_on _ _ c.begin.ensures.moments c.requir
 pub returns-in_err-put_some-clause-moments : goal.returns-in_err-put_some-clause-moments
 returns-in_err-put_some-clause-moments g c = rests_on _ _ _ c.begin.ensures.moments c.put_some.ensures.moments
 
-pub finish-requires-clause-idle : goal.finish-requires-clause-idle
-finish-requires-clause-idle g c = idle_on _ _ (rests_on _ _ _ c.begin.ensures.moments c.put_some.ensures.moments) c.requires.idle
-
 pub returns-in_err-finish-clause-moments : goal.returns-in_err-finish-clause-moments
 returns-in_err-finish-clause-moments g c = rests_on _ _ _ (rests_on _ _ _ c.begin.ensures.moments c.put_some.ensures.moments) c.finish.ensures.moments
 

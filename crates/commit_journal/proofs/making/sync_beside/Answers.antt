@@ -1,5 +1,6 @@
 use Rattle.journal_model.specs.Literals.{beside_named}
 use Rattle.commit_journal.proofs.Besides.{sync_goes}
+use Rattle.commit_journal.proofs.Others.{beside_sync}
 use Rattle.commit_journal.proofs.making.sync_beside.Goals as goal
 
 pub sync-requires : goal.sync-requires
@@ -10,3 +11,6 @@ returns-clause-moments g c = (sync_goes _ _ _ c.sync.result c.as_slice.ensures (
 
 pub returns-clause-done : goal.returns-clause-done
 returns-clause-done g c = (sync_goes _ _ _ c.sync.result c.as_slice.ensures (g.met.D.Disk.sound c.args.disk.now) c.requires c.sync.ensures.step).1
+
+pub returns-clause-others : goal.returns-clause-others
+returns-clause-others g c = beside_sync _ _ _ c.sync.result c.as_slice.ensures (g.met.D.Disk.sound c.args.disk.now) c.sync.ensures.step

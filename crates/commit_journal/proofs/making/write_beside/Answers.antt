@@ -6,6 +6,7 @@ use Rattle.commit_journal.proofs.Besides.{beside_there}
 use Rattle.commit_journal.proofs.Looks.{there_in}
 use Rattle.commit_journal.proofs.Besides.{write_goes}
 use Rattle.acq_outside.specs.Disk.{after_write}
+use Rattle.commit_journal.proofs.Others.{beside_write}
 use Rattle.commit_journal.proofs.making.write_beside.Goals as goal
 
 pub write_at-requires-clause-name : goal.write_at-requires-clause-name
@@ -24,3 +25,6 @@ returns-clause-done g c = (write_goes _ _ _ c.write_at.result c.as_slice.ensures
 
 pub returns-clause-told : goal.returns-clause-told
 returns-clause-told g c = λ told. subst (λ (n : List ℕ). OnOk c.write_at.result (g.D.Disk.files c.write_at.new.self ≡ after_write (g.D.Disk.files c.args.disk.now) n 0 (0 ∷ []))) c.as_slice.ensures (c.write_at.ensures.ok told)
+
+pub returns-clause-others : goal.returns-clause-others
+returns-clause-others g c = beside_write _ 0 (0 ∷ []) _ _ c.write_at.result c.as_slice.ensures (g.met.D.Disk.sound c.args.disk.now) c.write_at.ensures.step

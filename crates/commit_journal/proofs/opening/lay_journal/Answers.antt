@@ -1,5 +1,7 @@
 use Rattle.journal_model.specs.Literals.{journal_named}
 use Rattle.commit_journal.proofs.Looks.{lay_journal_goes}
+use Rattle.std.proofs.Common.{[]}
+use Rattle.commit_journal.proofs.Others.{journal_sync}
 use Rattle.commit_journal.proofs.opening.lay_journal.Goals as goal
 
 pub sync-requires : goal.sync-requires
@@ -10,3 +12,6 @@ returns-clause-moments g c = (lay_journal_goes _ _ _ c.sync.result c.as_slice.en
 
 pub returns-clause-done : goal.returns-clause-done
 returns-clause-done g c = (lay_journal_goes _ _ _ c.sync.result c.as_slice.ensures (g.met.D.Disk.sound c.args.disk.now) c.requires c.sync.ensures.step).1
+
+pub returns-clause-others : goal.returns-clause-others
+returns-clause-others g c = journal_sync [] _ _ _ c.sync.result c.as_slice.ensures (g.met.D.Disk.sound c.args.disk.now) c.sync.ensures.step

@@ -15,13 +15,13 @@ pub write_body-requires-clause-allowed : goal.write_body-requires-clause-allowed
 write_body-requires-clause-allowed g c = (record_few c.args.groups c.as_slice.result.now c.in_ok-rows.rows c.as_slice-2.result.now c.requires.changes c.as_slice.ensures c.in_ok-rows.ensures c.as_slice-2.ensures).1.1
 
 pub returns-in_err-lay_out-clause-moments : goal.returns-in_err-lay_out-clause-moments
-returns-in_err-lay_out-clause-moments g c = keeps_lists _ _ c.lay_out.ensures.moments
+returns-in_err-lay_out-clause-moments g c = keeps_lists _ _ c.requires.idle c.lay_out.ensures.moments
 
 pub returns-in_err-lay_out-clause-settled : goal.returns-in_err-lay_out-clause-settled
 returns-in_err-lay_out-clause-settled g c = λ settled. settled_kept _ _ c.lay_out.ensures.moments c.requires.idle settled
 
 pub returns-clause-moments : goal.returns-clause-moments
-returns-clause-moments g c = keeps_lists _ _ c.lay_out.ensures.moments
+returns-clause-moments g c = keeps_lists _ _ c.requires.idle c.lay_out.ensures.moments
 
 pub returns-clause-settled : goal.returns-clause-settled
 returns-clause-settled g c = λ settled. settled_kept _ _ c.lay_out.ensures.moments c.requires.idle settled
@@ -32,7 +32,7 @@ returns-clause-can_commit g c =
     (c.in_ok-body.ensures ∙ ap body_of (c.as_slice-2.ensures ∙ c.in_ok-rows.ensures ∙ ap steps_in c.as_slice.ensures)) c.as_slice-5.ensures (ap all_changes c.as_slice-4.ensures) c.in_ok-lay_out.ensures.noted c.in_ok-lay_out.ensures.filled
 
 pub returns-clause-ready : goal.returns-clause-ready
-returns-clause-ready g c = ready_after c.args.groups _ _ c.lay_out.ensures.moments (is_ready c.args.groups (part_bytes (g.D.Disk.trace c.args.disk.now)) c.as_slice-5.result.now c.in_ok-body.body (all_changes c.as_slice-4.result.now) (g.D.Disk.trace c.lay_out.new.disk) c.requires.changes
+returns-clause-ready g c = ready_after c.args.groups _ _ c.requires.idle c.lay_out.ensures.moments (is_ready c.args.groups (part_bytes (g.D.Disk.trace c.args.disk.now)) c.as_slice-5.result.now c.in_ok-body.body (all_changes c.as_slice-4.result.now) (g.D.Disk.trace c.lay_out.new.disk) c.requires.changes
     (c.in_ok-body.ensures ∙ ap body_of (c.as_slice-2.ensures ∙ c.in_ok-rows.ensures ∙ ap steps_in c.as_slice.ensures)) c.as_slice-5.ensures (ap all_changes c.as_slice-4.ensures) c.in_ok-lay_out.ensures.noted c.in_ok-lay_out.ensures.filled)
 
 pub returns-clause-bytes : goal.returns-clause-bytes

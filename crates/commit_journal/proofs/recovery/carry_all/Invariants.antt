@@ -2,7 +2,8 @@ use Rattle.std.proofs.Common.{◌≡◌, ◌≤◌, take, IsTrue}
 use Rattle.journal_model.specs.Steps.{carried}
 use Rattle.acq_outside.specs.Moments.{Stands, Since, From}
 use Rattle.commit_journal.specs.Opening.{Recovers}
-use Rattle.commit_journal.specs.Phases.{IsCarrying, IsOfCommit, LeavesOthers}
+use Rattle.commit_journal.specs.Opening.{LeavesOthers}
+use Rattle.commit_journal.specs.Phases.{IsCarrying, IsOfCommit}
 use Rattle.commit_journal.proofs.recovery.carry_all.Given as goal
 
 abbrev pub invariant-loop-step : goal.invariant-loop-step
