@@ -7,7 +7,7 @@ use Rattle.acq_base.specs.Mirror.{World, answer_at}
 use Rattle.acq_outside.specs.declared.word.Fetch.{Fetch}
 use Rattle.acq_outside.specs.declared.word.Word.TheVariants.{Done}
 use Rattle.acq_outside.specs.Word.{HasSize, IsPieceOf, begun, further}
-use Rattle.file_method.specs.Joined.{AreWords, joined}
+use Rattle.file_method.specs.Joined.{AreWords, joined, JoinTo}
 
 drop_all : (all : List ℕ) → drop (length all) all ≡ []
 drop_all [] = refl
@@ -28,5 +28,5 @@ behind world all size (piece ∷ pieces) fetch is words =
     ∙ ap (λ r. take (length piece) (drop fetch.at all) ++ r) (rest ∙ sym (drop_more fetch.at (length piece) all))
     ∙ take-append-drop (length piece) (drop fetch.at all)
 
-pub whole_file : (world : World) (job : Job) (all : List ℕ) (pieces : List (List ℕ)) (size : ℕ) → answer_at world job.uri ≡ Served all → AreWords world (begun job) pieces (Done size) → joined pieces ≡ drop job.from all
-whole_file world job all pieces size is words = behind world all size pieces (begun job) is words
+pub whole_file : (world : World) (job : Job) (all : List ℕ) → answer_at world job.uri ≡ Served all → JoinTo world job (drop job.from all)
+whole_file world job all is pieces size words = behind world all size pieces (begun job) is words

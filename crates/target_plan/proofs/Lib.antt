@@ -11,3 +11,11 @@ mod SoundPlan
 mod PlanAsks
 mod PlanAll
 mod FirstMention
+mod Distinct
+mod PlainPaths
+mod FolderMark
+mod Lone
+mod Marked
+mod Alike
+mod OneEntry
+mod ManyNames

@@ -12,8 +12,9 @@ use Rattle.target_plan.specs.declared.error.Place.{Place}
 use Rattle.target_plan.specs.declared.draft.Planned.{Planned}
 use Rattle.target_plan.specs.declared.draft.Draft.{Draft}
 use Rattle.target_plan.specs.declared.error.PlanError.{PlanError}
-use Rattle.target_plan.specs.declared.error.PlanError.TheVariants.{NoMemory}
-use Rattle.target_plan.specs.Drafts.{drafts_of, file_of, files_of, files_in, finished}
+use Rattle.target_plan.specs.declared.error.PlanError.TheVariants.{NoMemory, TooMany}
+use Rattle.target_plan.specs.Groups.{together}
+use Rattle.target_plan.specs.Drafts.{is_same_source, draft_of, drafts_of, file_of, files_of, files_in, finished}
 use Rattle.target_plan.specs.Planning.{or_else, name_refusal, long_name, clash, too_many, refusal_of, unless, plan_of}
 
 or_else-assoc : (a b c : Option PlanError) → or_else (or_else a b) c ≡ or_else a (or_else b c)
@@ -133,3 +134,8 @@ unfolding plan_of refusal_of
 not_refused pick settings entries plan short apart few is =
     (λ i. Ok (record { sources = is i }))
     ∙ sym (λ i. unless (or_else (short i) (or_else (apart i) (few i))) (record { sources = map finished (drafts_of pick settings entries) }))
+
+pub refused_overfull : (pick : Pick) (settings : Settings) (entries : List Entry) (groups : List (Entry × List Entry)) → groups ≡ together is_same_source entries → refusal_of (files_in (map (draft_of pick settings) groups)) ≡ Some TooMany → Answers pick settings entries (Err TooMany)
+unfolding drafts_of
+refused_overfull pick settings entries groups are many =
+    inr (refused pick settings entries TooMany (ap (λ (gs : List (Entry × List Entry)). refusal_of (files_in (map (draft_of pick settings) gs))) (sym are) ∙ many))

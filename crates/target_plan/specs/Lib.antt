@@ -6,5 +6,7 @@ pub mod Drafts
 pub mod Planned
 pub mod Planning
 pub mod Asked
+-- Names told without their URIs.
+pub mod Marks
 -- What serves the crate's own functions: entries as groups see them.
 pub mod Seen

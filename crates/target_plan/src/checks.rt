@@ -12,10 +12,10 @@ use std::alloc::Global;
 use std::collections::BTreeMap;
 
 /// The most sources and targets together.
-const MOST_FILES: usize = 4096;
+pub const MOST_FILES: usize = 4096;
 
 /// The most bytes of a list name.
-const LONGEST_NAME: usize = 240;
+pub const LONGEST_NAME: usize = 240;
 
 /// A file of a plan: a source's Release or one of its lists, and where the entry stands that first gave it.
 #[derive(Drop)]

@@ -155,7 +155,7 @@ fn lists(
 }
 
 /// The lists of these offers that are picked.
-fn picked(
+pub fn picked(
     alloc: Global,
     first: &Entry,
     offers: &[Offer],

@@ -91,7 +91,8 @@ fn add<T: Copy + Drop>(
     Ok(())
 }
 
-fn one<T: Drop>(alloc: Global, item: T) -> Result<Vec<T>, NoMemory>
+/// One item.
+pub fn one<T: Drop>(alloc: Global, item: T) -> Result<Vec<T>, NoMemory>
     ensures { IfOk result (λ items. items.items ≡ item ∷ []) }
 {
     let mut items = Vec::new(alloc);

@@ -12,7 +12,9 @@ mod checks;
 mod draft;
 mod error;
 mod groups;
+mod marks;
 mod offers;
+mod overfull;
 mod places;
 mod planning;
 #[cfg(test)]

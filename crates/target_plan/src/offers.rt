@@ -145,7 +145,7 @@ fn mention_all<'a>(entry: &'a Entry, mentions: &mut Vec<Mention<'a>>) -> Result<
 
 /// What the entries that name a component offer of it: binary packages, source packages, translations.
 #[tactic(auto, unfolding(crate::specs::Offers::component_offers))]
-fn component_offers(
+pub fn component_offers(
     alloc: Global,
     settings: &Settings,
     group: &Group<Mention<'_>>,

@@ -16,6 +16,7 @@ use crate::PlanError;
 use crate::checks::{File, append_files, check_clashes, check_count};
 use crate::draft::{Draft, Planned, draft_source};
 use crate::groups::{Group, by_source};
+use crate::overfull::is_overfull;
 use acq_base::{NoMemory, Plan, Row, Settings, Source, Target, TryCopy};
 use kept_hooks::Picker;
 use source_lists::Entry;
@@ -53,6 +54,9 @@ pub fn plan(
     ensures sound { All IsSoundEntry entries.now → IsSoundSettings settings.now → IfOk result IsSound }
 {
     let groups = by_source(alloc, entries.as_slice())?;
+    if is_overfull(alloc, groups.as_slice(), settings, picker)? {
+        return Err(PlanError::TooMany);
+    }
     let drafts = drafts(alloc, groups.as_slice(), settings, picker)?;
     let files = files(alloc, drafts.as_slice())?;
     check_clashes(alloc, files.as_slice())?;
