@@ -1,4 +1,5 @@
 -- Cited by public clauses.
 pub mod Talk
+pub mod Due
 pub mod ScriptLink
 pub mod TcpLink

@@ -1,12 +1,17 @@
 //! A connection to a peer, as the rest of the program asks for it.
-ghost use Rattle.std.specs.Prelude.{◌≡◌, ◌≢◌, ℕ, ◌<◌, ◌≤◌, length, take, Option, option_map, IfOk, OnOk, OnErr};
+ghost use Rattle.std.specs.Prelude.{◌≡◌, ◌≢◌, ℕ, ◌<◌, ◌≤◌, length, take, Option, Some, option_map, IfOk, IfSome, OnOk, OnErr};
 ghost use Rattle.acq_outside.specs.Count.{Rose};
-ghost use Rattle.acq_net.specs.Talk.{Talk, silent, sends, receives};
+ghost use Rattle.acq_base.specs.Mirror.{World};
+ghost use Rattle.acq_net.specs.Due.{Came, Due, Owes, fresh};
+ghost use Rattle.acq_net.specs.Talk.{ReceivesPart, SendsPart, Talk, receives, sends, silent};
 
 use acq_base::Text;
 use acq_outside::Fault;
 
 /// One connection at a time to an HTTP peer.
+///
+/// A link may stand for a mirror. Then each request that is sent to its host and port, one at a time, makes the mirror's
+/// answer due, as a response; what is received are its bytes in order, and the peer's end comes only behind them.
 pub trait Link: Drop {
     /// How often it failed.
     ghost faults: { Self → ℕ };
@@ -20,6 +25,12 @@ pub trait Link: Drop {
     /// What was said on the present connection, where it tells.
     ghost talk: { Self → Option Talk };
 
+    /// The mirror that it stands for, where it stands for one.
+    ghost world: { Self → Option World };
+
+    /// What is due on the present connection, where it stands for a mirror and nothing was sent that may not be.
+    ghost due: { Self → Option Due };
+
     /// Opens a connection to a host's port. A former one is closed first.
     fn connect(&mut self, host: &Text, port: u16) -> Result<(), Fault>
         ensures count { faults self.old ≤ faults self.new }
@@ -28,7 +39,9 @@ pub trait Link: Drop {
         ensures made { Rose (made self.old) (made self.new) }
         ensures made_count { made self.old ≤ made self.new }
         ensures ends { ends self.new ≡ ends self.old }
-        ensures fresh { talk self.new ≡ option_map (λ _. silent) (talk self.old) };
+        ensures fresh { talk self.new ≡ option_map (λ _. silent) (talk self.old) }
+        ensures same { world self.new ≡ world self.old }
+        ensures due { OnOk result (IfSome (world self.old) (λ _. due self.new ≡ Some (fresh host.now port))) };
 
     /// Sends all of these bytes.
     fn send(&mut self, bytes: &[u8]) -> Result<(), Fault>
@@ -37,7 +50,10 @@ pub trait Link: Drop {
         ensures quiet { OnOk result (faults self.new ≡ faults self.old) }
         ensures made { made self.new ≡ made self.old }
         ensures ends { ends self.new ≡ ends self.old }
-        ensures sent { OnOk result (talk self.new ≡ option_map (sends bytes.now) (talk self.old)) };
+        ensures sent { OnOk result (talk self.new ≡ option_map (sends bytes.now) (talk self.old)) }
+        ensures part { OnErr result (SendsPart bytes.now (talk self.old) (talk self.new)) }
+        ensures same { world self.new ≡ world self.old }
+        ensures owes { OnOk result (IfSome (world self.old) (λ entries. Owes entries bytes.now (due self.old) (due self.new))) };
 
     /// Receives bytes into the front of `out` and answers how many: 0 only where the peer has ended.
     fn receive(&mut self, out: &mut [u8]) -> Result<usize, Fault>
@@ -52,12 +68,17 @@ pub trait Link: Drop {
         ensures failed { OnErr result (ends self.new ≡ ends self.old) }
         ensures within { IfOk result (λ n. n ≤ length out.old) }
         ensures room { length out.new ≡ length out.old }
-        ensures received { IfOk result (λ n. talk self.new ≡ option_map (receives (take n out.new)) (talk self.old)) };
+        ensures received { IfOk result (λ n. talk self.new ≡ option_map (receives (take n out.new)) (talk self.old)) }
+        ensures part { OnErr result (ReceivesPart (talk self.old) (talk self.new)) }
+        ensures same { world self.new ≡ world self.old }
+        ensures came { IfOk result (λ n. IfSome (due self.old) (λ one. Came (take n out.new) one (due self.new))) };
 
     /// Closes the connection, if there is one. What was said on it stays as it was.
     fn close(&mut self)
         ensures faults { faults self.new ≡ faults self.old }
         ensures made { made self.new ≡ made self.old }
         ensures ends { ends self.new ≡ ends self.old }
-        ensures talk { talk self.new ≡ talk self.old };
+        ensures talk { talk self.new ≡ talk self.old }
+        ensures same { world self.new ≡ world self.old }
+        ensures due { due self.new ≡ due self.old };
 }

@@ -1,6 +1,6 @@
 //! Connections in memory: what their peers say is a script.
 ghost use Rattle.std.specs.Prelude.{◌≡◌, ◌<◌, ◌++◌, [], length, IfSome, IfNone};
-ghost use Rattle.acq_net.specs.ScriptLink.{bytes_of, first_of, later_of};
+ghost use Rattle.acq_net.specs.ScriptLink.{bytes_of, first_of, front_piece, later_of};
 
 use crate::Link;
 use acq_base::{Bytes, NoMemory, Row, Text};
@@ -19,11 +19,14 @@ struct Calls {
 }
 
 impl Calls {
-    ghost use Rattle.std.specs.Prelude.{◌≡◌, ◌≤◌, OnErr, OnOk};
+    ghost use Rattle.std.specs.Prelude.{◌≡◌, ◌≤◌, OnErr, OnOk, is_err};
     ghost use Rattle.acq_outside.specs.Count.{Rose};
+    ghost use Rattle.acq_net.specs.ScriptLink.{counted, is_listed, starved};
 
-    /// Counts a call, which is a fault where its number is listed.
+    /// Counts a call, which is a fault exactly where its number is listed.
     fn call(&mut self) -> Result<(), Fault>
+        ensures answer { is_err result ≡ is_listed self.old }
+        ensures after { self.new ≡ counted self.old }
         ensures count { self.old.faults ≤ self.new.faults }
         ensures fault { OnErr result (Rose self.old.faults self.new.faults) }
         ensures quiet { OnOk result (self.new.faults ≡ self.old.faults) }
@@ -38,6 +41,7 @@ impl Calls {
 
     /// Counts a fault by want of memory.
     fn run_dry(&mut self) -> Fault
+        ensures after { self.new ≡ starved self.old }
         ensures count { self.old.faults ≤ self.new.faults }
         ensures fault { Rose self.old.faults self.new.faults }
     {
@@ -64,9 +68,9 @@ pub struct ScriptLink {
 }
 
 impl ScriptLink {
-    ghost use Rattle.std.specs.Prelude.{◌≡◌, ◌<◌, ◌≤◌, ◌++◌, [], length, take, IfOk};
-    ghost use Rattle.acq_net.specs.ScriptLink.{talk_of, made_of, ends_of, calls_of, due, waiting};
-    ghost use Rattle.acq_net.specs.Talk.{silent, receives};
+    ghost use Rattle.std.specs.Prelude.{◌≡◌, ◌<◌, ◌≤◌, ◌++◌, [], length, min, take, IfOk, OnErr, Some};
+    ghost use Rattle.acq_net.specs.ScriptLink.{talk_of, made_of, ends_of, calls_of, fresh_calls, to_come, waiting};
+    ghost use Rattle.acq_net.specs.Talk.{receives, silent};
 
     /// A link whose n-th connection has the n-th row of pieces; the rows past the last are empty. `failing` holds the
     /// numbers of its calls of `connect`, `send` and `receive` that are to fail, counted together from 1.
@@ -74,7 +78,8 @@ impl ScriptLink {
         ensures talk { talk_of result ≡ silent }
         ensures made { made_of result ≡ 0 }
         ensures ends { ends_of result ≡ 0 }
-        ensures due { due result ≡ [] }
+        ensures calls { calls_of result ≡ fresh_calls failing }
+        ensures to_come { to_come result ≡ [] }
         ensures waiting { waiting result ≡ connections }
     {
         ScriptLink {
@@ -130,8 +135,10 @@ impl ScriptLink {
         ensures calls { calls_of self.new ≡ calls_of self.old }
         ensures counts { (made_of self.new ≡ made_of self.old) × (ends_of self.new ≡ ends_of self.old) }
         ensures some { IfOk result (λ n. (0 < n) × (n ≤ length out.old)) }
+        ensures all { IfOk result (λ n. n ≡ min (length piece) (length out.old)) }
         ensures talk { IfOk result (λ n. talk_of self.new ≡ receives (take n out.new) (talk_of self.old)) }
-        ensures due { IfOk result (λ n. piece ++ due self.old ≡ take n out.new ++ due self.new) }
+        ensures failed { OnErr result (talk_of self.new ≡ talk_of self.old) }
+        ensures to_come { IfOk result (λ n. piece ++ to_come self.old ≡ take n out.new ++ to_come self.new) }
     {
         let n = piece.len().min(out.len());
         let (front, rest) = piece.as_slice().split_at(n);
@@ -146,10 +153,11 @@ impl ScriptLink {
 }
 
 impl Link for ScriptLink {
-    ghost use Rattle.std.specs.Prelude.{◌≡◌, ◌≢◌, ◌<◌, ◌≤◌, ◌++◌, [], length, take, Some, IfOk, OnOk, OnErr};
+    ghost use Rattle.std.specs.Prelude.{◌≡◌, ◌≢◌, ◌<◌, ◌≤◌, ◌++◌, [], length, min, take, None, Some, IfOk, OnOk, OnErr, is_err};
     ghost use Rattle.acq_outside.specs.Count.{Rose};
-    ghost use Rattle.acq_net.specs.Talk.{silent, sends, receives};
-    ghost use Rattle.acq_net.specs.ScriptLink.{talk_of, made_of, ends_of, calls_of, due, waiting, bytes_of, first_of, later_of};
+    ghost use Rattle.acq_net.specs.Talk.{ReceivesPart, SendsPart, receives, sends, silent};
+    ghost use Rattle.acq_net.specs.ScriptLink.{talk_of, made_of, ends_of, calls_of, to_come, waiting, bytes_of, first_of, later_of};
+    ghost use Rattle.acq_net.specs.ScriptLink.{FailsAsListed, FailsDryAlone, counted, is_listed, next_piece};
 
     ghost faults = { λ link. (calls_of link).faults };
 
@@ -158,6 +166,10 @@ impl Link for ScriptLink {
     ghost ends = { ends_of };
 
     ghost talk = { λ link. Some (talk_of link) };
+
+    ghost world = { λ _. None };
+
+    ghost due = { λ _. None };
 
     fn connect(&mut self, _host: &Text, _port: u16) -> Result<(), Fault>
         ensures count { (calls_of self.old).faults ≤ (calls_of self.new).faults }
@@ -168,9 +180,11 @@ impl Link for ScriptLink {
         ensures ends { ends_of self.new ≡ ends_of self.old }
         ensures fresh { Some (talk_of self.new) ≡ Some silent }
 
-        // The peer of each connection has the next row.
-        ensures due { due self.new ≡ bytes_of (first_of (waiting self.old)) }
+        // The peer of each connection has the next row. A listed call fails, and no other one does.
+        ensures to_come { to_come self.new ≡ bytes_of (first_of (waiting self.old)) }
         ensures waiting { waiting self.new ≡ later_of (waiting self.old) }
+        ensures listed { is_err result ≡ is_listed (calls_of self.old) }
+        ensures counted { calls_of self.new ≡ counted (calls_of self.old) }
     {
         self.made = self.made.saturating_add(1);
         self.sent = Bytes::new(self.alloc);
@@ -187,8 +201,13 @@ impl Link for ScriptLink {
         ensures made { made_of self.new ≡ made_of self.old }
         ensures ends { ends_of self.new ≡ ends_of self.old }
         ensures sent { OnOk result (Some (talk_of self.new) ≡ Some (sends bytes.now (talk_of self.old))) }
-        ensures due { due self.new ≡ due self.old }
+        ensures part { OnErr result (SendsPart bytes.now (Some (talk_of self.old)) (Some (talk_of self.new))) }
+
+        // A listed call fails, and another one for want of memory alone.
+        ensures to_come { to_come self.new ≡ to_come self.old }
         ensures waiting { waiting self.new ≡ waiting self.old }
+        ensures listed { FailsAsListed (calls_of self.old) (calls_of self.new) result }
+        ensures others { FailsDryAlone (calls_of self.old) (calls_of self.new) result }
     {
         self.calls.call()?;
         match self.sent.append(bytes) {
@@ -210,10 +229,15 @@ impl Link for ScriptLink {
         ensures within { IfOk result (λ n. n ≤ length out.old) }
         ensures room { length out.new ≡ length out.old }
         ensures received { IfOk result (λ n. Some (talk_of self.new) ≡ Some (receives (take n out.new) (talk_of self.old))) }
+        ensures part { OnErr result (ReceivesPart (Some (talk_of self.old)) (Some (talk_of self.new))) }
 
-        // The bytes come in order, and the end behind the last of them.
-        ensures due { IfOk result (λ n. due self.old ≡ take n out.new ++ due self.new) }
-        ensures ended { IfOk result (λ n. n ≡ 0 → due self.old ≡ []) }
+        // The bytes come in order, as many of one piece as there is room for, and the end behind the last of them. A listed
+        // call fails, and another one for want of memory alone.
+        ensures to_come { IfOk result (λ n. to_come self.old ≡ take n out.new ++ to_come self.new) }
+        ensures ended { IfOk result (λ n. n ≡ 0 → to_come self.old ≡ []) }
+        ensures piece { IfOk result (λ n. n ≡ min (length (next_piece self.old)) (length out.old)) }
+        ensures listed { FailsAsListed (calls_of self.old) (calls_of self.new) result }
+        ensures others { FailsDryAlone (calls_of self.old) (calls_of self.new) result }
     {
         self.calls.call()?;
         let Some(piece) = next_piece(&mut self.pieces) else {
@@ -243,9 +267,10 @@ fn next_row(alloc: Global, rows: &mut Vec<Row<Bytes>>) -> Vec<Bytes>
 
 /// Takes the first piece out that has a byte.
 fn next_piece(pieces: &mut Vec<Bytes>) -> Option<Bytes>
-    ensures some { IfSome result (λ piece. 0 < length piece) }
+    ensures some { IfSome result (λ piece. (0 < length piece) × (piece ≡ front_piece pieces.old.items)) }
     ensures bytes { IfSome result (λ piece. bytes_of pieces.old.items ≡ piece ++ bytes_of pieces.new.items) }
     ensures none { IfNone result ((bytes_of pieces.old.items ≡ []) × (bytes_of pieces.new.items ≡ [])) }
+    ensures no_piece { IfNone result (front_piece pieces.old.items ≡ []) }
 {
     while !pieces.is_empty() {
         let piece = pieces.remove(0);

@@ -63,6 +63,10 @@ impl<R: Net<Stream = TcpStream> + Drop> Link for TcpLink<R> {
 
     ghost talk = { λ _. None };
 
+    ghost world = { λ _. None };
+
+    ghost due = { λ _. None };
+
     fn connect(&mut self, host: &Text, port: u16) -> Result<(), Fault> {
         self.made = self.made.saturating_add(1);
         self.stream = None;

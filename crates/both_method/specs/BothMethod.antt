@@ -6,6 +6,7 @@ use Rattle.acq_base.specs.declared.uri.Scheme.TheVariants.{Http, File}
 use Rattle.acq_base.specs.Mirror.{World}
 use Rattle.acq_base.specs.Uri.{scheme_index}
 use Rattle.acq_outside.specs.Count.{one_more}
+use Rattle.acq_outside.specs.declared.method.Method.{Ghosts}
 use Rattle.acq_outside.specs.declared.word.Fetch.{Fetch}
 use Rattle.acq_outside.specs.declared.word.Word.{Word}
 use Rattle.acq_outside.specs.declared.word.Word.TheVariants.{Other}
@@ -57,3 +58,27 @@ pub record IsTheirs (their_before their_after : ℕ) (world : Option World) (fet
   pub is : IsWord their_before their_after world fetch under their
   pub same : word ≡ own_word before after their
   pub counted : after ≡ own_count before their
+
+-- ---- over the two methods
+
+-- the mirror that is told
+abbrev pub world_of : {F H : Type 0} → Ghosts F → Ghosts H → BothState F H → Option World
+world_of f h method = joined (f.world method.files) (h.world method.peers)
+
+-- the fetch under way
+abbrev pub fetch_of : {F H : Type 0} → Ghosts F → Ghosts H → BothState F H → Option Fetch
+fetch_of f h method = under_of method.turn (f.under method.files) (h.under method.peers)
+
+-- a word to a fetch, told of both mirrors
+abbrev pub IsBothWord : {F H : Type 0} → Ghosts F → Ghosts H → BothState F H → BothState F H → Fetch → Word → Type 0
+IsBothWord f h before after fetch word = IsWord before.faults after.faults (world_of f h before) fetch (fetch_of f h after) word
+
+-- the word of the method for `file` URIs, whose fault tells the count of the method of two
+abbrev pub IsFilesWord : {F H : Type 0} → Ghosts F → BothState F H → BothState F H → Fetch → Word → Type 0
+IsFilesWord f before after fetch word =
+    IsTheirs (f.faults before.files) (f.faults after.files) (f.world before.files) fetch (f.under after.files) before.faults after.faults word
+
+-- the word of the method for `http` URIs
+abbrev pub IsPeersWord : {F H : Type 0} → Ghosts H → BothState F H → BothState F H → Fetch → Word → Type 0
+IsPeersWord h before after fetch word =
+    IsTheirs (h.faults before.peers) (h.faults after.peers) (h.world before.peers) fetch (h.under after.peers) before.faults after.faults word

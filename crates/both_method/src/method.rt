@@ -51,14 +51,14 @@ impl<F: Method, H: Method> Method for BothMethod<F, H> {
     ghost use Rattle.std.specs.Prelude.{◌≡◌, ◌≤◌, IfSome, IsSome, Some};
     ghost use Rattle.acq_base.specs.declared.uri.Scheme.TheVariants.{File, Http};
     ghost use Rattle.acq_base.specs.Uri.{IsSound};
-    ghost use Rattle.acq_outside.specs.Word.{CanBegin, IsSoundWord, IsWord, begun};
-    ghost use Rattle.both_method.specs.BothMethod.{IsTheirs, joined, under_of};
+    ghost use Rattle.acq_outside.specs.Word.{CanBegin, IsSoundWord, begun};
+    ghost use Rattle.both_method.specs.BothMethod.{IsBothWord, IsFilesWord, IsPeersWord, fetch_of, world_of};
 
     ghost faults = { λ method. method.faults };
 
-    ghost world = { λ method. joined (F.world method.files) (H.world method.peers) };
+    ghost world = { world_of F.Method H.Method };
 
-    ghost under = { λ method. under_of method.turn (F.under method.files) (H.under method.peers) };
+    ghost under = { fetch_of F.Method H.Method };
 
     fn faults(&self) -> u64 {
         self.faults
@@ -70,13 +70,13 @@ impl<F: Method, H: Method> Method for BothMethod<F, H> {
         requires sound { IsSound job.now.uri }
         requires from { CanBegin job.now }
         ensures count { self.old.faults ≤ self.new.faults }
-        ensures same { joined (F.world self.new.files) (H.world self.new.peers) ≡ joined (F.world self.old.files) (H.world self.old.peers) }
+        ensures same { world_of F.Method H.Method self.new ≡ world_of F.Method H.Method self.old }
         ensures sound { IsSoundWord result }
-        ensures word { IsWord self.old.faults self.new.faults (joined (F.world self.old.files) (H.world self.old.peers)) (begun job.now) (under_of self.new.turn (F.under self.new.files) (H.under self.new.peers)) result }
+        ensures word { IsBothWord F.Method H.Method self.old self.new (begun job.now) result }
         ensures turn { self.new.turn ≡ Some job.now.uri.scheme }
-        ensures file { job.now.uri.scheme ≡ File → IsTheirs (F.faults self.old.files) (F.faults self.new.files) (F.world self.old.files) (begun job.now) (F.under self.new.files) self.old.faults self.new.faults result }
+        ensures file { job.now.uri.scheme ≡ File → IsFilesWord F.Method self.old self.new (begun job.now) result }
         ensures no_peer { job.now.uri.scheme ≡ File → self.new.peers ≡ self.old.peers }
-        ensures http { job.now.uri.scheme ≡ Http → IsTheirs (H.faults self.old.peers) (H.faults self.new.peers) (H.world self.old.peers) (begun job.now) (H.under self.new.peers) self.old.faults self.new.faults result }
+        ensures http { job.now.uri.scheme ≡ Http → IsPeersWord H.Method self.old self.new (begun job.now) result }
         ensures no_file { job.now.uri.scheme ≡ Http → self.new.files ≡ self.old.files }
     {
         self.turn = Some(job.uri.scheme);
@@ -93,15 +93,15 @@ impl<F: Method, H: Method> Method for BothMethod<F, H> {
     }
 
     fn more(&mut self, alloc: Global) -> Word
-        requires { IsSome (under_of self.old.turn (F.under self.old.files) (H.under self.old.peers)) }
+        requires { IsSome (fetch_of F.Method H.Method self.old) }
         ensures count { self.old.faults ≤ self.new.faults }
-        ensures same { joined (F.world self.new.files) (H.world self.new.peers) ≡ joined (F.world self.old.files) (H.world self.old.peers) }
+        ensures same { world_of F.Method H.Method self.new ≡ world_of F.Method H.Method self.old }
         ensures sound { IsSoundWord result }
-        ensures word { IfSome (under_of self.old.turn (F.under self.old.files) (H.under self.old.peers)) (λ fetch. IsWord self.old.faults self.new.faults (joined (F.world self.old.files) (H.world self.old.peers)) fetch (under_of self.new.turn (F.under self.new.files) (H.under self.new.peers)) result) }
+        ensures word { IfSome (fetch_of F.Method H.Method self.old) (λ fetch. IsBothWord F.Method H.Method self.old self.new fetch result) }
         ensures turn { self.new.turn ≡ self.old.turn }
-        ensures file { self.old.turn ≡ Some File → IfSome (F.under self.old.files) (λ fetch. IsTheirs (F.faults self.old.files) (F.faults self.new.files) (F.world self.old.files) fetch (F.under self.new.files) self.old.faults self.new.faults result) }
+        ensures file { self.old.turn ≡ Some File → IfSome (F.under self.old.files) (λ fetch. IsFilesWord F.Method self.old self.new fetch result) }
         ensures no_peer { self.old.turn ≡ Some File → self.new.peers ≡ self.old.peers }
-        ensures http { self.old.turn ≡ Some Http → IfSome (H.under self.old.peers) (λ fetch. IsTheirs (H.faults self.old.peers) (H.faults self.new.peers) (H.world self.old.peers) fetch (H.under self.new.peers) self.old.faults self.new.faults result) }
+        ensures http { self.old.turn ≡ Some Http → IfSome (H.under self.old.peers) (λ fetch. IsPeersWord H.Method self.old self.new fetch result) }
         ensures no_file { self.old.turn ≡ Some Http → self.new.files ≡ self.old.files }
     {
         let Some(scheme) = self.turn else {

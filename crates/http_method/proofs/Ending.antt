@@ -1,5 +1,5 @@
 -- The last word to a fetch is what is heard of the bytes received since its request.
-use Rattle.std.proofs.Common.{◌≡◌, ◌≢◌, ◌∙◌, ◌⊎◌, ℕ, Bool, true, false, not, ◌&&◌, List, [], ◌∷◌, ◌++◌, Option, Some, None, IfSome, ⊎_elim, inl, inr, refl, sym, ap, subst, append-nil}
+use Rattle.std.proofs.Common.{◌≡◌, ◌≢◌, ◌∙◌, ◌⊎◌, ℕ, ◌+◌, ◌<◌, ◌≤◌, Bool, true, false, not, ◌&&◌, List, [], ◌∷◌, ◌++◌, Option, Some, None, IfSome, ⊎_elim, inl, inr, refl, sym, ap, subst, arith, length, append-nil, length-append}
 use Rattle.acq_base.specs.declared.fetch.Job.{Job}
 use Rattle.acq_base.specs.declared.fetch.Reply.{Reply}
 use Rattle.acq_base.specs.declared.fetch.Reply.TheVariants as replies
@@ -7,8 +7,9 @@ use Rattle.acq_base.specs.declared.uri.Uri.{Uri}
 use Rattle.acq_base.specs.Fetch.{IsSoundReply}
 use Rattle.acq_outside.specs.declared.word.Fetch.{Fetch}
 use Rattle.acq_outside.specs.declared.word.Word.{Word}
-use Rattle.acq_outside.specs.declared.word.Word.TheVariants.{Done, Other}
-use Rattle.acq_outside.specs.Word.{IsWord, IsSoundWord}
+use Rattle.acq_outside.specs.declared.word.Word.TheVariants.{Piece, Done, Other}
+use Rattle.acq_outside.specs.Word.{CanBegin, IsWord, IsSoundWord}
+use Rattle.acq_base.specs.Mirror.{World, answer_at}
 use Rattle.acq_net.specs.Talk.{Talk, is_none}
 use Rattle.http_wire.specs.declared.ending.Ending.{Ending}
 use Rattle.http_wire.specs.declared.ending.Ending.TheVariants.{Served, Absent, Moved, TooBig, Garbled}
@@ -22,31 +23,16 @@ use Rattle.http_method.specs.declared.reading.Behind.TheVariants.{Nothing, Bytes
 use Rattle.http_method.specs.declared.reading.Place.{Place}
 use Rattle.http_method.specs.declared.reading.Reading.{Reading}
 use Rattle.http_method.specs.declared.reading.Said.{Said}
-use Rattle.http_method.specs.Reading.{GivesOn, Goes, HearsSo, IsAsked, IsOpen, IsReading, IsServed, IsTold, IsKeptBehind, Keeps, Ends, Hears, Reads, SaysOn, StandsBehind, is_end, is_file, is_kept, keeps, kept_if, leaves_open, part_of, word_of}
-
--- one stream has one reading
-abbrev pub OneReading : Type 0
-OneReading = (max from : ℕ) (bytes : List ℕ) (ended : Bool) (a b : Heard) → IsHeard max from bytes ended a → IsHeard max from bytes ended b → a ≡ b
-
--- what has ended stays so, whatever follows
-abbrev pub Stays : Type 0
-Stays = (max from : ℕ) (bytes more : List ℕ) (x : Heard) → x.ending ≢ None → IsHeard max from bytes false x → IsHeard max from (bytes ++ more) false (followed x more)
-
--- a wire tells what is heard
-abbrev pub AllTell : Type 0
-AllTell = (w : WireState) (max from : ℕ) (given bytes : List ℕ) (ended : Bool) → Follows w max from given bytes ended → Tells w max from given bytes ended
+use Rattle.http_method.specs.Line.{Line}
+use Rattle.http_method.specs.Reading.{GivesOn, Goes, HearsSo, IsAsked, IsOpen, IsReading, IsServed, IsTold, IsKeptBehind, Keeps, Ends, Hears, Reads, SaysOn, StandsBehind, is_end, is_file, is_kept, keeps, kept_if, leaves_open, part_of, under_of, word_of}
+use Rattle.http_method.proofs.Received.{AllGrow, AllTell}
+use Rattle.http_method.proofs.Mirrors.{AllFit, AllRise, Means, OneReading, Stays, StaysAtEnd, ends_open, followed_none, means_dry, means_last, means_piece, piece_within, told_word}
 
 -- the reply is that of what is heard
 abbrev pub AllReply : Uri → WireState → Reply → Type 0
 AllReply uri w reply = (max from : ℕ) (given bytes : List ℕ) (ended : Bool) → Follows w max from given bytes ended → Replies uri w max from given bytes ended reply
 
 -- ---- what is heard of all bytes received
-
-followed_none : (x : Heard) → followed x [] ≡ x
-followed_none x = ap (λ r. with_rest r) (append-nil x.rest)
-  where
-    with_rest : List ℕ → Heard
-    with_rest r = record { ending = x.ending; start = x.start; body = x.body; rest = r }
 
 all_heard : (stays : Stays) (max from : ℕ) (bytes rest : List ℕ) (behind : Behind) (x : Heard) → StandsBehind behind rest → x.ending ≢ None → IsHeard max from bytes (is_end behind) x
     → IsHeard max from (bytes ++ rest) (is_end behind) (followed x rest)
@@ -124,13 +110,13 @@ answered one tells r given bytes reply over says follows =
           (says r.fetch.job.max r.fetch.job.from given bytes (is_end r.behind) follows);
     }
 
-told_later : (talk later : Option Talk) (before : Talk) (job : Job) (bytes : List ℕ) (ended : Bool) → later ≡ talk → IsAsked talk before job bytes ended → IsAsked later before job bytes ended
-told_later talk later before job bytes ended same told = subst (λ t. IsAsked t before job bytes ended) (sym same) told
+told_later : (line later : Line) (before : Talk) (job : Job) (bytes : List ℕ) (ended : Bool) → later ≡ line → IsAsked line before job bytes ended → IsAsked later before job bytes ended
+told_later line later before job bytes ended same told = subst (λ t. IsAsked t before job bytes ended) (sym same) told
 
 -- a whole file
-file_ends : (stays : Stays) (talk later : Option Talk) (r : Reading) (before : Talk) (given bytes : List ℕ) (reads : Reads talk r before given) → later ≡ talk → (IsDone (wire_state r.wire) → held r.wire ≡ [])
+file_ends : (stays : Stays) (line later : Line) (r : Reading) (before : Talk) (given bytes : List ℕ) (reads : Reads line r before given) → later ≡ line → (IsDone (wire_state r.wire) → held r.wire ≡ [])
     → Answer r given reads.bytes (replies.Served bytes) → Ends later r.fetch.job before given (Done r.fetch.at) (kept_if (is_kept r.behind (wire_state r.wire)) r.fetch.job.uri)
-file_ends stays talk later r before given bytes reads same all answer =
+file_ends stays line later r before given bytes reads same all answer =
     let t = answer.tells in
     let x = t.heard in
     let is : IsReply r.fetch.job.uri given x.ending x.body (replies.Served bytes) = ⊎_elim (λ (dry : replies.Served bytes ≡ replies.NoMemory). absurd (never dry)) (λ (found : IsReply r.fetch.job.uri given x.ending x.body (replies.Served bytes)). found) answer.is in
@@ -149,7 +135,7 @@ file_ends stays talk later r before given bytes reads same all answer =
       bytes = reads.bytes ++ reads.rest;
       ended = is_end r.behind;
       is = all_heard stays r.fetch.job.max r.fetch.job.from reads.bytes reads.rest r.behind x reads.stands answer.over t.is;
-      told = told_later talk later before r.fetch.job (reads.bytes ++ reads.rest) (is_end r.behind) same reads.told;
+      told = told_later line later before r.fetch.job (reads.bytes ++ reads.rest) (is_end r.behind) same reads.told;
       says = (subst IsServed (sym served.1) tt, body);
       keeps_is = ap (λ b. kept_if b r.fetch.job.uri) (sym opens);
     }
@@ -161,9 +147,9 @@ file_ends stays talk later r before given bytes reads same all answer =
     big_is keep e = cc
 
 -- anything else
-other_ends : (stays : Stays) (talk later : Option Talk) (r : Reading) (before : Talk) (given : List ℕ) (reply : Reply) (reads : Reads talk r before given) → later ≡ talk → is_file reply ≡ false → reply ≢ replies.NoMemory
+other_ends : (stays : Stays) (line later : Line) (r : Reading) (before : Talk) (given : List ℕ) (reply : Reply) (reads : Reads line r before given) → later ≡ line → is_file reply ≡ false → reply ≢ replies.NoMemory
     → Answer r given reads.bytes reply → Ends later r.fetch.job before given (Other reply) None
-other_ends stays talk later r before given reply reads same other wet answer =
+other_ends stays line later r before given reply reads same other wet answer =
     let t = answer.tells in
     let x = t.heard in
     let is : IsReply r.fetch.job.uri given x.ending x.body reply = ⊎_elim (λ (dry : reply ≡ replies.NoMemory). absurd (wet dry)) (λ (found : IsReply r.fetch.job.uri given x.ending x.body reply). found) answer.is in
@@ -173,7 +159,7 @@ other_ends stays talk later r before given reply reads same other wet answer =
       bytes = reads.bytes ++ reads.rest;
       ended = is_end r.behind;
       is = all_heard stays r.fetch.job.max r.fetch.job.from reads.bytes reads.rest r.behind x reads.stands answer.over t.is;
-      told = told_later talk later before r.fetch.job (reads.bytes ++ reads.rest) (is_end r.behind) same reads.told;
+      told = told_later line later before r.fetch.job (reads.bytes ++ reads.rest) (is_end r.behind) same reads.told;
       says = is;
       keeps_is = ap (λ b. kept_if (b && is_none (x.rest ++ reads.rest) && not (is_end r.behind)) r.fetch.job.uri) (sym shut);
     }
@@ -182,20 +168,23 @@ other_ends stays talk later r before given reply reads same other wet answer =
 abbrev pub last_said : Reading → Reply → Said
 last_said r reply = record { word = word_of r.fetch.at reply; kept = kept_if (is_file reply && is_kept r.behind (wire_state r.wire)) r.fetch.job.uri; reading = None }
 
-hears_last : (stays : Stays) (talk later : Option Talk) (r : Reading) (before : Talk) (given : List ℕ) (reply : Reply) (reads : Reads talk r before given) → later ≡ talk → (IsDone (wire_state r.wire) → held r.wire ≡ [])
-    → Answer r given reads.bytes reply → Hears later r.fetch.job before given (word_of r.fetch.at reply) (kept_if (is_file reply && is_kept r.behind (wire_state r.wire)) r.fetch.job.uri) None
-hears_last stays talk later r before given (replies.Served bytes) reads same all answer = file_ends stays talk later r before given bytes reads same all answer
-hears_last stays talk later r before given (replies.Moved place) reads same all answer = other_ends stays talk later r before given (replies.Moved place) reads same refl (λ e. cc) answer
-hears_last stays talk later r before given (replies.Absent status) reads same all answer = other_ends stays talk later r before given (replies.Absent status) reads same refl (λ e. cc) answer
-hears_last stays talk later r before given replies.TooBig reads same all answer = other_ends stays talk later r before given replies.TooBig reads same refl (λ e. cc) answer
-hears_last stays talk later r before given (replies.Garbled at) reads same all answer = other_ends stays talk later r before given (replies.Garbled at) reads same refl (λ e. cc) answer
-hears_last stays talk later r before given (replies.Fault a b) reads same all answer = tt
-hears_last stays talk later r before given replies.NoMemory reads same all answer = tt
+abbrev saying : Word → Option Place → Said
+saying word kept = record { word = word; kept = kept; reading = None }
 
-pub last_says : (one : OneReading) (stays : Stays) (tells : AllTell) (talk later : Option Talk) (r : Reading) (reply : Reply) → later ≡ talk → wire_state r.wire ≢ states.More → (IsDone (wire_state r.wire) → held r.wire ≡ [])
-    → AllReply r.fetch.job.uri r.wire reply → SaysOn talk r later (last_said r reply)
-last_says one stays tells talk later r reply same over all says = record {
-  is = λ before given reads. hears_last stays talk later r before given reply reads same all (answered one tells r given reads.bytes reply over says reads.follows);
+hears_last : (stays : Stays) (line later : Line) (r : Reading) (before : Talk) (given : List ℕ) (reply : Reply) (reads : Reads line r before given) → later ≡ line → (IsDone (wire_state r.wire) → held r.wire ≡ [])
+    → Answer r given reads.bytes reply → Hears later r.fetch.job before given (word_of r.fetch.at reply) (kept_if (is_file reply && is_kept r.behind (wire_state r.wire)) r.fetch.job.uri) None
+hears_last stays line later r before given (replies.Served bytes) reads same all answer = file_ends stays line later r before given bytes reads same all answer
+hears_last stays line later r before given (replies.Moved place) reads same all answer = other_ends stays line later r before given (replies.Moved place) reads same refl (λ e. cc) answer
+hears_last stays line later r before given (replies.Absent status) reads same all answer = other_ends stays line later r before given (replies.Absent status) reads same refl (λ e. cc) answer
+hears_last stays line later r before given replies.TooBig reads same all answer = other_ends stays line later r before given replies.TooBig reads same refl (λ e. cc) answer
+hears_last stays line later r before given (replies.Garbled at) reads same all answer = other_ends stays line later r before given (replies.Garbled at) reads same refl (λ e. cc) answer
+hears_last stays line later r before given (replies.Fault a b) reads same all answer = tt
+hears_last stays line later r before given replies.NoMemory reads same all answer = tt
+
+pub last_says : (one : OneReading) (stays : Stays) (tells : AllTell) (line later : Line) (r : Reading) (reply : Reply) → later ≡ line → wire_state r.wire ≢ states.More → (IsDone (wire_state r.wire) → held r.wire ≡ [])
+    → AllReply r.fetch.job.uri r.wire reply → SaysOn line r later (last_said r reply)
+last_says one stays tells line later r reply same over all says = record {
+  is = λ before given reads. hears_last stays line later r before given reply reads same all (answered one tells r given reads.bytes reply over says reads.follows);
 }
 
 told_last : (n at : ℕ) (fetch : Fetch) (reply : Reply) → at ≡ fetch.at → ((a b : ℕ) → reply ≡ replies.Fault a b → ⊥) → IsWord n n None fetch None (word_of at reply)
@@ -207,17 +196,33 @@ told_last n at fetch (replies.Garbled place) same never = record { counted = ref
 told_last n at fetch (replies.Fault a b) same never = absurd (never a b refl)
 told_last n at fetch replies.NoMemory same never = record { counted = refl; ended = refl; told = tt }
 
-pub last_told : (one : OneReading) (tells : AllTell) (talk : Option Talk) (r : Reading) (reply : Reply) → IsReading talk r → wire_state r.wire ≢ states.More → AllReply r.fetch.job.uri r.wire reply → IsTold r.fetch (last_said r reply)
-last_told one tells talk r reply is over says = record {
-  is = λ n. told_last n r.fetch.at r.fetch reply refl (λ a b e.
-      let answer = answered one tells r is.given is.reads.bytes reply over says is.reads.follows in
-      let x = answer.tells.heard in
-      ⊎_elim (λ (dry : reply ≡ replies.NoMemory). fault_dry a b (sym e ∙ dry))
-      (λ (found : IsReply r.fetch.job.uri is.given x.ending x.body reply). no_fault x.ending r.fetch.job.uri is.given x.body a b (subst (λ y. IsReply r.fetch.job.uri is.given x.ending x.body y) e found)) answer.is);
-}
+last_untold : (one : OneReading) (tells : AllTell) (line : Line) (r : Reading) (reply : Reply) (n : ℕ) → IsReading line r [] → wire_state r.wire ≢ states.More → AllReply r.fetch.job.uri r.wire reply → IsWord n n None r.fetch None (word_of r.fetch.at reply)
+last_untold one tells line r reply n is over says =
+    told_last n r.fetch.at r.fetch reply refl (λ a b e.
+    let answer = answered one tells r (is.given ++ []) is.reads.bytes reply over says is.reads.follows in
+    let x = answer.tells.heard in
+    ⊎_elim (λ (dry : reply ≡ replies.NoMemory). fault_dry a b (sym e ∙ dry))
+    (λ (found : IsReply r.fetch.job.uri (is.given ++ []) x.ending x.body reply). no_fault x.ending r.fetch.job.uri (is.given ++ []) x.body a b (subst (λ y. IsReply r.fetch.job.uri (is.given ++ []) x.ending x.body y) e found)) answer.is)
   where
     fault_dry : (a b : ℕ) → replies.Fault a b ≡ replies.NoMemory → ⊥
     fault_dry a b e = cc
+
+-- what is heard last of a reading
+last_hears : (one : OneReading) (stays : Stays) (tells : AllTell) (line later : Line) (r : Reading) (reply : Reply) → later ≡ line → (is : IsReading line r []) → wire_state r.wire ≢ states.More → (IsDone (wire_state r.wire) → held r.wire ≡ [])
+    → AllReply r.fetch.job.uri r.wire reply → Hears later r.fetch.job is.before is.given (last_said r reply).word (last_said r reply).kept None
+last_hears one stays tells line later r reply same is over all says =
+    (last_says one stays tells line later r reply same over all says).is is.before is.given (subst (λ g. Reads line r is.before g) (append-nil is.given) is.reads)
+
+last_told : (one : OneReading) (stays : Stays) (till : StaysAtEnd) (tells : AllTell) (line later : Line) (r : Reading) (reply : Reply) → later ≡ line → IsReading line r [] → wire_state r.wire ≢ states.More → (IsDone (wire_state r.wire) → held r.wire ≡ [])
+    → AllReply r.fetch.job.uri r.wire reply → IsTold line.world r.fetch (last_said r reply)
+last_told one stays till tells line later r reply same is over all says = record {
+  is = λ n.
+      let untold = last_untold one tells line r reply n is over says in
+      let hears = last_hears one stays tells line later r reply same is over all says in
+      told_word n n line.world r.fetch None (word_of r.fetch.at reply) untold
+      (subst (λ (l : Line). IfSome l.world (λ entries. Means (answer_at entries r.fetch.job.uri) r.fetch (word_of r.fetch.at reply))) same
+      (means_last one stays till later r.fetch is.before is.given (word_of r.fetch.at reply) (last_said r reply).kept n is.can is.place untold hears));
+}
 
 pub last_sound : (at : ℕ) (reply : Reply) → IsSoundReply reply → IsSoundWord (word_of at reply)
 last_sound at (replies.Served bytes) sound = tt
@@ -228,30 +233,22 @@ last_sound at (replies.Garbled place) sound = sound
 last_sound at (replies.Fault a b) sound = sound
 last_sound at replies.NoMemory sound = sound
 
--- what is kept was not ended
-open_asked : (talk : Option Talk) (before : Talk) (job : Job) (bytes : List ℕ) (ended : Bool) → ended ≡ false → IsAsked talk before job bytes ended → IsOpen talk
-open_asked None before job bytes ended false_is told = tt
-open_asked (Some talk) before job bytes ended false_is told = ap (λ (t : Talk). t.ended) told ∙ false_is
+-- what is kept is open
+keeps_last : (one : OneReading) (stays : Stays) (till : StaysAtEnd) (line : Line) (job : Job) (before : Talk) (given : List ℕ) (at : ℕ) (reply : Reply) (keep : Bool) → CanBegin job
+    → Hears line job before given (word_of at reply) (kept_if (is_file reply && keep) job.uri) None → IfSome (kept_if (is_file reply && keep) job.uri) (IsOpen line)
+keeps_last one stays till line job before given at (replies.Served bytes) keep can hears = ends_open one stays till line job before given (Done at) (kept_if keep job.uri) can hears
+keeps_last one stays till line job before given at (replies.Moved place) keep can hears = tt
+keeps_last one stays till line job before given at (replies.Absent status) keep can hears = tt
+keeps_last one stays till line job before given at replies.TooBig keep can hears = tt
+keeps_last one stays till line job before given at (replies.Garbled place) keep can hears = tt
+keeps_last one stays till line job before given at (replies.Fault a b) keep can hears = tt
+keeps_last one stays till line job before given at replies.NoMemory keep can hears = tt
 
-not_ended : (behind : Behind) (state : State) → is_kept behind state ≡ true → is_end behind ≡ false
-not_ended Nothing state kept = refl
-not_ended Bytes state kept = refl
-not_ended End state kept = absurd cc
-
-kept_open : (later : Option Talk) (uri : Uri) (flag : Bool) → (flag ≡ true → IsOpen later) → IfSome (kept_if flag uri) (λ place. IsOpen later)
-kept_open later uri true opens = opens refl
-kept_open later uri false opens = tt
-
-second_of : (a b : Bool) → a && b ≡ true → b ≡ true
-second_of true b both = both
-second_of false b both = absurd cc
-
-pub last_keeps : (talk later : Option Talk) (r : Reading) (reply : Reply) → later ≡ talk → IsReading talk r → Keeps later (last_said r reply).kept None
-last_keeps talk later r reply same is = record {
+last_keeps : (one : OneReading) (stays : Stays) (till : StaysAtEnd) (tells : AllTell) (line later : Line) (r : Reading) (reply : Reply) → later ≡ line → IsReading line r [] → wire_state r.wire ≢ states.More → (IsDone (wire_state r.wire) → held r.wire ≡ [])
+    → AllReply r.fetch.job.uri r.wire reply → Keeps later (last_said r reply).kept None
+last_keeps one stays till tells line later r reply same is over all says = record {
   reads = tt;
-  open_is = kept_open later r.fetch.job.uri (is_file reply && is_kept r.behind (wire_state r.wire))
-      (λ kept. open_asked later is.before r.fetch.job (is.reads.bytes ++ is.reads.rest) (is_end r.behind) (not_ended r.behind (wire_state r.wire) (second_of (is_file reply) (is_kept r.behind (wire_state r.wire)) kept))
-      (told_later talk later is.before r.fetch.job (is.reads.bytes ++ is.reads.rest) (is_end r.behind) same is.reads.told));
+  open_is = keeps_last one stays till later r.fetch.job is.before is.given r.fetch.at reply (is_kept r.behind (wire_state r.wire)) is.can (last_hears one stays tells line later r reply same is over all says);
   one = λ some. absurd cc;
 }
 
@@ -264,34 +261,93 @@ last_behind at (replies.Garbled place) keep uri = refl
 last_behind at (replies.Fault a b) keep uri = refl
 last_behind at replies.NoMemory keep uri = refl
 
-pub finish_says : (one : OneReading) (stays : Stays) (tells : AllTell) (talk later : Option Talk) (r : Reading) (reply : Reply) (word : Word) (kept : Option Place) (file keep : Bool) (state : State)
-    → word ≡ word_of r.fetch.at reply → kept ≡ kept_if (file && keep) r.fetch.job.uri → file ≡ is_file reply → keep ≡ is_kept r.behind state → state ≡ wire_state r.wire
-    → later ≡ talk → wire_state r.wire ≢ states.More → (IsDone (wire_state r.wire) → held r.wire ≡ []) → AllReply r.fetch.job.uri r.wire reply → SaysOn talk r later (record { word = word; kept = kept; reading = None })
-finish_says one stays tells talk later r reply word kept file keep state word_is kept_is file_is keep_is state_is same over all says =
+-- the last word by what was asked of the wire
+said_last : (r : Reading) (reply : Reply) (word : Word) (kept : Option Place) (file keep : Bool) (state : State) → word ≡ word_of r.fetch.at reply → kept ≡ kept_if (file && keep) r.fetch.job.uri → file ≡ is_file reply → keep ≡ is_kept r.behind state
+    → state ≡ wire_state r.wire → last_said r reply ≡ saying word kept
+said_last r reply word kept file keep state word_is kept_is file_is keep_is state_is =
     let flag : file && keep ≡ is_file reply && is_kept r.behind (wire_state r.wire) = ap (λ b. b && keep) file_is ∙ ap (λ b. is_file reply && b) (keep_is ∙ ap (is_kept r.behind) state_is) in
-    let P : Word → Type 0 = λ w. SaysOn talk r later (record { word = w; kept = kept; reading = None }) in
-    let Q : Option Place → Type 0 = λ k. SaysOn talk r later (record { word = word_of r.fetch.at reply; kept = k; reading = None }) in
-    subst P (sym word_is) (subst Q (sym (kept_is ∙ ap (λ b. kept_if b r.fetch.job.uri) flag)) (last_says one stays tells talk later r reply same over all says))
+    ap (λ w. saying w (last_said r reply).kept) (sym word_is) ∙ ap (saying word) (sym (kept_is ∙ ap (λ b. kept_if b r.fetch.job.uri) flag))
+
+pub record Last (line later : Line) (r : Reading) (said : Said) : Type 0 where
+  pub says : SaysOn line r later said
+  pub told : IsTold line.world r.fetch said
+  pub keeps : Keeps later said.kept None
+
+pub finish_all : (one : OneReading) (stays : Stays) (till : StaysAtEnd) (tells : AllTell) (line later : Line) (r : Reading) (reply : Reply) (word : Word) (kept : Option Place) (file keep : Bool) (state : State)
+    → word ≡ word_of r.fetch.at reply → kept ≡ kept_if (file && keep) r.fetch.job.uri → file ≡ is_file reply → keep ≡ is_kept r.behind state → state ≡ wire_state r.wire
+    → later ≡ line → IsReading line r [] → wire_state r.wire ≢ states.More → (IsDone (wire_state r.wire) → held r.wire ≡ []) → AllReply r.fetch.job.uri r.wire reply → Last line later r (record { word = word; kept = kept; reading = None })
+finish_all one stays till tells line later r reply word kept file keep state word_is kept_is file_is keep_is state_is same is over all says =
+    subst (Last line later r) (said_last r reply word kept file keep state word_is kept_is file_is keep_is state_is) (record {
+      says = last_says one stays tells line later r reply same over all says;
+      told = last_told one stays till tells line later r reply same is over all says;
+      keeps = last_keeps one stays till tells line later r reply same is over all says;
+    })
 
 -- ---- what is said of a reading that gave bytes out
 
-pub part_gives : (talk : Option Talk) (r : Reading) (bytes : List ℕ) (said : Said) → said ≡ part_of r bytes → GivesOn talk r talk bytes said
-part_gives talk r bytes said is = subst (λ s. GivesOn talk r talk bytes s) (sym is) (record {
+pub part_gives : (line : Line) (r : Reading) (bytes : List ℕ) (said : Said) → said ≡ part_of r bytes → GivesOn line r line bytes said
+part_gives line r bytes said is = subst (λ s. GivesOn line r line bytes s) (sym is) (record {
   is = λ before given reads. (refl, record { bytes = reads.bytes; rest = reads.rest; follows = reads.follows; stands = reads.stands; told = reads.told });
 })
 
-pub says_gives : (talk later : Option Talk) (r : Reading) (bytes : List ℕ) (said : Said) → bytes ≡ [] → SaysOn talk r later said → GivesOn talk r later bytes said
-says_gives talk later r bytes said none says = record {
-  is = λ before given reads. says.is before given (subst (λ g. Reads talk r before g) (ap (λ b. given ++ b) none ∙ append-nil given) reads);
+part_untold : (r : Reading) (bytes : List ℕ) (n : ℕ) → 0 < length bytes → length bytes ≤ 65536 → r.fetch.at + length bytes ≤ r.fetch.job.max → IsWord n n None r.fetch (under_of (part_of r bytes).reading) (Piece r.fetch.at bytes)
+part_untold r bytes n some small within = record { quiet = refl; goes_on = refl; nonempty = (omega (arith, some)); small = small; within = within; under_way = refl; told = tt }
+
+pub part_told : (one : OneReading) (tells : AllTell) (fit : AllFit) (grow : AllGrow) (rise : AllRise) (line : Line) (r : Reading) (bytes : List ℕ) (said : Said) → said ≡ part_of r bytes → IsReading line r bytes → 0 < length bytes → length bytes ≤ 65536
+    → wire_state r.wire ≢ states.TooBig → IsTold line.world r.fetch said
+part_told one tells fit grow rise line r bytes said said_is is some small fits = subst (IsTold line.world r.fetch) (sym said_is) (record {
+  is = λ n. told_word n n line.world r.fetch (under_of (part_of r bytes).reading) (Piece r.fetch.at bytes)
+      (part_untold r bytes n some small (piece_within tells fit line r bytes is some fits)) (means_piece one tells fit grow rise line r bytes is some fits);
+})
+
+part_is : (line : Line) (r : Reading) (bytes : List ℕ) → IsReading line r bytes → IsReading line (record { fetch = record { job = r.fetch.job; at = r.fetch.at + length bytes }; wire = r.wire; behind = r.behind }) []
+part_is line r bytes is = record {
+  before = is.before;
+  given = is.given ++ bytes;
+  reads = record {
+    bytes = is.reads.bytes;
+    rest = is.reads.rest;
+    follows = subst (λ g. Follows r.wire r.fetch.job.max r.fetch.job.from g is.reads.bytes (is_end r.behind)) (sym (append-nil (is.given ++ bytes))) is.reads.follows;
+    stands = is.reads.stands;
+    told = is.reads.told;
+  };
+  place = (let at = is.place in let both = length-append is.given bytes in let e : r.fetch.at + length bytes ≡ r.fetch.job.from + length (is.given ++ bytes) = omega (arith, at, both) in e);
+  can = is.can;
+  sound = is.sound;
+  going = is.going;
+  small = is.small;
 }
 
-pub dry_gives : (talk later : Option Talk) (r : Reading) (bytes : List ℕ) (said : Said) → said.word ≡ Other replies.NoMemory → GivesOn talk r later bytes said
-dry_gives talk later r bytes said dry = record { is = λ before given reads. subst (λ w. Hears later r.fetch.job before given w said.kept said.reading) (sym dry) tt }
+pub part_keeps : (line : Line) (r : Reading) (bytes : List ℕ) (said : Said) → said ≡ part_of r bytes → IsReading line r bytes → Keeps line said.kept said.reading
+part_keeps line r bytes said said_is is = subst (λ (s : Said). Keeps line s.kept s.reading) (sym said_is) (record { reads = part_is line r bytes is; open_is = tt; one = λ some. refl })
 
-pub dry_says : (talk later : Option Talk) (r : Reading) (said : Said) → said.word ≡ Other replies.NoMemory → SaysOn talk r later said
-dry_says talk later r said dry = record { is = λ before given reads. subst (λ w. Hears later r.fetch.job before given w said.kept said.reading) (sym dry) tt }
+pub dry_told : (world : Option World) (fetch : Fetch) (said : Said) → said.word ≡ Other replies.NoMemory → said.reading ≡ None → IsTold world fetch said
+dry_told world fetch said dry none = record {
+  is = λ n.
+      let P : Option Reading → Type 0 = λ o. IsWord n n world fetch (under_of o) said.word in
+      let Q : Word → Type 0 = λ w. IsWord n n world fetch None w in
+      let empty : IsWord n n None fetch None (Other replies.NoMemory) = record { counted = refl; ended = refl; told = tt } in
+      subst P (sym none) (subst Q (sym dry) (told_word n n world fetch None (Other replies.NoMemory) empty (means_dry world fetch)));
+}
 
-pub goes_says : (talk middle later : Option Talk) (r next : Reading) (bytes : List ℕ) (said : Said) → Goes talk r middle next bytes → next.fetch ≡ r.fetch → GivesOn middle next later bytes said → SaysOn talk r later said
-goes_says talk middle later r next bytes said goes same gives = record {
+pub dry_keeps : (line : Line) (said : Said) → said.kept ≡ None → said.reading ≡ None → Keeps line said.kept said.reading
+dry_keeps line said kept reading =
+    let P : Option Place → Type 0 = λ k. Keeps line k said.reading in
+    let Q : Option Reading → Type 0 = λ o. Keeps line None o in
+    subst P (sym kept) (subst Q (sym reading) (record { reads = tt; open_is = tt; one = λ some. refl }))
+
+pub says_gives : (line later : Line) (r : Reading) (bytes : List ℕ) (said : Said) → bytes ≡ [] → SaysOn line r later said → GivesOn line r later bytes said
+says_gives line later r bytes said none says = record {
+  is = λ before given reads. says.is before given (subst (λ g. Reads line r before g) (ap (λ b. given ++ b) none ∙ append-nil given) reads);
+}
+
+pub dry_gives : (line later : Line) (r : Reading) (bytes : List ℕ) (said : Said) → said.word ≡ Other replies.NoMemory → GivesOn line r later bytes said
+dry_gives line later r bytes said dry = record { is = λ before given reads. subst (λ w. Hears later r.fetch.job before given w said.kept said.reading) (sym dry) tt }
+
+pub dry_says : (line later : Line) (r : Reading) (said : Said) → said.word ≡ Other replies.NoMemory → SaysOn line r later said
+dry_says line later r said dry = record { is = λ before given reads. subst (λ w. Hears later r.fetch.job before given w said.kept said.reading) (sym dry) tt }
+
+pub goes_says : (line middle later : Line) (r next : Reading) (bytes : List ℕ) (said : Said) → Goes line r middle next bytes → next.fetch ≡ r.fetch → GivesOn middle next later bytes said → SaysOn line r later said
+goes_says line middle later r next bytes said goes same gives = record {
   is = λ before given reads. subst (λ (f : Fetch). HearsSo later f.job before given said) same (gives.is before given (goes.is before given reads));
 }

@@ -1,4 +1,5 @@
 pub mod Received
+pub mod Mirrors
 pub mod Ending
 pub mod Begins
 pub mod Settled

@@ -1,22 +1,27 @@
 -- What a method hears of a peer: the stream of a connection since its last request, in words.
-use Rattle.std.specs.Prelude.{◌≡◌, ◌≢◌, ◌⊎◌, ℕ, ◌+◌, length, ◌==◌, ◌&&◌, nat_lt, not, Bool, true, false, if◌then◌else◌, List, [], ◌++◌, bytes_eq, Option, Some, None, IfSome, IsSome, option_map, unwrap_or}
+use Rattle.std.specs.Prelude.{◌≡◌, ◌≢◌, ◌⊎◌, ℕ, ◌+◌, ◌≤◌, length, ◌∷◌, [], ◌==◌, ◌&&◌, nat_lt, not, Bool, true, false, if◌then◌else◌, List, ◌++◌, bytes_eq, Option, Some, None, IfSome, IsSome, unwrap_or}
 use Rattle.acq_base.specs.declared.fetch.Job.{Job}
 use Rattle.acq_base.specs.declared.fetch.Reply.{Reply}
 use Rattle.acq_base.specs.declared.fetch.Reply.TheVariants as replies
 use Rattle.acq_base.specs.declared.uri.Uri.{Uri}
+use Rattle.acq_base.specs.declared.uri.Scheme.{Scheme}
+use Rattle.acq_base.specs.declared.uri.Scheme.TheVariants.{File, Http}
+use Rattle.acq_base.specs.Mirror.{World}
 use Rattle.acq_base.specs.Uri.{IsSound}
 use Rattle.acq_outside.specs.declared.word.Fetch.{Fetch}
 use Rattle.acq_outside.specs.declared.word.Word.{Word}
 use Rattle.acq_outside.specs.declared.word.Word.TheVariants.{Piece, Done, Other}
-use Rattle.acq_outside.specs.Word.{IsWord}
-use Rattle.acq_net.specs.Talk.{Talk, silent, is_none, receives}
+use Rattle.acq_outside.specs.Word.{CanBegin, IsWord}
+use Rattle.acq_net.specs.Due.{Due, IsAnswerOf, fresh, owing}
+use Rattle.acq_net.specs.Talk.{Talk, silent, is_none}
 use Rattle.http_wire.specs.declared.ending.Ending.{Ending}
 use Rattle.http_wire.specs.declared.ending.Ending.TheVariants.{Served}
 use Rattle.http_wire.specs.declared.ending.State.{State}
 use Rattle.http_wire.specs.declared.ending.State.TheVariants as states
 use Rattle.http_wire.specs.Request.{request_text}
 use Rattle.http_wire.specs.Stream.{Heard, IsHeard}
-use Rattle.http_wire.specs.Wire.{Follows, IsReply, wire_state}
+use Rattle.http_wire.specs.Wire.{Follows, IsReply, held, wire_state}
+use Rattle.http_method.specs.Line.{Gets, Line}
 use Rattle.http_method.specs.declared.reading.Behind.{Behind}
 use Rattle.http_method.specs.declared.reading.Behind.TheVariants.{Nothing, Bytes, End}
 use Rattle.http_method.specs.declared.reading.Reading.{Reading}
@@ -27,9 +32,19 @@ use Rattle.http_method.specs.declared.reading.Said.{Said}
 abbrev pub asked : Talk → Job → List ℕ → Bool → Talk
 asked before job bytes ended = record { sent = before.sent ++ request_text job.uri job.from; received = before.received ++ bytes; ended = ended }
 
+-- of the mirror's answer these bytes came since the request, and what else is to come of it is due; nothing is, where the
+-- peer has ended
+pub record IsOwed (entries : World) (due : Option Due) (job : Job) (bytes : List ℕ) (ended : Bool) : Type 0 where
+  pub rest : List ℕ
+  pub keep : Bool
+  pub is : due ≡ Some (owing job.uri rest keep)
+  pub answers : IsAnswerOf entries job.uri job.from (bytes ++ rest) keep
+  pub ends : ended ≡ true → rest ≡ []
+
 -- so it was, where the link tells
-abbrev pub IsAsked : Option Talk → Talk → Job → List ℕ → Bool → Type 0
-IsAsked talk before job bytes ended = IfSome talk (λ told. told ≡ asked before job bytes ended)
+pub record IsAsked (line : Line) (before : Talk) (job : Job) (bytes : List ℕ) (ended : Bool) : Type 0 where
+  pub told : IfSome line.talk (λ talk. talk ≡ asked before job bytes ended)
+  pub owed : IfSome line.world (λ entries. IsOwed entries line.due job bytes ended)
 
 -- the peer has ended
 abbrev pub is_end : Behind → Bool
@@ -44,28 +59,37 @@ StandsBehind Bytes rest = rest ≢ []
 StandsBehind End rest = rest ≡ []
 
 -- A response is read: its wire follows the bytes received since the request, of which these, of the body, were given out.
-pub record Reads (talk : Option Talk) (reading : Reading) (before : Talk) (given : List ℕ) : Type 0 where
+pub record Reads (line : Line) (reading : Reading) (before : Talk) (given : List ℕ) : Type 0 where
   pub bytes : List ℕ
   pub rest : List ℕ
   pub follows : Follows reading.wire reading.fetch.job.max reading.fetch.job.from given bytes (is_end reading.behind)
   pub stands : StandsBehind reading.behind rest
-  pub told : IsAsked talk before reading.fetch.job (bytes ++ rest) (is_end reading.behind)
+  pub told : IsAsked line before reading.fetch.job (bytes ++ rest) (is_end reading.behind)
 
--- what holds of a response that is being read
-pub record IsReading (talk : Option Talk) (reading : Reading) : Type 0 where
+-- What holds of a response that is being read, of which these last bytes were given out and not said yet: the job has come
+-- to the place behind what was said, and the wire holds no more than one piece.
+pub record IsReading (line : Line) (reading : Reading) (out : List ℕ) : Type 0 where
   pub before : Talk
   pub given : List ℕ
-  pub reads : Reads talk reading before given
+  pub reads : Reads line reading before (given ++ out)
+  pub place : reading.fetch.at ≡ reading.fetch.job.from + length given
+  pub can : CanBegin reading.fetch.job
   pub sound : IsSound reading.fetch.job.uri
   pub going : wire_state reading.wire ≡ states.More → reading.behind ≡ Nothing
+  pub small : wire_state reading.wire ≢ states.TooBig → length (held reading.wire) ≤ 65536
 
 -- the reading took these bytes of the link, or the peer's end
 pub record Received (reading next : Reading) (piece : List ℕ) : Type 0 where
-  pub is : (talk : Option Talk) (before : Talk) (given : List ℕ) → Reads talk reading before given → Reads (option_map (receives piece) talk) next before given
+  pub is : (line later : Line) (before : Talk) (given : List ℕ) → Gets piece line later → Reads line reading before given → Reads later next before given
+
+-- the wire, which held nothing, holds no more than one piece
+abbrev pub StaysSmall : Reading → Reading → Type 0
+StaysSmall reading next =
+    (max from : ℕ) (given bytes : List ℕ) → Follows reading.wire max from given bytes false → wire_state reading.wire ≡ states.More → held reading.wire ≡ [] → wire_state next.wire ≢ states.TooBig → length (held next.wire) ≤ 65536
 
 -- the reading went on, and gave out these bytes
-pub record Goes (talk : Option Talk) (reading : Reading) (later : Option Talk) (next : Reading) (piece : List ℕ) : Type 0 where
-  pub is : (before : Talk) (given : List ℕ) → Reads talk reading before given → Reads later next before (given ++ piece)
+pub record Goes (line : Line) (reading : Reading) (later : Line) (next : Reading) (piece : List ℕ) : Type 0 where
+  pub is : (before : Talk) (given : List ℕ) → Reads line reading before given → Reads later next before (given ++ piece)
 
 -- what stands behind the bytes that a wire took of a piece
 abbrev pub behind_of : ℕ → ℕ → Behind
@@ -110,72 +134,87 @@ IsSaid uri given heard (Other reply) = IsReply uri given heard.ending heard.body
 
 -- The last word: what is heard of all bytes received since the request, and of whether a `receive` gave 0. The body is
 -- what was given out. The connection is kept exactly behind a whole response that leaves it open, with nothing behind it.
-pub record Ends (talk : Option Talk) (job : Job) (before : Talk) (given : List ℕ) (word : Word) (kept : Option Place) : Type 0 where
+pub record Ends (line : Line) (job : Job) (before : Talk) (given : List ℕ) (word : Word) (kept : Option Place) : Type 0 where
   pub heard : Heard
   pub bytes : List ℕ
   pub ended : Bool
   pub is : IsHeard job.max job.from bytes ended heard
-  pub told : IsAsked talk before job bytes ended
+  pub told : IsAsked line before job bytes ended
   pub says : IsSaid job.uri given heard word
   pub keeps_is : kept ≡ kept_for job.uri heard ended
 
 -- a piece goes on with the same job
-abbrev pub GoesOn : Option Talk → Job → Talk → List ℕ → Option Reading → Type 0
-GoesOn talk job before given None = ⊥
-GoesOn talk job before given (Some reading) = (reading.fetch.job ≡ job) × Reads talk reading before given
+abbrev pub GoesOn : Line → Job → Talk → List ℕ → Option Reading → Type 0
+GoesOn line job before given None = ⊥
+GoesOn line job before given (Some reading) = (reading.fetch.job ≡ job) × Reads line reading before given
 
 -- What a word says of the bytes received since the request. A fault and want of memory say nothing of them.
-abbrev pub Hears : Option Talk → Job → Talk → List ℕ → Word → Option Place → Option Reading → Type 0
-Hears talk job before given (Piece place bytes) kept reading = GoesOn talk job before (given ++ bytes) reading
-Hears talk job before given (Done size) kept reading = Ends talk job before given (Done size) kept
-Hears talk job before given (Other (replies.Served bytes)) kept reading = ⊥
-Hears talk job before given (Other (replies.Moved place)) kept reading = Ends talk job before given (Other (replies.Moved place)) kept
-Hears talk job before given (Other (replies.Absent status)) kept reading = Ends talk job before given (Other (replies.Absent status)) kept
-Hears talk job before given (Other replies.TooBig) kept reading = Ends talk job before given (Other replies.TooBig) kept
-Hears talk job before given (Other (replies.Garbled at)) kept reading = Ends talk job before given (Other (replies.Garbled at)) kept
-Hears talk job before given (Other (replies.Fault told_before told_after)) kept reading = Unit {0}
-Hears talk job before given (Other replies.NoMemory) kept reading = Unit {0}
+abbrev pub Hears : Line → Job → Talk → List ℕ → Word → Option Place → Option Reading → Type 0
+Hears line job before given (Piece place bytes) kept reading = GoesOn line job before (given ++ bytes) reading
+Hears line job before given (Done size) kept reading = Ends line job before given (Done size) kept
+Hears line job before given (Other (replies.Served bytes)) kept reading = ⊥
+Hears line job before given (Other (replies.Moved place)) kept reading = Ends line job before given (Other (replies.Moved place)) kept
+Hears line job before given (Other (replies.Absent status)) kept reading = Ends line job before given (Other (replies.Absent status)) kept
+Hears line job before given (Other replies.TooBig) kept reading = Ends line job before given (Other replies.TooBig) kept
+Hears line job before given (Other (replies.Garbled at)) kept reading = Ends line job before given (Other (replies.Garbled at)) kept
+Hears line job before given (Other (replies.Fault told_before told_after)) kept reading = Unit {0}
+Hears line job before given (Other replies.NoMemory) kept reading = Unit {0}
 
-abbrev pub HearsSo : Option Talk → Job → Talk → List ℕ → Said → Type 0
-HearsSo talk job before given said = Hears talk job before given said.word said.kept said.reading
+abbrev pub HearsSo : Line → Job → Talk → List ℕ → Said → Type 0
+HearsSo line job before given said = Hears line job before given said.word said.kept said.reading
 
 -- what is said next to a response that is being read
-pub record SaysOn (talk : Option Talk) (reading : Reading) (later : Option Talk) (said : Said) : Type 0 where
-  pub is : (before : Talk) (given : List ℕ) → Reads talk reading before given → HearsSo later reading.fetch.job before given said
+pub record SaysOn (line : Line) (reading : Reading) (later : Line) (said : Said) : Type 0 where
+  pub is : (before : Talk) (given : List ℕ) → Reads line reading before given → HearsSo later reading.fetch.job before given said
 
 -- a piece is said of a reading that gave out its bytes
-pub record GivesOn (talk : Option Talk) (reading : Reading) (later : Option Talk) (piece : List ℕ) (said : Said) : Type 0 where
-  pub is : (before : Talk) (given : List ℕ) → Reads talk reading before (given ++ piece) → HearsSo later reading.fetch.job before given said
+pub record GivesOn (line : Line) (reading : Reading) (later : Line) (piece : List ℕ) (said : Said) : Type 0 where
+  pub is : (before : Talk) (given : List ℕ) → Reads line reading before (given ++ piece) → HearsSo later reading.fetch.job before given said
 
 -- the first word, on the connection that was kept for the URI's host and port, or on a new one
-pub record BeginsOn (talk : Option Talk) (kept : Option Place) (later : Option Talk) (job : Job) (said : Said) : Type 0 where
-  pub is : ((is_for kept job.uri ≡ true) × HearsSo later job (unwrap_or talk silent) [] said) ⊎ HearsSo later job silent [] said
+pub record BeginsOn (line : Line) (kept : Option Place) (later : Line) (job : Job) (said : Said) : Type 0 where
+  pub is : ((is_for kept job.uri ≡ true) × HearsSo later job (unwrap_or line.talk silent) [] said) ⊎ HearsSo later job silent [] said
 
 -- the first word on a new connection
-pub record BeginsAnew (later : Option Talk) (job : Job) (said : Said) : Type 0 where
+pub record BeginsAnew (later : Line) (job : Job) (said : Said) : Type 0 where
   pub is : HearsSo later job silent [] said
 
 -- the first word on the connection that is open, or on a new one
-pub record BeginsAgain (talk later : Option Talk) (job : Job) (said : Said) : Type 0 where
-  pub is : HearsSo later job (unwrap_or talk silent) [] said ⊎ HearsSo later job silent [] said
+pub record BeginsAgain (line later : Line) (job : Job) (said : Said) : Type 0 where
+  pub is : HearsSo later job (unwrap_or line.talk silent) [] said ⊎ HearsSo later job silent [] said
 
--- no `receive` gave 0 on the connection that is kept
-abbrev pub IsOpen : Option Talk → Type 0
-IsOpen talk = IfSome talk (λ told. told.ended ≡ false)
+-- on the connection to this place no `receive` gave 0, and another request may be sent
+pub record IsOpen (line : Line) (place : Place) : Type 0 where
+  pub told : IfSome line.talk (λ talk. talk.ended ≡ false)
+  pub ready : IfSome line.world (λ entries. line.due ≡ Some (fresh place.host place.port))
 
 -- what a method keeps
-pub record Keeps (talk : Option Talk) (kept : Option Place) (reading : Option Reading) : Type 0 where
-  pub reads : IfSome reading (IsReading talk)
-  pub open_is : IfSome kept (λ place. IsOpen talk)
+pub record Keeps (line : Line) (kept : Option Place) (reading : Option Reading) : Type 0 where
+  pub reads : IfSome reading (λ one. IsReading line one [])
+  pub open_is : IfSome kept (IsOpen line)
   pub one : IsSome reading → kept ≡ None
 
 abbrev pub under_of : Option Reading → Option Fetch
 under_of None = None
 under_of (Some reading) = Some reading.fetch
 
--- a word of a method that tells no mirror
-pub record IsTold (fetch : Fetch) (said : Said) : Type 0 where
-  pub is : (n : ℕ) → IsWord n n None fetch (under_of said.reading) said.word
+-- a word to a fetch, told of a mirror
+pub record IsTold (world : Option World) (fetch : Fetch) (said : Said) : Type 0 where
+  pub is : (n : ℕ) → IsWord n n world fetch (under_of said.reading) said.word
+
+abbrev pub is_http : Scheme → Bool
+is_http Http = true
+is_http File = false
+
+-- a mirror that has no `file` URI
+abbrev pub has_no_file : World → Bool
+has_no_file [] = true
+has_no_file (entry ∷ entries) = is_http entry.0.scheme && has_no_file entries
+
+-- a method over HTTP tells the mirror of its link, where that has no `file` URI
+abbrev pub world_of : Option World → Option World
+world_of None = None
+world_of (Some entries) = if has_no_file entries then Some entries else None
 
 -- a whole file ends in its size, and what else is heard is said
 abbrev pub word_of : ℕ → Reply → Word

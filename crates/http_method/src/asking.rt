@@ -1,12 +1,12 @@
 //! Asks a peer for a file.
-ghost use Rattle.std.specs.Prelude.{◌≡◌, ◌⊎◌, ◌≤◌, true, IfOk, IfSome, OnErr, OnOk, option_map};
+ghost use Rattle.std.specs.Prelude.{◌≡◌, ◌⊎◌, ◌≤◌, true, IfOk, IfSome, OnErr, OnOk};
 ghost use Rattle.acq_base.specs.declared.uri.Scheme.TheVariants.{Http};
 ghost use Rattle.acq_base.specs.Uri.{IsSound};
 ghost use Rattle.acq_outside.specs.Count.{Rose};
 ghost use Rattle.acq_outside.specs.Word.{CanBegin, IsSoundWord, begun};
-ghost use Rattle.acq_net.specs.Talk.{sends, silent};
 ghost use Rattle.http_wire.specs.Request.{request_text};
-ghost use Rattle.http_method.specs.Reading.{BeginsAgain, BeginsAnew, BeginsOn, IsKeptBehind, IsOpen, IsTold, Keeps, is_end, is_for};
+ghost use Rattle.http_method.specs.Line.{Connects, Sends, line_of};
+ghost use Rattle.http_method.specs.Reading.{BeginsAgain, BeginsAnew, BeginsOn, IsKeptBehind, IsOpen, IsTold, Keeps, is_end, is_for, place_of};
 
 use crate::hearing::receive_once;
 use crate::reading::{Behind, Place, Reading, Said};
@@ -38,16 +38,17 @@ pub fn ask<L: Link>(
     requires sound { IsSound job.now.uri }
     requires from { CanBegin job.now }
     requires http { job.now.uri.scheme ≡ Http }
-    requires kept { IfSome kept (λ place. IsOpen (L.talk link.old)) }
+    requires kept { IfSome kept (IsOpen (line_of L.Link link.old)) }
     ensures count { L.faults link.old ≤ L.faults link.new }
     ensures fault { OnErr result (Rose (L.faults link.old) (L.faults link.new)) }
     ensures quiet { OnOk result (L.faults link.new ≡ L.faults link.old) }
     ensures made { is_for kept job.now.uri ≡ true → (L.made link.new ≡ L.made link.old) ⊎ Rose (L.ends link.old) (L.ends link.new) }
     ensures sound { IfOk result (λ said. IsSoundWord said.word) }
-    ensures told { IfOk result (IsTold (begun job.now)) }
-    ensures keeps { IfOk result (λ said. Keeps (L.talk link.new) said.kept said.reading) }
+    ensures world { L.world link.new ≡ L.world link.old }
+    ensures told { IfOk result (IsTold (L.world link.old) (begun job.now)) }
+    ensures keeps { IfOk result (λ said. Keeps (line_of L.Link link.new) said.kept said.reading) }
     ensures behind { IfOk result (λ said. IsKeptBehind said.word said.kept) }
-    ensures says { IfOk result (BeginsOn (L.talk link.old) kept (L.talk link.new) job.now) }
+    ensures says { IfOk result (BeginsOn (line_of L.Link link.old) kept (line_of L.Link link.new) job.now) }
 {
     let Ok(text) = request(alloc, &job.uri, job.from) else {
         link.close();
@@ -62,16 +63,19 @@ pub fn ask<L: Link>(
 /// Asks on a new connection.
 fn ask_anew<L: Link>(alloc: Global, link: &mut L, text: &Bytes, job: &Job) -> Result<Said, Fault>
     requires sound { IsSound job.now.uri }
+    requires from { CanBegin job.now }
+    requires http { job.now.uri.scheme ≡ Http }
     requires text { text.now ≡ request_text job.now.uri job.now.from }
     ensures count { L.faults link.old ≤ L.faults link.new }
     ensures fault { OnErr result (Rose (L.faults link.old) (L.faults link.new)) }
     ensures quiet { OnOk result (L.faults link.new ≡ L.faults link.old) }
     ensures ends { L.ends link.old ≤ L.ends link.new }
     ensures sound { IfOk result (λ said. IsSoundWord said.word) }
-    ensures told { IfOk result (IsTold (begun job.now)) }
-    ensures keeps { IfOk result (λ said. Keeps (L.talk link.new) said.kept said.reading) }
+    ensures world { L.world link.new ≡ L.world link.old }
+    ensures told { IfOk result (IsTold (L.world link.old) (begun job.now)) }
+    ensures keeps { IfOk result (λ said. Keeps (line_of L.Link link.new) said.kept said.reading) }
     ensures behind { IfOk result (λ said. IsKeptBehind said.word said.kept) }
-    ensures says { IfOk result (BeginsAnew (L.talk link.new) job.now) }
+    ensures says { IfOk result (BeginsAnew (line_of L.Link link.new) job.now) }
 {
     let Ok(reading) = Reading::new(alloc, job) else {
         link.close();
@@ -88,7 +92,8 @@ fn connect<L: Link>(link: &mut L, uri: &Uri) -> Result<(), Fault>
     ensures fault { OnErr result (Rose (L.faults link.old) (L.faults link.new)) }
     ensures quiet { OnOk result (L.faults link.new ≡ L.faults link.old) }
     ensures ends { L.ends link.new ≡ L.ends link.old }
-    ensures fresh { OnOk result (L.talk link.new ≡ option_map (λ _. silent) (L.talk link.old)) }
+    ensures world { L.world link.new ≡ L.world link.old }
+    ensures fresh { OnOk result (Connects uri.now.host uri.now.port (line_of L.Link link.old) (line_of L.Link link.new)) }
 {
     if link.connect(&uri.host, uri.port).is_err() {
         link.close();
@@ -104,7 +109,8 @@ fn send<L: Link>(link: &mut L, text: &Bytes) -> Result<(), Fault>
     ensures quiet { OnOk result (L.faults link.new ≡ L.faults link.old) }
     ensures made { L.made link.new ≡ L.made link.old }
     ensures ends { L.ends link.new ≡ L.ends link.old }
-    ensures sent { OnOk result (L.talk link.new ≡ option_map (sends text.now) (L.talk link.old)) }
+    ensures world { L.world link.new ≡ L.world link.old }
+    ensures sent { OnOk result (Sends text.now (line_of L.Link link.old) (line_of L.Link link.new)) }
 {
     if link.send(text.as_slice()).is_err() {
         link.close();
@@ -116,17 +122,20 @@ fn send<L: Link>(link: &mut L, text: &Bytes) -> Result<(), Fault>
 /// Asks on the connection that is kept, and anew once where its peer ends before the first byte of a response.
 fn ask_again<L: Link>(alloc: Global, link: &mut L, text: &Bytes, job: &Job) -> Result<Said, Fault>
     requires sound { IsSound job.now.uri }
+    requires from { CanBegin job.now }
+    requires http { job.now.uri.scheme ≡ Http }
     requires text { text.now ≡ request_text job.now.uri job.now.from }
-    requires opened { IsOpen (L.talk link.old) }
+    requires opened { IsOpen (line_of L.Link link.old) (place_of job.now.uri) }
     ensures count { L.faults link.old ≤ L.faults link.new }
     ensures fault { OnErr result (Rose (L.faults link.old) (L.faults link.new)) }
     ensures quiet { OnOk result (L.faults link.new ≡ L.faults link.old) }
     ensures made { (L.made link.new ≡ L.made link.old) ⊎ Rose (L.ends link.old) (L.ends link.new) }
     ensures sound { IfOk result (λ said. IsSoundWord said.word) }
-    ensures told { IfOk result (IsTold (begun job.now)) }
-    ensures keeps { IfOk result (λ said. Keeps (L.talk link.new) said.kept said.reading) }
+    ensures world { L.world link.new ≡ L.world link.old }
+    ensures told { IfOk result (IsTold (L.world link.old) (begun job.now)) }
+    ensures keeps { IfOk result (λ said. Keeps (line_of L.Link link.new) said.kept said.reading) }
     ensures behind { IfOk result (λ said. IsKeptBehind said.word said.kept) }
-    ensures says { IfOk result (BeginsAgain (L.talk link.old) (L.talk link.new) job.now) }
+    ensures says { IfOk result (BeginsAgain (line_of L.Link link.old) (line_of L.Link link.new) job.now) }
 {
     let Ok(reading) = Reading::new(alloc, job) else {
         link.close();

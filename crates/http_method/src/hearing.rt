@@ -2,13 +2,14 @@
 ghost use Rattle.std.specs.Prelude.{◌≡◌, ◌≢◌, ◌<◌, ◌≤◌, true, false, [], length, vec_len, IfOk, IsErrOf, OnOk};
 ghost use Rattle.acq_outside.specs.Count.{Rose};
 ghost use Rattle.http_wire.specs.Wire.{IsDone, held, wire_state};
-ghost use Rattle.http_method.specs.Reading.{Goes, IsReading, Received, behind_of, is_end};
+ghost use Rattle.http_method.specs.Line.{line_of};
+ghost use Rattle.http_method.specs.Reading.{Goes, IsReading, Received, StaysSmall, behind_of, is_end};
 
 use crate::reading::{Behind, Reading};
 use acq_base::{Bytes, NoMemory};
 use acq_net::Link;
 use acq_outside::OutError;
-use http_wire::{State, Wire};
+use http_wire::{State, Wire, bodies_grow, wires_tell};
 use std::alloc::Global;
 
 /// How many bytes are received at once, at most.
@@ -39,7 +40,10 @@ fn end(reading: &mut Reading)
     ensures fetch { reading.new.fetch ≡ reading.old.fetch }
     ensures going { wire_state reading.new.wire ≢ State.More }
     ensures received { Received reading.old reading.new [] }
+    ensures small { StaysSmall reading.old reading.new }
 {
+    wires_tell();
+    bodies_grow();
     reading.wire.ended();
     reading.behind = Behind::End;
 }
@@ -49,11 +53,15 @@ fn feed(alloc: Global, reading: &mut Reading, piece: &[u8]) -> Result<(), NoMemo
     requires going { wire_state reading.old.wire ≡ State.More }
     requires nothing { reading.old.behind ≡ Behind.Nothing }
     requires some { 0 < length piece.now }
+    requires few { length piece.now ≤ 65536 }
     ensures fetch { reading.new.fetch ≡ reading.old.fetch }
     ensures going { OnOk result (wire_state reading.new.wire ≡ State.More → reading.new.behind ≡ Behind.Nothing) }
     ensures open { OnOk result (is_end reading.new.behind ≡ false) }
     ensures received { OnOk result (Received reading.old reading.new piece.now) }
+    ensures small { OnOk result (StaysSmall reading.old reading.new) }
 {
+    wires_tell();
+    bodies_grow();
     let taken = reading.wire.feed(alloc, piece)?;
     reading.behind = behind_of(taken, piece.len());
     Ok(())
@@ -76,7 +84,9 @@ pub fn receive_once<L: Link>(
     ensures ended { OnOk result (is_end reading.new.behind ≡ true → Rose (L.ends link.old) (L.ends link.new)) }
     ensures fetch { reading.new.fetch ≡ reading.old.fetch }
     ensures going { OnOk result (wire_state reading.new.wire ≡ State.More → reading.new.behind ≡ Behind.Nothing) }
-    ensures goes { OnOk result (Goes (L.talk link.old) reading.old (L.talk link.new) reading.new []) }
+    ensures small { OnOk result (StaysSmall reading.old reading.new) }
+    ensures goes { OnOk result (Goes (line_of L.Link link.old) reading.old (line_of L.Link link.new) reading.new []) }
+    ensures world { L.world link.new ≡ L.world link.old }
 {
     let mut room = room(alloc, ROOM)?;
     let n = link.receive(room.as_mut_slice())?;
@@ -92,6 +102,7 @@ pub fn receive_once<L: Link>(
 /// Whether the reading ended before a whole response.
 fn is_refused(wire: &Wire) -> bool
     ensures refused { result ≡ true → (wire_state wire.now ≢ State.More) × ¬ (IsDone (wire_state wire.now)) }
+    ensures other { result ≡ false → wire_state wire.now ≢ State.TooBig }
 {
     match wire.state() {
         State::TooBig | State::Garbled(_) => true,
@@ -116,7 +127,7 @@ pub fn listen<L: Link>(
     link: &mut L,
     reading: &mut Reading,
 ) -> Result<Bytes, OutError>
-    requires is { IsReading (L.talk link.old) reading.old }
+    requires is { IsReading (line_of L.Link link.old) reading.old [] }
     ensures count { L.faults link.old ≤ L.faults link.new }
     ensures fault { IsErrOf result OutError.Fault → Rose (L.faults link.old) (L.faults link.new) }
     ensures quiet { OnOk result (L.faults link.new ≡ L.faults link.old) }
@@ -124,10 +135,13 @@ pub fn listen<L: Link>(
     ensures made { L.made link.new ≡ L.made link.old }
     ensures ends { L.ends link.old ≤ L.ends link.new }
     ensures fetch { reading.new.fetch ≡ reading.old.fetch }
-    ensures is { OnOk result (IsReading (L.talk link.new) reading.new) }
+    ensures world { L.world link.new ≡ L.world link.old }
+    ensures is { IfOk result (IsReading (line_of L.Link link.new) reading.new) }
+    ensures small { IfOk result (λ bytes. length bytes ≤ 65536) }
+    ensures fits { IfOk result (λ bytes. 0 < length bytes → wire_state reading.new.wire ≢ State.TooBig) }
     ensures over { IfOk result (λ bytes. bytes ≡ [] → wire_state reading.new.wire ≢ State.More) }
     ensures all { IfOk result (λ bytes. bytes ≡ [] → IsDone (wire_state reading.new.wire) → held reading.new.wire ≡ []) }
-    ensures goes { IfOk result (Goes (L.talk link.old) reading.old (L.talk link.new) reading.new) }
+    ensures goes { IfOk result (Goes (line_of L.Link link.old) reading.old (line_of L.Link link.new) reading.new) }
 {
     for _ in 0..u64::MAX {
         if is_refused(&reading.wire) {

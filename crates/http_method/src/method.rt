@@ -14,7 +14,8 @@ use std::marker::Model;
 ///
 /// Behind a whole file the connection is kept for its host and port, if the response leaves it open and no byte stands
 /// behind it, and behind nothing else. A kept connection whose peer ends before the first byte of the next response is made
-/// anew once. Everywhere else a peer that ends is heard as it is. Its mirror isn't told.
+/// anew once. Everywhere else a peer that ends is heard as it is. Where the link stands for a mirror that has no `file` URI,
+/// the method tells that mirror.
 #[derive(Drop)]
 pub struct HttpMethod<L: Link> {
     link: L,
@@ -25,18 +26,20 @@ pub struct HttpMethod<L: Link> {
 
 impl<L: Link> Model for HttpMethod<L> {
     ghost use Rattle.http_method.specs.HttpMethod.{HttpState};
+    ghost use Rattle.http_method.specs.Line.{line_of};
     ghost use Rattle.http_method.specs.Reading.{Keeps};
 
     ghost Value = { HttpState L };
 
     ghost view = { λ method. record { link = method.link; faults = method.faults; kept = method.kept; reading = method.reading } };
 
-    ghost invariant = { λ method. Keeps (L.talk method.link) method.kept method.reading };
+    ghost invariant = { λ method. Keeps (line_of L.Link method.link) method.kept method.reading };
 }
 
 impl<L: Link> HttpMethod<L> {
     ghost use Rattle.std.specs.Prelude.{◌≡◌, ◌≤◌, None, IfOk, OnErr};
     ghost use Rattle.acq_outside.specs.Count.{one_more};
+    ghost use Rattle.http_method.specs.Line.{line_of};
     ghost use Rattle.http_method.specs.Reading.{Keeps};
 
     /// A method over this link. No connection is kept, and no fetch is under way.
@@ -63,7 +66,7 @@ impl<L: Link> HttpMethod<L> {
 
     /// Keeps what is kept behind a word, and counts a fault.
     fn settle(&mut self, said: Result<Said, Fault>) -> Word
-        requires keeps { IfOk said (λ one. Keeps (L.talk self.old.link) one.kept one.reading) }
+        requires keeps { IfOk said (λ one. Keeps (line_of L.Link self.old.link) one.kept one.reading) }
         requires kept { self.old.kept ≡ None }
         requires idle { self.old.reading ≡ None }
         ensures link { self.new.link ≡ self.old.link }
@@ -93,17 +96,18 @@ impl<L: Link> HttpMethod<L> {
 }
 
 impl<L: Link> Method for HttpMethod<L> {
-    ghost use Rattle.std.specs.Prelude.{◌≡◌, ◌⊎◌, ◌≤◌, true, IfSome, IsSome, None};
+    ghost use Rattle.std.specs.Prelude.{◌≡◌, ◌⊎◌, ◌≤◌, true, IfSome, IsSome};
     ghost use Rattle.acq_base.specs.declared.uri.Scheme.TheVariants.{File, Http};
     ghost use Rattle.acq_base.specs.Uri.{IsSound};
     ghost use Rattle.acq_outside.specs.Count.{Rose};
     ghost use Rattle.acq_outside.specs.Word.{CanBegin, IsSoundWord, IsWord, begun};
     ghost use Rattle.http_method.specs.HttpMethod.{CountsFault, said_of};
-    ghost use Rattle.http_method.specs.Reading.{BeginsOn, IsKeptBehind, SaysOn, is_for, under_of};
+    ghost use Rattle.http_method.specs.Line.{line_of};
+    ghost use Rattle.http_method.specs.Reading.{BeginsOn, IsKeptBehind, SaysOn, is_for, under_of, world_of};
 
     ghost faults = { λ method. method.faults };
 
-    ghost world = { λ _. None };
+    ghost world = { λ method. world_of (L.world method.link) };
 
     ghost under = { λ method. under_of method.reading };
 
@@ -120,11 +124,12 @@ impl<L: Link> Method for HttpMethod<L> {
         requires from { CanBegin job.now }
         ensures count { self.old.faults ≤ self.new.faults }
         ensures sound { IsSoundWord result }
-        ensures word { IsWord self.old.faults self.new.faults None (begun job.now) (under_of self.new.reading) result }
+        ensures same { world_of (L.world self.new.link) ≡ world_of (L.world self.old.link) }
+        ensures word { IsWord self.old.faults self.new.faults (world_of (L.world self.old.link)) (begun job.now) (under_of self.new.reading) result }
         ensures link_count { L.faults self.old.link ≤ L.faults self.new.link }
         ensures link_fault { CountsFault (L.faults self.old.link) (L.faults self.new.link) result }
         ensures made { is_for self.old.kept job.now.uri ≡ true → (L.made self.new.link ≡ L.made self.old.link) ⊎ Rose (L.ends self.old.link) (L.ends self.new.link) }
-        ensures says { job.now.uri.scheme ≡ Http → BeginsOn (L.talk self.old.link) self.old.kept (L.talk self.new.link) job.now (said_of result self.new) }
+        ensures says { job.now.uri.scheme ≡ Http → BeginsOn (line_of L.Link self.old.link) self.old.kept (line_of L.Link self.new.link) job.now (said_of result self.new) }
         ensures behind { job.now.uri.scheme ≡ Http → IsKeptBehind result self.new.kept }
         ensures elsewhere { job.now.uri.scheme ≡ File → (result ≡ Word.Other (Reply.Absent 404)) × (self.new.link ≡ self.old.link) × (self.new.kept ≡ self.old.kept) }
     {
@@ -143,11 +148,12 @@ impl<L: Link> Method for HttpMethod<L> {
         requires { IsSome (under_of self.old.reading) }
         ensures count { self.old.faults ≤ self.new.faults }
         ensures sound { IsSoundWord result }
-        ensures word { IfSome (under_of self.old.reading) (λ fetch. IsWord self.old.faults self.new.faults None fetch (under_of self.new.reading) result) }
+        ensures same { world_of (L.world self.new.link) ≡ world_of (L.world self.old.link) }
+        ensures word { IfSome (under_of self.old.reading) (λ fetch. IsWord self.old.faults self.new.faults (world_of (L.world self.old.link)) fetch (under_of self.new.reading) result) }
         ensures link_count { L.faults self.old.link ≤ L.faults self.new.link }
         ensures link_fault { CountsFault (L.faults self.old.link) (L.faults self.new.link) result }
         ensures made { L.made self.new.link ≡ L.made self.old.link }
-        ensures says { IfSome self.old.reading (λ reading. SaysOn (L.talk self.old.link) reading (L.talk self.new.link) (said_of result self.new)) }
+        ensures says { IfSome self.old.reading (λ reading. SaysOn (line_of L.Link self.old.link) reading (line_of L.Link self.new.link) (said_of result self.new)) }
         ensures behind { IsKeptBehind result self.new.kept }
     {
         let Some(reading) = self.reading.take() else {

@@ -1,7 +1,7 @@
 //! A response that is being read.
 ghost use Rattle.std.specs.Prelude.{◌≡◌, [], false, IfOk};
 ghost use Rattle.acq_outside.specs.Word.{begun};
-ghost use Rattle.http_wire.specs.Wire.{Follows, wire_state};
+ghost use Rattle.http_wire.specs.Wire.{Follows, held, wire_state};
 
 use acq_base::{Job, NoMemory, Text, TryCopy, Uri};
 use acq_outside::{Fetch, Word};
@@ -48,6 +48,7 @@ impl Reading {
         ensures fetch { IfOk result (λ reading. reading.fetch ≡ begun job.now) }
         ensures behind { IfOk result (λ reading. reading.behind ≡ Behind.Nothing) }
         ensures state { IfOk result (λ reading. wire_state reading.wire ≡ State.More) }
+        ensures none { IfOk result (λ reading. held reading.wire ≡ []) }
         ensures follows { IfOk result (λ reading. Follows reading.wire job.now.max job.now.from [] [] false) }
     {
         let wire = Wire::new(alloc, job.max, job.from);

@@ -3,6 +3,7 @@ ghost use Rattle.std.specs.Prelude.{◌≡◌, ◌≢◌, ◌+◌, ◌<◌, ◌�
 ghost use Rattle.acq_outside.specs.Count.{Rose};
 ghost use Rattle.acq_outside.specs.Word.{IsSoundWord};
 ghost use Rattle.http_wire.specs.Wire.{IsDone, held, wire_state};
+ghost use Rattle.http_method.specs.Line.{line_of};
 ghost use Rattle.http_method.specs.Reading.{GivesOn, IsKeptBehind, IsReading, IsTold, Keeps, SaysOn, is_file, is_kept, kept_if, part_of, word_of};
 
 use crate::hearing::listen;
@@ -10,11 +11,10 @@ use crate::reading::{Behind, Place, Reading, Said};
 use acq_base::{Bytes, Reply, Uri};
 use acq_net::Link;
 use acq_outside::{Fault, Fetch, OutError, Word};
-use http_wire::{State, endings_stay, one_reading, wires_tell};
+use http_wire::{
+    State, bodies_fit, bodies_grow, endings_stay, limits_rise, one_reading, wires_tell,
+};
 use std::alloc::Global;
-
-/// The most bytes of a piece.
-const MOST: usize = 65_536;
 
 /// Memory ran out, and nothing is kept.
 pub fn starved() -> Said
@@ -32,17 +32,18 @@ pub fn starved() -> Said
 /// What comes next of the peer's response.
 #[tactic(auto, using(crate::proofs::Ending::goes_says, crate::proofs::Ending::dry_says))]
 pub fn next_word<L: Link>(alloc: Global, link: &mut L, reading: Reading) -> Result<Said, Fault>
-    requires { IsReading (L.talk link.old) reading }
+    requires { IsReading (line_of L.Link link.old) reading [] }
     ensures count { L.faults link.old ≤ L.faults link.new }
     ensures fault { OnErr result (Rose (L.faults link.old) (L.faults link.new)) }
     ensures quiet { OnOk result (L.faults link.new ≡ L.faults link.old) }
     ensures made { L.made link.new ≡ L.made link.old }
     ensures ends { L.ends link.old ≤ L.ends link.new }
     ensures sound { IfOk result (λ said. IsSoundWord said.word) }
-    ensures told { IfOk result (IsTold reading.fetch) }
-    ensures keeps { IfOk result (λ said. Keeps (L.talk link.new) said.kept said.reading) }
+    ensures world { L.world link.new ≡ L.world link.old }
+    ensures told { IfOk result (IsTold (L.world link.old) reading.fetch) }
+    ensures keeps { IfOk result (λ said. Keeps (line_of L.Link link.new) said.kept said.reading) }
     ensures behind { IfOk result (λ said. IsKeptBehind said.word said.kept) }
-    ensures says { IfOk result (SaysOn (L.talk link.old) reading (L.talk link.new)) }
+    ensures says { IfOk result (SaysOn (line_of L.Link link.old) reading (line_of L.Link link.new)) }
 {
     let mut reading = reading;
     match listen(alloc, link, &mut reading) {
@@ -59,54 +60,36 @@ pub fn next_word<L: Link>(alloc: Global, link: &mut L, reading: Reading) -> Resu
 }
 
 /// Says what was heard.
-#[tactic(auto, using(crate::proofs::Ending::says_gives))]
 fn say<L: Link>(alloc: Global, link: &mut L, reading: Reading, bytes: Bytes) -> Said
-    requires is { IsReading (L.talk link.old) reading }
+    requires is { IsReading (line_of L.Link link.old) reading bytes }
     requires over { bytes ≡ [] → wire_state reading.wire ≢ State.More }
     requires all { bytes ≡ [] → IsDone (wire_state reading.wire) → held reading.wire ≡ [] }
+    requires small { length bytes ≤ 65536 }
+    requires fits { 0 < length bytes → wire_state reading.wire ≢ State.TooBig }
     ensures faults { L.faults link.new ≡ L.faults link.old }
     ensures made { L.made link.new ≡ L.made link.old }
     ensures ends { L.ends link.new ≡ L.ends link.old }
     ensures sound { IsSoundWord result.word }
-    ensures told { IsTold reading.fetch result }
-    ensures keeps { Keeps (L.talk link.new) result.kept result.reading }
+    ensures world { L.world link.new ≡ L.world link.old }
+    ensures told { IsTold (L.world link.old) reading.fetch result }
+    ensures keeps { Keeps (line_of L.Link link.new) result.kept result.reading }
     ensures behind { IsKeptBehind result.word result.kept }
-    ensures gives { GivesOn (L.talk link.old) reading (L.talk link.new) bytes result }
+    ensures gives { GivesOn (line_of L.Link link.old) reading (line_of L.Link link.new) bytes result }
 {
     if bytes.is_empty() {
         return finish(alloc, link, reading);
     }
-    piece(link, reading, bytes)
-}
-
-/// A piece of these bytes.
-#[tactic(auto, using(crate::proofs::Ending::part_gives, crate::proofs::Ending::dry_gives))]
-fn piece<L: Link>(link: &mut L, reading: Reading, bytes: Bytes) -> Said
-    requires is { IsReading (L.talk link.old) reading }
-    requires some { 0 < length bytes }
-    ensures faults { L.faults link.new ≡ L.faults link.old }
-    ensures made { L.made link.new ≡ L.made link.old }
-    ensures ends { L.ends link.new ≡ L.ends link.old }
-    ensures sound { IsSoundWord result.word }
-    ensures told { IsTold reading.fetch result }
-    ensures keeps { Keeps (L.talk link.new) result.kept result.reading }
-    ensures behind { IsKeptBehind result.word result.kept }
-    ensures gives { GivesOn (L.talk link.old) reading (L.talk link.new) bytes result }
-{
-    // A wire holds no more bytes than it was fed at once, and none past its limit. Its contract doesn't say so.
-    let room = reading.fetch.job.max.saturating_sub(reading.fetch.at);
-    if bytes.len() > MOST || bytes.len() as u64 > room {
-        link.close();
-        return starved();
-    }
+    one_reading();
+    wires_tell();
+    bodies_fit();
+    bodies_grow();
+    limits_rise();
     part(reading, bytes)
 }
 
-/// A piece of these bytes, which are within the limits.
+/// A piece of these bytes, which are within the limit.
 fn part(reading: Reading, bytes: Bytes) -> Said
-    requires some { 0 < length bytes }
-    requires small { length bytes ≤ 65536 }
-    requires within { reading.fetch.at + length bytes ≤ reading.fetch.job.max }
+    requires { reading.fetch.at + length bytes ≤ reading.fetch.job.max }
     ensures { result ≡ part_of reading bytes }
 {
     let at = reading.fetch.at;
@@ -127,17 +110,18 @@ fn part(reading: Reading, bytes: Bytes) -> Said
 
 /// The last word: the response is whole, or refused.
 fn finish<L: Link>(alloc: Global, link: &mut L, reading: Reading) -> Said
-    requires is { IsReading (L.talk link.old) reading }
+    requires is { IsReading (line_of L.Link link.old) reading [] }
     requires over { wire_state reading.wire ≢ State.More }
     requires all { IsDone (wire_state reading.wire) → held reading.wire ≡ [] }
     ensures faults { L.faults link.new ≡ L.faults link.old }
     ensures made { L.made link.new ≡ L.made link.old }
     ensures ends { L.ends link.new ≡ L.ends link.old }
     ensures sound { IsSoundWord result.word }
-    ensures told { IsTold reading.fetch result }
-    ensures keeps { Keeps (L.talk link.new) result.kept result.reading }
+    ensures world { L.world link.new ≡ L.world link.old }
+    ensures told { IsTold (L.world link.old) reading.fetch result }
+    ensures keeps { Keeps (line_of L.Link link.new) result.kept result.reading }
     ensures behind { IsKeptBehind result.word result.kept }
-    ensures says { SaysOn (L.talk link.old) reading (L.talk link.new) result }
+    ensures says { SaysOn (line_of L.Link link.old) reading (line_of L.Link link.new) result }
 {
     one_reading();
     endings_stay();
@@ -184,7 +168,7 @@ fn keep_open<L: Link>(link: &mut L, file: bool, keep: bool, uri: Uri) -> Option<
     ensures faults { L.faults link.new ≡ L.faults link.old }
     ensures made { L.made link.new ≡ L.made link.old }
     ensures ends { L.ends link.new ≡ L.ends link.old }
-    ensures talk { L.talk link.new ≡ L.talk link.old }
+    ensures line { line_of L.Link link.new ≡ line_of L.Link link.old }
     ensures kept { result ≡ kept_if (file && keep) uri }
 {
     if file && keep {

@@ -1,5 +1,5 @@
 -- Empty lines before a head: they are no head yet, and one can follow.
-use Rattle.std.proofs.Common.{◌≡◌, ℕ, ◌<◌, ◌≤◌, inl, inr, ⊎_elim, Bool, true, false, List, [], ◌∷◌, ◌++◌, length, drop, arith, sym, ap, ◌∙◌, refl, append_assoc, append-nil, None}
+use Rattle.std.proofs.Common.{◌≡◌, ℕ, ◌<◌, ◌≤◌, inl, inr, ⊎_elim, Bool, true, false, List, [], ◌∷◌, ◌++◌, length, drop, arith, sym, ap, ◌∙◌, refl, append_assoc, append-nil}
 use Rattle.std.specs.Prelude.{◌&&◌}
 use Rattle.std.specs.List.{list_all}
 use Rattle.std.proofs.Math.Seq.{drop-append_seam}
@@ -8,7 +8,7 @@ use Rattle.std.proofs.lemmas.List.Folds.{list_all-append}
 use Rattle.httparse.specs.Pieces.{is_newline}
 use Rattle.httparse.specs.Grammar.{LineEnd, crlf, lf, print_end, print_blank, print_response}
 use Rattle.httparse.proofs.GrammarLemmas.{print_response-append}
-use Rattle.http_wire.specs.Forms.{HasNone, May, Whole, whole_lines, Unfinished, Bad, lines_behind_blank, head_form}
+use Rattle.http_wire.specs.Forms.{HasNone, May, whole_lines, Unfinished, Bad, lines_behind_blank, head_form}
 use Rattle.http_wire.specs.Wire.{StartsBlank}
 use Rattle.http_wire.specs.Steps.{IsEmptyLine}
 use Rattle.http_wire.proofs.Lists.{lines_split}

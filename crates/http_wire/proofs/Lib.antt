@@ -19,3 +19,4 @@ pub mod Telling
 pub mod Feeding
 pub mod Glue
 pub mod Responses
+pub mod BodyLaws

@@ -101,7 +101,7 @@ step_not_stop max from ended count (Closing start keep body) text t rest x a (in
 step_not_stop max from ended count (Trailing start keep body) text t rest x a b = a
 
 -- one way to go on
-one_step : (max from : ℕ) (s : Stage) (text : List ℕ) (t u : Stage) (r q : List ℕ) → Step max from s text t r → Step max from s text u q → (t ≡ u) × (r ≡ q)
+pub one_step : (max from : ℕ) (s : Stage) (text : List ℕ) (t u : Stage) (r q : List ℕ) → Step max from s text t r → Step max from s text u q → (t ≡ u) × (r ≡ q)
 one_step max from (Heads passed) text t u r q a b =
     let both = one_whole head_form head_facts text a.0 b.0 r q a.1 b.1 in
     let e : Goes t ≡ Goes u = sym a.2 ∙ ap (behind_head max from passed) both.0 ∙ b.2 in

@@ -1,6 +1,8 @@
 //! What holds of every stream. Nothing here does anything.
 
-ghost use Rattle.std.specs.Prelude.{◌≡◌, ◌≢◌, ◌++◌, ℕ, Bool, true, false, List, None};
+ghost use Rattle.std.specs.Prelude.{◌≡◌, ◌≢◌, ◌≤◌, ◌++◌, ℕ, Bool, true, false, List, None, Some};
+ghost use Rattle.http_wire.specs.declared.ending.Ending.TheVariants.{TooBig};
+ghost use Rattle.http_wire.specs.BodyLaws.{Fits, Grows};
 ghost use Rattle.http_wire.specs.Grammar.{IsResponse, served};
 ghost use Rattle.http_wire.specs.State.{WireState};
 ghost use Rattle.http_wire.specs.Stream.{Heard, followed, IsHeard};
@@ -21,7 +23,23 @@ pub fn endings_stay()
 /// A whole response of the grammar is heard as its body, whatever follows it.
 #[tactic(auto, using(crate::proofs::Responses::response_heard))]
 pub fn responses_are_heard()
-    ensures { (max from : ℕ) (text : List ℕ) (keep : Bool) (start : ℕ) (body rest : List ℕ) → IsResponse max from text keep start body → IsHeard max from (text ++ rest) false (served keep start body rest) }
+    ensures { (max from start : ℕ) (text body rest : List ℕ) (keep : Bool) → IsResponse max from text keep start body → IsHeard max from (text ++ rest) false (served keep start body rest) }
+{}
+
+/// A body begins at the byte that was asked for and stays within the limit, and what is no file has none.
+pub fn bodies_fit()
+    ensures { (max from : ℕ) (bytes : List ℕ) (ended : Bool) (x : Heard) → IsHeard max from bytes ended x → Fits max from x }
+{}
+
+/// With more bytes a body only grows, by no more than came, unless it turns out too big.
+pub fn bodies_grow()
+    ensures { (max from : ℕ) (bytes more : List ℕ) (ended : Bool) (x y : Heard) → IsHeard max from bytes false x → IsHeard max from (bytes ++ more) ended y → y.ending ≢ Some TooBig → Grows x y more }
+{}
+
+/// What isn't too big for a limit is heard the same under a greater one.
+#[tactic(auto, using(crate::proofs::BodyLaws::limits_rise))]
+pub fn limits_rise()
+    ensures { (max wide from : ℕ) (bytes : List ℕ) (ended : Bool) (x : Heard) → max ≤ wide → x.ending ≢ Some TooBig → IsHeard max from bytes ended x → IsHeard wide from bytes ended x }
 {}
 
 /// What a wire tells is what is heard of the bytes that it has taken, and what was given out and what it holds are the body.

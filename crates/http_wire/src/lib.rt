@@ -5,7 +5,10 @@
 #![tactic(auto)]
 
 pub use ending::{Ending, State};
-pub use laws::{endings_stay, one_reading, responses_are_heard, wires_tell};
+pub use laws::{
+    bodies_fit, bodies_grow, endings_stay, limits_rise, one_reading, responses_are_heard,
+    wires_tell,
+};
 pub use meaning::{Framing, Meaning};
 pub use phase::Phase;
 pub use sending::request;

@@ -68,6 +68,7 @@ impl Wire {
     pub fn new(alloc: Global, max: u64, from: u64) -> Wire
         ensures follows { Follows result max from [] [] false }
         ensures state { wire_state result ≡ State.More }
+        ensures none { held result ≡ [] }
     {
         Wire {
             max,

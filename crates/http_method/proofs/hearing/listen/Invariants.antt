@@ -1,4 +1,5 @@
 use Rattle.std.proofs.Common.{◌≡◌, ◌≤◌, []}
+use Rattle.http_method.specs.Line.{line_of}
 use Rattle.http_method.specs.Reading.{Goes, IsReading}
 use Rattle.http_method.proofs.hearing.listen.Given as goal
 
@@ -8,7 +9,8 @@ invariant-loop g l = record {
   quiet : g.L.Link.faults l.link ≡ g.L.Link.faults l.fn.link;
   made : g.L.Link.made l.link ≡ g.L.Link.made l.fn.link;
   ends : g.L.Link.ends l.fn.link ≤ g.L.Link.ends l.link;
+  world : g.L.Link.world l.link ≡ g.L.Link.world l.fn.link;
   fetch : l.reading.fetch ≡ l.fn.reading.fetch;
-  is : IsReading (g.L.Link.talk l.link) l.reading;
-  goes : Goes (g.L.Link.talk l.fn.link) l.fn.reading (g.L.Link.talk l.link) l.reading [];
+  is : IsReading (line_of g.L.Link l.link) l.reading [];
+  goes : Goes (line_of g.L.Link l.fn.link) l.fn.reading (line_of g.L.Link l.link) l.reading [];
 }

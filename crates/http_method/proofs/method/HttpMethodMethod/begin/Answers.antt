@@ -1,15 +1,23 @@
-use Rattle.std.proofs.Common.{ap}
-use Rattle.acq_outside.specs.Word.{begun}
-use Rattle.http_method.proofs.Settled.{faults_same, link_same, settled_link, settled_word}
+use Rattle.std.proofs.Common.{None, ap, refl, subst}
+use Rattle.acq_outside.specs.Word.{IsWord, begun}
+use Rattle.http_method.specs.Reading.{under_of, world_of}
+use Rattle.http_method.proofs.Settled.{faults_same, file_word, link_same, narrowed, settled_link, settled_word}
 use Rattle.http_method.proofs.method.HttpMethodMethod.begin.Goals as goal
 
 pub returns-in-Http-clause-word : goal.returns-in-Http-clause-word
 returns-in-Http-clause-word g c =
-    settled_word c.args.self.now.faults c.self.inside.faults c.settle.new.self.faults (begun c.args.job.now) c.ask-said.result c.settle.result c.settle.new.self.reading
-    (faults_same c.self.view_is) c.ask-said.ensures.told c.settle.ensures.word c.settle.ensures.reading c.settle.ensures.quiet c.settle.ensures.fault c.settle.ensures.over c.settle.ensures.counted
+    let world = g.L.Link.world in
+    let same = link_same world c.self.view_is in
+    subst (λ w. IsWord c.args.self.now.faults c.settle.new.self.faults (world_of w) (begun c.args.job.now) (under_of c.settle.new.self.reading) c.settle.result) same
+    (narrowed c.args.self.now.faults c.settle.new.self.faults (world c.self.inside.link) (begun c.args.job.now) (under_of c.settle.new.self.reading) c.settle.result
+    (settled_word (world c.self.inside.link) c.args.self.now.faults c.self.inside.faults c.settle.new.self.faults (begun c.args.job.now) c.ask-said.result c.settle.result c.settle.new.self.reading
+    (faults_same c.self.view_is) c.ask-said.ensures.told c.settle.ensures.word c.settle.ensures.reading c.settle.ensures.quiet c.settle.ensures.fault c.settle.ensures.over c.settle.ensures.counted))
 
 pub returns-in-Http-clause-link_fault : goal.returns-in-Http-clause-link_fault
 returns-in-Http-clause-link_fault g c =
     let faults = g.L.Link.faults in
-    settled_link (faults c.args.self.now.link) (faults c.self.inside.link) (faults c.settle.new.self.link) (faults c.ask-said.new.link) c.self.inside.faults c.settle.new.self.faults (begun c.args.job.now) c.ask-said.result c.settle.result
+    settled_link (g.L.Link.world c.self.inside.link) (faults c.args.self.now.link) (faults c.self.inside.link) (faults c.settle.new.self.link) (faults c.ask-said.new.link) c.self.inside.faults c.settle.new.self.faults (begun c.args.job.now) c.ask-said.result c.settle.result
     (link_same faults c.self.view_is) (ap faults c.settle.ensures.link) c.ask-said.ensures.told c.ask-said.ensures.fault c.ask-said.ensures.quiet c.settle.ensures.word c.settle.ensures.fault
+
+pub returns-in-File-clause-word : goal.returns-in-File-clause-word
+returns-in-File-clause-word g c = file_word c.args.self.now.faults c.self.inside.faults (g.L.Link.world c.args.self.now.link) c.args.job.now None (faults_same c.self.view_is) refl c.in-File.is

@@ -1,29 +1,34 @@
-use Rattle.std.proofs.Common.{◌∙◌, ap, sym, None}
+use Rattle.std.proofs.Common.{◌∙◌, IfSome, ap, subst, sym}
 use Rattle.acq_outside.specs.declared.word.Fetch.{Fetch}
 use Rattle.acq_outside.specs.Word.{IsWord}
 use Rattle.http_method.specs.declared.reading.Reading.{Reading}
 use Rattle.http_method.specs.HttpMethod.{said_of}
-use Rattle.http_method.specs.Reading.{SaysOn, under_of}
-use Rattle.http_method.proofs.Settled.{faults_same, link_same, of_fetch, of_reading, reading_same, settled_link, settled_says, settled_word}
+use Rattle.http_method.specs.Line.{line_of}
+use Rattle.http_method.specs.Reading.{SaysOn, under_of, world_of}
+use Rattle.http_method.proofs.Settled.{faults_same, link_same, narrowed, of_fetch, of_reading, reading_same, settled_link, settled_says, settled_word}
 use Rattle.http_method.proofs.method.HttpMethodMethod.more.Goals as goal
 
 pub returns-clause-word : goal.returns-clause-word
 returns-clause-word g c =
+    let world = g.L.Link.world in
+    let same = link_same world c.self.view_is in
     let was = sym (reading_same c.self.view_is) ∙ sym c.take.ensures.value ∙ c.in-Some.is in
-    of_fetch c.args.self.now.reading c.in-Some.reading (λ (fetch : Fetch). IsWord c.args.self.now.faults c.settle.new.self.faults None fetch (under_of c.settle.new.self.reading) c.settle.result) was
-    (settled_word c.args.self.now.faults c.self.inside.faults c.settle.new.self.faults c.in-Some.reading.fetch c.next_word-said.result c.settle.result c.settle.new.self.reading
-    (faults_same c.self.view_is) c.next_word-said.ensures.told c.settle.ensures.word c.settle.ensures.reading c.settle.ensures.quiet c.settle.ensures.fault c.settle.ensures.over c.settle.ensures.counted)
+    subst (λ w. IfSome (under_of c.args.self.now.reading) (λ (fetch : Fetch). IsWord c.args.self.now.faults c.settle.new.self.faults (world_of w) fetch (under_of c.settle.new.self.reading) c.settle.result)) same
+    (of_fetch c.args.self.now.reading c.in-Some.reading (λ (fetch : Fetch). IsWord c.args.self.now.faults c.settle.new.self.faults (world_of (world c.self.inside.link)) fetch (under_of c.settle.new.self.reading) c.settle.result) was
+    (narrowed c.args.self.now.faults c.settle.new.self.faults (world c.self.inside.link) c.in-Some.reading.fetch (under_of c.settle.new.self.reading) c.settle.result
+    (settled_word (world c.self.inside.link) c.args.self.now.faults c.self.inside.faults c.settle.new.self.faults c.in-Some.reading.fetch c.next_word-said.result c.settle.result c.settle.new.self.reading
+    (faults_same c.self.view_is) c.next_word-said.ensures.told c.settle.ensures.word c.settle.ensures.reading c.settle.ensures.quiet c.settle.ensures.fault c.settle.ensures.over c.settle.ensures.counted)))
 
 pub returns-clause-link_fault : goal.returns-clause-link_fault
 returns-clause-link_fault g c =
     let faults = g.L.Link.faults in
-    settled_link (faults c.args.self.now.link) (faults c.self.inside.link) (faults c.settle.new.self.link) (faults c.next_word-said.new.link) c.self.inside.faults c.settle.new.self.faults c.in-Some.reading.fetch c.next_word-said.result c.settle.result
+    settled_link (g.L.Link.world c.self.inside.link) (faults c.args.self.now.link) (faults c.self.inside.link) (faults c.settle.new.self.link) (faults c.next_word-said.new.link) c.self.inside.faults c.settle.new.self.faults c.in-Some.reading.fetch c.next_word-said.result c.settle.result
     (link_same faults c.self.view_is) (ap faults c.settle.ensures.link) c.next_word-said.ensures.told c.next_word-said.ensures.fault c.next_word-said.ensures.quiet c.settle.ensures.word c.settle.ensures.fault
 
 pub returns-clause-says : goal.returns-clause-says
 returns-clause-says g c =
-    let talk = g.L.Link.talk in
+    let line = line_of g.L.Link in
     let was = sym (reading_same c.self.view_is) ∙ sym c.take.ensures.value ∙ c.in-Some.is in
-    of_reading c.args.self.now.reading c.in-Some.reading (λ (reading : Reading). SaysOn (talk c.args.self.now.link) reading (talk c.settle.new.self.link) (said_of c.settle.result c.settle.new.self)) was
-    (settled_says (talk c.args.self.now.link) (talk c.self.inside.link) (talk c.next_word-said.new.link) (talk c.settle.new.self.link) c.in-Some.reading c.next_word-said.result c.settle.result c.settle.new.self.kept c.settle.new.self.reading
-    c.self.inside.faults c.settle.new.self.faults (link_same talk c.self.view_is) (ap talk c.settle.ensures.link) c.next_word-said.ensures.says c.settle.ensures.word c.settle.ensures.kept c.settle.ensures.reading c.settle.ensures.fault)
+    of_reading c.args.self.now.reading c.in-Some.reading (λ (reading : Reading). SaysOn (line c.args.self.now.link) reading (line c.settle.new.self.link) (said_of c.settle.result c.settle.new.self)) was
+    (settled_says (line c.args.self.now.link) (line c.self.inside.link) (line c.next_word-said.new.link) (line c.settle.new.self.link) c.in-Some.reading c.next_word-said.result c.settle.result c.settle.new.self.kept c.settle.new.self.reading
+    c.self.inside.faults c.settle.new.self.faults (link_same line c.self.view_is) (ap line c.settle.ensures.link) c.next_word-said.ensures.says c.settle.ensures.word c.settle.ensures.kept c.settle.ensures.reading c.settle.ensures.fault)
