@@ -1,6 +1,6 @@
 -- What a source comes to whose items have all ended.
-use Rattle.std.proofs.Common.{◌≡◌, ◌∙◌, ℕ, suc, ◌++◌, Bool, true, false, List, [], ◌∷◌, map, length, Option, Some, None, refl, sym, ap, subst}
-use Rattle.std.specs.Prelude.{◌&&◌, is_none, filter_map, option_map, Result, Ok, Err}
+use Rattle.std.proofs.Common.{◌≡◌, ◌∙◌, ℕ, suc, ◌+◌, ◌++◌, Bool, true, false, List, [], ◌∷◌, map, length, Option, Some, None, refl, sym, ap, subst, arith}
+use Rattle.std.specs.Prelude.{◌&&◌, is_none, filter_map, option_map, slice_get, Result, Ok, Err}
 use Rattle.std.specs.List.{list_all, AllByRecursion as Each}
 use Rattle.acq_base.specs.Mirror.{World as Mirror}
 use Rattle.acq_base.specs.Sum.{sum_of}
@@ -25,21 +25,22 @@ use Rattle.update_model.specs.declared.settled.Settled.{Settled}
 use Rattle.update_model.specs.declared.settled.Verdict2.{Verdict2}
 use Rattle.update_model.specs.declared.wanted.Wanted.{Wanted}
 use Rattle.board_model.specs.Ends.{ComesTo, EndsInRoute, ListEnd, ListEndsInRoute, ListIsHeardFrom, verdict_for, walk_for}
-use Rattle.board_model.specs.Keys.{named}
+use Rattle.board_model.specs.Keys.{name_at, named}
 use Rattle.board_model.specs.Laws.{ItemsAskNext, SettledSourcesCome, SetsThereAreHeld, VerdictsAreMirrors}
 use Rattle.board_model.specs.Settling.{ends_in, had, settled_in, settled_lists, staying_verdict, unchanged}
 use Rattle.board_model.specs.Slots.{Config, Standing, Slot, Asking, Listing, Refused, Closed, has_ended, is_there, is_ready}
-use Rattle.board_model.specs.Stands.{HasCome, HasHeard, History, IsOpen, ListsStand, entries_of, tolds}
+use Rattle.board_model.specs.Stands.{AreAsked, HasCome, HasHeard, History, IsOpen, ListsStand, entries_of, tolds}
 
 -- ---- routes
 
 routed : PointsEndInRoutes → (config : Config) (n place : ℕ) (path : List ℕ) (walk : Walk) (history : History) (end : End)
     → run config.settings.retries (start config.settings.retries walk) (tolds (history place)) ≡ Over end
+    → AreAsked config.settings.retries (start config.settings.retries walk) (history place)
     → entries_of (history place) ≡ ran config.settings.retries n path (start config.settings.retries walk) (tolds (history place))
     → EndsInRoute config n place path walk history end
-routed law config n place path walk history end over logged =
+routed law config n place path walk history end over asks logged =
     let told : IsToldRoute config.settings.retries walk (tolds (history place)) end = law config.settings.retries walk (tolds (history place)) end over in
-    record { told = told; logged = logged ∙ sym (told.entries_are n path) }
+    record { told = told; asks = asks; ends = over; logged = logged ∙ sym (told.entries_are n path) }
 
 pub asks-next : RunsStandInRoutes → ItemsAskNext
 asks-next law retries n path walk heard item h =
@@ -65,41 +66,47 @@ over-at (At ask left faults next) e = absurd (cc)
 ends-cons : (item : Standing) (end : End) (lists : List (Option Standing)) → item.point ≡ Over end → ends_in (Some item ∷ lists) ≡ end ∷ ends_in lists
 ends-cons item end lists e = rw e refl
 
+suc-one : (k : ℕ) → 1 + k ≡ suc k
+suc-one k = omega arith
+
 -- the lists from a place on, all of which have ended
 record ListsCome (config : Config) (n : ℕ) (source : Source) (old : Old) (release : Release) (targets : List Target) (lists : List (Option Standing)) (history : History) : Type 0 where
   came : List ListEnd
   names : map (λ l. l.wanted) came ≡ filter_map (λ target. option_map (want source release config.settings target) (listed_sum release target.path)) targets
   ends : map (λ l. l.end) came ≡ ends_in lists
   routes : Each (ListEndsInRoute config n old history) came
+  places : Each (λ l. name_at source l.place ≡ Some l.wanted.name) came
 
 lists-come : PointsEndInRoutes → (config : Config) (n : ℕ) (source : Source) (old : Old) (release : Release) (place : ℕ) (targets : List Target) (lists : List (Option Standing)) (history : History)
+    → ((k : ℕ) → name_at source (place + k) ≡ option_map (λ (t : Target). t.name) (slice_get targets k))
     → ListsStand config n source old release place targets lists history → list_all has_ended lists ≡ true
     → ListsCome config n source old release targets lists history
-lists-come law config n source old release place [] lists history h ended =
-    record { came = []; names = refl; ends = sym (ap ends_in h); routes = tt }
-lists-come law config n source old release place (target ∷ targets) [] history h ended = absurd h
-lists-come law config n source old release place (target ∷ targets) (None ∷ lists) history h ended =
-    let rest = lists-come law config n source old release (suc place) targets lists history h.1 ended in
-    record { came = rest.came; names = rw h.0.0 rest.names; ends = rest.ends; routes = rest.routes }
-lists-come law config n source old release place (target ∷ targets) (Some item ∷ lists) history h ended =
+lists-come law config n source old release place [] lists history at h ended =
+    record { came = []; names = refl; ends = sym (ap ends_in h); routes = tt; places = tt }
+lists-come law config n source old release place (target ∷ targets) [] history at h ended = absurd h
+lists-come law config n source old release place (target ∷ targets) (None ∷ lists) history at h ended =
+    let rest = lists-come law config n source old release (suc place) targets lists history (λ k. subst (λ (p : ℕ). name_at source p ≡ option_map (λ (t : Target). t.name) (slice_get targets k)) (omega arith) (at (suc k))) h.1 ended in
+    record { came = rest.came; names = rw h.0.0 rest.names; ends = rest.ends; routes = rest.routes; places = rest.places }
+lists-come law config n source old release place (target ∷ targets) (Some item ∷ lists) history at h ended =
     let parts = both (has_ended (Some item)) (list_all has_ended lists) ended in
-    let rest = lists-come law config n source old release (suc place) targets lists history h.1 parts.1 in
+    let rest = lists-come law config n source old release (suc place) targets lists history (λ k. subst (λ (p : ℕ). name_at source p ≡ option_map (λ (t : Target). t.name) (slice_get targets k)) (omega arith) (at (suc k))) h.1 parts.1 in
     let sum : Sum = h.0.0 in
     let w : Wanted = want source release config.settings target sum in
     let heard : HasHeard config.settings.retries n target.path (walk_for config old w) (history place) item = h.0.2 in
     let over = over-at item.point parts.0 in
     let route : EndsInRoute config n place target.path (walk_for config old w) history over.0 =
-    routed law config n place target.path (walk_for config old w) history over.0 (sym heard.stands ∙ over.1) heard.logged in
+    routed law config n place target.path (walk_for config old w) history over.0 (sym heard.stands ∙ over.1) heard.asks heard.logged in
     record {
       came = (record { wanted = w; place = place; end = over.0 }) ∷ rest.came;
       names = rw h.0.1 (ap (λ ws. w ∷ ws) rest.names);
       ends = ap (λ es. over.0 ∷ es) rest.ends ∙ sym (ends-cons item over.0 lists over.1);
       routes = (route, rest.routes);
+      places = (subst (λ (p : ℕ). name_at source p ≡ Some target.name) (omega arith) (at 0), rest.places);
     }
 
 -- ---- a source
 
-listing-verdict : (source : Source) (old : Old) (set : Admitted) (there : Bool) (lists : List (Option Standing)) (had_all : Result (Unit {0}) Staying) (verdict : Verdict2) → there ≡ is_there source old set
+pub listing-verdict : (source : Source) (old : Old) (set : Admitted) (there : Bool) (lists : List (Option Standing)) (had_all : Result (Unit {0}) Staying) (verdict : Verdict2) → there ≡ is_there source old set
     → verdict ≡ (settled_lists source set there lists had_all).verdict → verdict ≡ verdict_for source old (had set had_all)
 listing-verdict source old set true lists (Ok each) verdict is e = e ∙ sym (rw (← is) refl)
 listing-verdict source old set false lists (Ok each) verdict is e = e ∙ sym (rw (← is) refl)
@@ -124,15 +131,16 @@ sources-come law config n source old verdict history was = one was.slot was.open
     one (Asking kept release) h ready is = absurd (cc)
     one (Listing set there lists) h ready is =
         let came : HasCome config n source old (history 0) (Ok set) = h.0 in
-        let ls = lists-come law config n source old set.release 1 source.targets lists history h.2 ready in
+        let ls = lists-come law config n source old set.release 1 source.targets lists history (λ k. ap (name_at source) (suc-one k)) h.2 ready in
         let settled : settled_lists source set there lists (all_had (ends_in lists)) ≡ was.settled = cc in
         let told : verdict ≡ (settled_lists source set there lists (all_had (ends_in lists))).verdict = was.told ∙ ap (λ (s : Settled). s.verdict) (sym settled) in
         record {
           end = came.end;
-          release = routed law config n 0 release_text (release_walk source) history came.end came.ends came.logged;
+          release = routed law config n 0 release_text (release_walk source) history came.end came.ends came.asks came.logged;
           lists = ls.came;
           named_lists = ls.names ∙ sym (ap (wanted_by source config.settings) came.came_to);
           routes = ls.routes;
+          places = ls.places;
           is = listing-verdict source old set there lists (all_had (ends_in lists)) verdict h.1 told
               ∙ ap (λ (es : List End). verdict_for source old (had set (all_had es))) (sym ls.ends)
               ∙ ap (verdict_for source old) (sym (outcome-listing came.end (map (λ (l : ListEnd). l.end) ls.came) old.release config set came.came_to));
@@ -142,10 +150,11 @@ sources-come law config n source old verdict history was = one was.slot was.open
         let settled : unchanged (staying_verdict why) ≡ was.settled = cc in
         record {
           end = came.end;
-          release = routed law config n 0 release_text (release_walk source) history came.end came.ends came.logged;
+          release = routed law config n 0 release_text (release_walk source) history came.end came.ends came.asks came.logged;
           lists = [];
           named_lists = sym (ap (wanted_by source config.settings) came.came_to);
           routes = tt;
+          places = tt;
           is = was.told ∙ ap (λ (s : Settled). s.verdict) (sym settled) ∙ ap (verdict_for source old) (sym (outcome-refused came.end [] old.release config why came.came_to));
         }
     one Closed h ready is = absurd h

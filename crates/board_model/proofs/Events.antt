@@ -6,6 +6,7 @@ use Rattle.std.proofs.lemmas.List.{append-nil, map-append}
 use Rattle.std.proofs.lemmas.Bool.Decides.{nat_tests}
 use Rattle.std.proofs.Math.Path.{fun_ext}
 use Rattle.std.specs.List.{list_any}
+use Rattle.acq_base.specs.declared.fetch.Job.{Job}
 use Rattle.acq_base.specs.declared.installed.Old.{Old}
 use Rattle.acq_base.specs.declared.plan.Source.{Source}
 use Rattle.host_queues.specs.Lanes.{changed_at}
@@ -17,10 +18,10 @@ use Rattle.update_model.specs.declared.ask.Ask.{Ask}
 use Rattle.update_model.specs.declared.ask.Closed.{Closed as closed_type}
 use Rattle.update_model.specs.declared.settled.Settled.{Settled}
 use Rattle.update_model.specs.declared.settled.Verdict2.{Verdict2}
-use Rattle.board_model.specs.Boards.{Board, Asker, asker_of, first_ready, first_release, first_slots, heard_by, issued, lane_with, no_verdict, settled_as, settled_of, took, took_from}
+use Rattle.board_model.specs.Boards.{Board, Asker, asker_of, first_ready, first_release, first_slots, heard_by, issued, issued_job, lane_with, no_verdict, settled_as, settled_of, took, took_from}
 use Rattle.board_model.specs.Keys.{key_at, path_at, same_key}
 use Rattle.board_model.specs.Laws.{BoardsStand}
-use Rattle.board_model.specs.Runs.{Answered, Event, Issue, Answer, Absorb, Settle, Note, World, answered, happens, note_of, noted, run, settle_as, settle_first, start, take_first, told_by}
+use Rattle.board_model.specs.Runs.{Answered, Event, Issue, Answer, Absorb, Settle, Note, World, answered, entry_of, sent_job, without_job, happens, note_of, noted, run, settle_as, settle_first, start, take_first, told_by}
 use Rattle.board_model.specs.Settling.{settled_in}
 use Rattle.board_model.specs.Slots.{Config, Slot, Asking, Closed, ask_of, item_in, item_at, joined, heard_at, is_ready}
 use Rattle.board_model.specs.Stands.{History, IsOpen, SourceStands, StandsAt, AllStand, history_of, of_key}
@@ -31,7 +32,7 @@ use Rattle.board_model.proofs.Sources.{with_note, heard-open}
 
 -- ---- at the beginning
 
-first-slot : (config : Config) (sources : List Source) (olds : List Old) (n : ℕ) (source : Source) (old : Old)
+pub first-slot : (config : Config) (sources : List Source) (olds : List Old) (n : ℕ) (source : Source) (old : Old)
     → slice_get sources n ≡ Some source → slice_get olds n ≡ Some old
     → slice_get (first_slots config sources olds) n ≡ Some (Asking old (first_release config source))
 first-slot config [] olds n source old s o = absurd (cc)
@@ -104,24 +105,24 @@ history-there : (n : ℕ) (notes : List Note) (note : Note) → nat_eq n note.ke
 history-there n notes note apart = fun_ext (λ place. of-other (record { source = n; place = place }) notes note (apart-source note.key (record { source = n; place = place }) apart))
 
 -- a source of which no item asks isn't closed where one does
-still-open : (config : Config) (n : ℕ) (source : Source) (old : Old) (slot : Slot) (verdict : Verdict2) (history : History) (place : ℕ) (ask : Ask)
+pub still-open : (config : Config) (n : ℕ) (source : Source) (old : Old) (slot : Slot) (verdict : Verdict2) (history : History) (place : ℕ) (ask : Ask)
     → SourceStands config n source old slot verdict history → ask_of (item_in slot place) ≡ Some ask → IsOpen config n source old slot history
 still-open config n source old slot verdict history place ask (inl h) asks = h
 still-open config n source old slot verdict history place ask (inr h) asks =
     let none : ask_of (item_in Closed place) ≡ Some ask = subst (λ (s : Slot). ask_of (item_in s place) ≡ Some ask) h.0 asks in
     absurd (cc)
 
-took-stands : (config : Config) (olds : List Old) (w : World) (queue : List Answered) (number from : ℕ) (a : Asker) (told : Told) → AllStand config olds w → IsAsker w.board a
-    → AllStand config olds (record { board = took w.board number a from told; queue = queue; notes = w.notes ++ note_of a told ∷ [] })
-took-stands config olds w queue number from a told h asker = record {
+took-stands : (config : Config) (olds : List Old) (w : World) (jobs : List (Option Job)) (queue : List Answered) (number from : ℕ) (a : Asker) (told : Told) → AllStand config olds w → IsAsker w.board a
+    → AllStand config olds (record { board = took w.board number a from told; jobs = jobs; queue = queue; notes = w.notes ++ note_of a told ∷ [] })
+took-stands config olds w jobs queue number from a told h asker = record {
   config_is = h.config_is;
   sources = λ n source old s o. one n source old s o (h.sources n source old s o) (cases_Bool (nat_eq n a.key.source));
-  log = ap (λ es. es ++ (note_of a told).entry ∷ []) h.log ∙ sym (map-append (λ (note : Note). note.entry) w.notes (note_of a told ∷ []));
+  log = ap (λ es. es ++ entry_of (note_of a told) ∷ []) h.log ∙ sym (map-append entry_of w.notes (note_of a told ∷ []));
 }
   where
     one : (n : ℕ) (source : Source) (old : Old) → slice_get config.sources n ≡ Some source → slice_get olds n ≡ Some old → StandsAt config n source old w
         → (nat_eq n a.key.source ≡ true) ⊎ (nat_eq n a.key.source ≡ false)
-        → StandsAt config n source old (record { board = took w.board number a from told; queue = queue; notes = w.notes ++ note_of a told ∷ [] })
+        → StandsAt config n source old (record { board = took w.board number a from told; jobs = jobs; queue = queue; notes = w.notes ++ note_of a told ∷ [] })
     one n source old s o at (inr apart) = record {
       slot = at.slot;
       verdict = at.verdict;
@@ -136,11 +137,11 @@ took-stands config olds w queue number from a told h asker = record {
         let source_same : Some a.source ≡ Some source = sym asker.source ∙ ap (λ (c : Config). slice_get c.sources a.key.source) h.config_is ∙ ap (slice_get config.sources) (sym is) ∙ s in
         let the_source : a.source ≡ source = cc in
         let asks : ask_of (item_in at.slot a.key.place) ≡ Some a.ask = subst (λ (x : Slot). ask_of (item_in x a.key.place) ≡ Some a.ask) slot asker.asks in
-        let entry_is : (note_of a told).entry ≡ entry n (path_at source a.key.place) a.ask told =
+        let entry_is : entry_of (note_of a told) ≡ entry n (path_at source a.key.place) a.ask told =
         ap (λ (x : ℕ). entry x (path_at a.source a.key.place) a.ask told) (sym is) ∙ ap (λ (x : Source). entry n (path_at x a.key.place) a.ask told) the_source in
         let open_slot : IsOpen config n source old at.slot (history_of n w.notes) = still-open config n source old at.slot at.verdict (history_of n w.notes) a.key.place a.ask at.stands asks in
         let heard : IsOpen config n source old (heard_at config source a.key.place told at.slot) (with_note (history_of n w.notes) a.key.place (note_of a told)) =
-        heard-open config n source old at.slot (history_of n w.notes) a.key.place a.ask (note_of a told) open_slot asks entry_is in
+        heard-open config n source old at.slot (history_of n w.notes) a.key.place a.ask (note_of a told) open_slot asks refl entry_is in
         let history : history_of n (w.notes ++ note_of a told ∷ []) ≡ with_note (history_of n w.notes) a.key.place (note_of a told) =
         ap (λ (x : ℕ). history_of x (w.notes ++ note_of a told ∷ [])) is ∙ history-here w.notes (note_of a told) ∙ ap (λ (x : ℕ). with_note (history_of x w.notes) a.key.place (note_of a told)) (sym is) in
         record {
@@ -156,26 +157,26 @@ took-stands config olds w queue number from a told h asker = record {
         }
 
 -- where nothing is noted, the board stays
-kept-stands : (config : Config) (olds : List Old) (w : World) (queue : List Answered) (board : Board) (notes : List Note) → board ≡ w.board → notes ≡ [] → AllStand config olds w
-    → AllStand config olds (record { board = board; queue = queue; notes = w.notes ++ notes })
-kept-stands config olds w queue board notes b none h =
+kept-stands : (config : Config) (olds : List Old) (w : World) (jobs : List (Option Job)) (queue : List Answered) (board : Board) (notes : List Note) → board ≡ w.board → notes ≡ [] → AllStand config olds w
+    → AllStand config olds (record { board = board; jobs = jobs; queue = queue; notes = w.notes ++ notes })
+kept-stands config olds w jobs queue board notes b none h =
     let same : w.notes ≡ w.notes ++ notes = sym (append-nil w.notes) ∙ ap (λ ns. w.notes ++ ns) (sym none) in
-    let base : AllStand config olds (record { board = w.board; queue = queue; notes = w.notes }) = record { config_is = h.config_is; sources = λ n source old s o. carried (h.sources n source old s o); log = h.log } in
-    subst (λ (ns : List Note). AllStand config olds (record { board = board; queue = queue; notes = ns })) same
-    (subst (λ (x : Board). AllStand config olds (record { board = x; queue = queue; notes = w.notes })) (sym b) base)
+    let base : AllStand config olds (record { board = w.board; jobs = jobs; queue = queue; notes = w.notes }) = record { config_is = h.config_is; sources = λ n source old s o. carried (h.sources n source old s o); log = h.log } in
+    subst (λ (ns : List Note). AllStand config olds (record { board = board; jobs = jobs; queue = queue; notes = ns })) same
+    (subst (λ (x : Board). AllStand config olds (record { board = x; jobs = jobs; queue = queue; notes = w.notes })) (sym b) base)
   where
-    carried : {n : ℕ} {source : Source} {old : Old} → StandsAt config n source old w → StandsAt config n source old (record { board = w.board; queue = queue; notes = w.notes })
+    carried : {n : ℕ} {source : Source} {old : Old} → StandsAt config n source old w → StandsAt config n source old (record { board = w.board; jobs = jobs; queue = queue; notes = w.notes })
     carried at = record { slot = at.slot; verdict = at.verdict; slot_is = at.slot_is; verdict_is = at.verdict_is; stands = at.stands }
 
 absorb-stands : (config : Config) (olds : List Old) (w : World) (queue : List Answered) → AllStand config olds w → AllStand config olds (take_first w queue)
 absorb-stands config olds w [] h = h
-absorb-stands config olds w (x ∷ queue) h = one (lane_with w.board.out x.no) (asker_of w.board x.no) refl
+absorb-stands config olds w (x ∷ queue) h = one (lane_with w.board.out x.job.no) (asker_of w.board x.job.no) refl
   where
-    one : (from : Option ℕ) (asker : Option Asker) → asker_of w.board x.no ≡ asker
-        → AllStand config olds (record { board = took_from w.board x.no (told_by x) from asker; queue = queue; notes = w.notes ++ noted (told_by x) from asker })
-    one None asker e = kept-stands config olds w queue w.board [] refl refl h
-    one (Some from) None e = kept-stands config olds w queue w.board [] refl refl h
-    one (Some from) (Some a) e = took-stands config olds w queue x.no from a (told_by x) h (is-asker w.board x.no a e)
+    one : (from : Option ℕ) (asker : Option Asker) → asker_of w.board x.job.no ≡ asker
+        → AllStand config olds (record { board = took_from w.board x.job.no (told_by x) from asker; jobs = without_job from asker w.jobs; queue = queue; notes = w.notes ++ noted (told_by x) from asker })
+    one None asker e = kept-stands config olds w w.jobs queue w.board [] refl refl h
+    one (Some from) None e = kept-stands config olds w w.jobs queue w.board [] refl refl h
+    one (Some from) (Some a) e = took-stands config olds w (changed_at from (λ (other : Option Job). None) w.jobs) queue x.job.no from a (told_by x) h (is-asker w.board x.job.no a e)
 
 -- ---- a source is settled
 
@@ -256,27 +257,27 @@ settle-stands config olds w h = one (first_ready w.board.slots) refl
 
 -- ---- all events
 
-answer-stands : (config : Config) (olds : List Old) (w : World) (method : ℕ) (closed : closed_type) (number : Option ℕ) → AllStand config olds w → AllStand config olds (answered w method closed number)
+answer-stands : (config : Config) (olds : List Old) (w : World) (method : ℕ) (closed : closed_type) (job : Option Job) → AllStand config olds w → AllStand config olds (answered w method closed job)
 answer-stands config olds w method closed None h = h
-answer-stands config olds w method closed (Some number) h = one (list_any (λ (a : Answered). nat_eq a.no number) w.queue)
+answer-stands config olds w method closed (Some job) h = one (list_any (λ (a : Answered). nat_eq a.job.no job.no) w.queue)
   where
-    one : (b : Bool) → AllStand config olds (if b then w else record w { queue = w.queue ++ (record { no = number; lane = method; closed = closed }) ∷ [] })
+    one : (b : Bool) → AllStand config olds (if b then w else record w { queue = w.queue ++ (record { job = job; lane = method; closed = closed }) ∷ [] })
     one true = h
     one false = record { config_is = h.config_is; sources = λ n source old s o. carried (h.sources n source old s o); log = h.log }
       where
         carried : {n : ℕ} {source : Source} {old : Old} → StandsAt config n source old w
-            → StandsAt config n source old (record w { queue = w.queue ++ (record { no = number; lane = method; closed = closed }) ∷ [] })
+            → StandsAt config n source old (record w { queue = w.queue ++ (record { job = job; lane = method; closed = closed }) ∷ [] })
         carried at = record { slot = at.slot; verdict = at.verdict; slot_is = at.slot_is; verdict_is = at.verdict_is; stands = at.stands }
 
 issue-stands : (config : Config) (olds : List Old) (w : World) (lane : ℕ) → AllStand config olds w → AllStand config olds (happens w (Issue lane))
 issue-stands config olds w lane h = record { config_is = h.config_is; sources = λ n source old s o. carried (h.sources n source old s o); log = h.log }
   where
-    carried : {n : ℕ} {source : Source} {old : Old} → StandsAt config n source old w → StandsAt config n source old (record w { board = issued w.board lane })
+    carried : {n : ℕ} {source : Source} {old : Old} → StandsAt config n source old w → StandsAt config n source old (record w { board = issued w.board lane; jobs = sent_job lane (issued_job w.board lane) w.jobs })
     carried at = record { slot = at.slot; verdict = at.verdict; slot_is = at.slot_is; verdict_is = at.verdict_is; stands = at.stands }
 
 event-stands : (config : Config) (olds : List Old) (w : World) (event : Event) → AllStand config olds w → AllStand config olds (happens w event)
 event-stands config olds w (Issue lane) h = issue-stands config olds w lane h
-event-stands config olds w (Answer lane method closed) h = answer-stands config olds w method closed (joined (slice_get w.board.out lane)) h
+event-stands config olds w (Answer lane method closed) h = answer-stands config olds w method closed (joined (slice_get w.jobs lane)) h
 event-stands config olds w Absorb h = absorb-stands config olds w w.queue h
 event-stands config olds w Settle h = settle-stands config olds w h
 

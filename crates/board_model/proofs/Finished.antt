@@ -4,6 +4,7 @@ use Rattle.std.specs.Prelude.{if◌then◌else◌, slice_get, Result, Ok, Err}
 use Rattle.std.specs.List.{AllByRecursion as Each, list_any}
 use Rattle.std.proofs.lemmas.Bool.Decides.{nat_tests}
 use Rattle.std.proofs.lemmas.List.{length-append}
+use Rattle.acq_base.specs.declared.fetch.Job.{Job}
 use Rattle.acq_base.specs.declared.installed.Old.{Old}
 use Rattle.acq_base.specs.declared.plan.Source.{Source}
 use Rattle.host_queues.specs.Lanes.{changed_at}
@@ -86,10 +87,10 @@ started config (source ∷ sources) (old ∷ olds) same =
 
 absorbed-counted : (w : World) (queue : List Answered) → Counted w → Counted (take_first w queue)
 absorbed-counted w [] h = h
-absorbed-counted w (x ∷ queue) h = one (lane_with w.board.out x.no) (asker_of w.board x.no)
+absorbed-counted w (x ∷ queue) h = one (lane_with w.board.out x.job.no) (asker_of w.board x.job.no)
   where
     one : (from : Option ℕ) (asker : Option Asker)
-        → length (took_from w.board x.no (told_by x) from asker).settled + count_open (took_from w.board x.no (told_by x) from asker).slots ≡ length (took_from w.board x.no (told_by x) from asker).config.sources
+        → length (took_from w.board x.job.no (told_by x) from asker).settled + count_open (took_from w.board x.job.no (told_by x) from asker).slots ≡ length (took_from w.board x.job.no (told_by x) from asker).config.sources
     one None asker = h
     one (Some from) None = h
     one (Some from) (Some a) =
@@ -111,17 +112,17 @@ settled-counted w h = one (first_ready w.board.slots) refl
     one None ready = h
     one (Some n) ready = two n (settled_of w.board n) ready
 
-answered-counted : (w : World) (method : ℕ) (closed : Answered_as) (number : Option ℕ) → Counted w → Counted (answered w method closed number)
+answered-counted : (w : World) (method : ℕ) (closed : Answered_as) (job : Option Job) → Counted w → Counted (answered w method closed job)
 answered-counted w method closed None h = h
-answered-counted w method closed (Some number) h = one (list_any (λ (a : Answered). nat_eq a.no number) w.queue)
+answered-counted w method closed (Some job) h = one (list_any (λ (a : Answered). nat_eq a.job.no job.no) w.queue)
   where
-    one : (b : Bool) → Counted (if b then w else record w { queue = w.queue ++ (record { no = number; lane = method; closed = closed }) ∷ [] })
+    one : (b : Bool) → Counted (if b then w else record w { queue = w.queue ++ (record { job = job; lane = method; closed = closed }) ∷ [] })
     one true = h
     one false = h
 
 event-counted : (w : World) (event : Event) → Counted w → Counted (happens w event)
 event-counted w (Issue lane) h = h
-event-counted w (Answer lane method closed) h = answered-counted w method closed (joined (slice_get w.board.out lane)) h
+event-counted w (Answer lane method closed) h = answered-counted w method closed (joined (slice_get w.jobs lane)) h
 event-counted w Absorb h = absorbed-counted w w.queue h
 event-counted w Settle h = settled-counted w h
 

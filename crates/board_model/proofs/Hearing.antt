@@ -9,9 +9,9 @@ use Rattle.update_model.specs.Trails.{Told}
 use Rattle.update_model.specs.Walks.{Walk}
 use Rattle.update_model.specs.declared.ask.Ask.{Ask}
 use Rattle.board_model.specs.Keys.{same_key}
-use Rattle.board_model.specs.Runs.{Note}
+use Rattle.board_model.specs.Runs.{Note, entry_of}
 use Rattle.board_model.specs.Slots.{Standing, stepped}
-use Rattle.board_model.specs.Stands.{HasHeard, of_key, tolds}
+use Rattle.board_model.specs.Stands.{AreAsked, HasHeard, of_key, tolds}
 use Rattle.board_model.specs.declared.key.Key.{Key}
 
 run-more : (retries : ℕ) (p : Point) (ts : List Told) (t : Told) → run retries p (ts ++ t ∷ []) ≡ step retries (run retries p ts) t
@@ -31,28 +31,33 @@ entry-asked source path (At a left faults next) ask t e =
     let same : a ≡ ask = cc in
     ap (λ (x : Ask). entry source path x t ∷ []) same
 
+asked-more : (retries : ℕ) (p : Point) (heard : List Note) (note : Note) → AreAsked retries p heard → asked (run retries p (tolds heard)) ≡ Some note.ask → AreAsked retries p (heard ++ note ∷ [])
+asked-more retries p [] note h is = (is, tt)
+asked-more retries p (x ∷ heard) note h is = (h.0, asked-more retries (step retries p x.told) heard note h.1 is)
+
 -- the item that is asked, and the note that is taken of its answer
 pub heard-more : (retries source : ℕ) (path : List ℕ) (walk : Walk) (heard : List Note) (item : Standing) (ask : Ask) (note : Note)
-    → HasHeard retries source path walk heard item → asked item.point ≡ Some ask → note.entry ≡ entry source path ask note.told
+    → HasHeard retries source path walk heard item → asked item.point ≡ Some ask → note.ask ≡ ask → entry_of note ≡ entry source path ask note.told
     → HasHeard retries source path walk (heard ++ note ∷ []) (stepped note.told item)
-heard-more retries source path walk heard item ask note h asks is =
+heard-more retries source path walk heard item ask note h asks same is =
     let p = start retries walk in
     let ts = tolds heard in
     let more : tolds (heard ++ note ∷ []) ≡ ts ++ note.told ∷ [] = map-append (λ (n : Note). n.told) heard (note ∷ []) in
     let stands : step item.retries item.point note.told ≡ run retries p (ts ++ note.told ∷ []) =
     ap (λ (r : ℕ). step r item.point note.told) h.repeats ∙ ap (λ (q : Point). step retries q note.told) h.stands ∙ sym (run-more retries p ts note.told) in
-    let one : entry_at source path (run retries p ts) note.told ≡ note.entry ∷ [] =
+    let one : entry_at source path (run retries p ts) note.told ≡ entry_of note ∷ [] =
     entry-asked source path (run retries p ts) ask note.told (sym (ap asked h.stands) ∙ asks) ∙ ap (λ (e : _). e ∷ []) (sym is) in
     record {
       repeats = h.repeats;
       stands = stands ∙ sym (ap (run retries p) more);
-      logged = map-append (λ (n : Note). n.entry) heard (note ∷ []) ∙ ap (λ es. es ++ note.entry ∷ []) h.logged
+      asks = asked-more retries p heard note h.asks (sym (ap asked h.stands) ∙ asks ∙ ap Some (sym same));
+      logged = map-append entry_of heard (note ∷ []) ∙ ap (λ es. es ++ entry_of note ∷ []) h.logged
           ∙ sym (ap (λ es. ran retries source path p ts ++ es) one)
           ∙ sym (ran-more retries source path p ts note.told) ∙ sym (ap (ran retries source path p) more);
     }
 
 pub none-heard : (retries source : ℕ) (path : List ℕ) (walk : Walk) → HasHeard retries source path walk [] (record { retries = retries; point = start retries walk })
-none-heard retries source path walk = record { repeats = refl; stands = refl; logged = refl }
+none-heard retries source path walk = record { repeats = refl; stands = refl; asks = tt; logged = refl }
 
 -- ---- the notes of one item
 

@@ -1,5 +1,5 @@
 -- What a source comes to, by the routes of its items.
-use Rattle.std.specs.Prelude.{◌≡◌, ℕ, length, if◌then◌else◌, List, map, Ok, Err}
+use Rattle.std.specs.Prelude.{◌≡◌, ℕ, length, if◌then◌else◌, List, map, Some, Ok, Err}
 use Rattle.std.specs.List.{AllByRecursion as Each}
 use Rattle.acq_base.specs.Mirror.{World as Mirror}
 use Rattle.acq_base.specs.declared.installed.Old.{Old}
@@ -7,7 +7,7 @@ use Rattle.acq_base.specs.declared.plan.Source.{Source}
 use Rattle.item_graph.specs.Histories.{AgreesAlong, LivesAlong}
 use Rattle.item_graph.specs.Laws.{IsToldRoute}
 use Rattle.update_model.specs.Outcomes.{Outcome, Directory, Parts, admitted, outcome, wanted_by}
-use Rattle.update_model.specs.Points.{start}
+use Rattle.update_model.specs.Points.{Over, run, start}
 use Rattle.update_model.specs.Releases.{release_text}
 use Rattle.update_model.specs.Trails.{entries}
 use Rattle.update_model.specs.Walks.{Walk, release_walk, target_walk}
@@ -15,10 +15,10 @@ use Rattle.update_model.specs.declared.end.End.{End}
 use Rattle.update_model.specs.declared.settled.Verdict2.{Verdict2}
 use Rattle.update_model.specs.declared.settled.Verdict2.TheVariants.{Installed, Hit}
 use Rattle.update_model.specs.declared.wanted.Wanted.{Wanted}
-use Rattle.board_model.specs.Keys.{named}
+use Rattle.board_model.specs.Keys.{name_at, named}
 use Rattle.board_model.specs.Settling.{held_of, staying_verdict}
 use Rattle.board_model.specs.Slots.{Config, is_there}
-use Rattle.board_model.specs.Stands.{History, tolds, entries_of}
+use Rattle.board_model.specs.Stands.{AreAsked, History, tolds, entries_of}
 
 -- the verdict of an outcome: a set is a hit where it is installed already, with nothing else
 abbrev pub verdict_for : Source → Old → Outcome → Verdict2
@@ -37,6 +37,8 @@ walk_for config old w = target_walk (named old.lists w.name.0) (config.sizes w.n
 -- what the item at a place has heard is a route of this walk, whose entries are those of the log, and this is its end
 pub record EndsInRoute (config : Config) (n place : ℕ) (path : List ℕ) (walk : Walk) (history : History) (end : End) : Type 0 where
   pub told : IsToldRoute config.settings.retries walk (tolds (history place)) end
+  pub asks : AreAsked config.settings.retries (start config.settings.retries walk) (history place)
+  pub ends : run config.settings.retries (start config.settings.retries walk) (tolds (history place)) ≡ Over end
   pub logged : entries_of (history place) ≡ entries n path told.trails
 
 abbrev pub ListEndsInRoute : Config → ℕ → Old → History → ListEnd → Type 0
@@ -50,6 +52,7 @@ pub record ComesTo (config : Config) (n : ℕ) (source : Source) (old : Old) (hi
   pub lists : List ListEnd
   pub named_lists : map (λ l. l.wanted) lists ≡ wanted_by source config.settings (admitted end old.release config.settings config.change config.now)
   pub routes : Each (ListEndsInRoute config n old history) lists
+  pub places : Each (λ l. name_at source l.place ≡ Some l.wanted.name) lists
   pub is : verdict ≡ verdict_for source old (outcome end (map (λ l. l.end) lists) old.release config.settings config.change config.now)
 
 -- ---- over a mirror

@@ -4,10 +4,11 @@ use Rattle.acq_base.specs.declared.installed.Old.{Old}
 use Rattle.acq_base.specs.declared.plan.Source.{Source}
 use Rattle.acq_base.specs.declared.plan.Target.{Target}
 use Rattle.acq_base.specs.declared.sum.Sum.{Sum}
+use Rattle.item_graph.specs.Items.{asked}
 use Rattle.release_file.specs.Release.{listed_sum}
 use Rattle.release_file.specs.declared.release.Release.{Release}
 use Rattle.update_model.specs.Outcomes.{Admitted, Staying, admitted}
-use Rattle.update_model.specs.Points.{Over, ran, run, start}
+use Rattle.update_model.specs.Points.{Point, Over, ran, run, start, step}
 use Rattle.update_model.specs.Releases.{release_text}
 use Rattle.update_model.specs.Trails.{Told}
 use Rattle.update_model.specs.Walks.{Walk, release_walk, target_walk}
@@ -17,7 +18,7 @@ use Rattle.update_model.specs.declared.log.Asked.{Asked}
 use Rattle.update_model.specs.declared.settled.Settled.{Settled}
 use Rattle.update_model.specs.declared.settled.Verdict2.{Verdict2}
 use Rattle.board_model.specs.Keys.{named, same_key}
-use Rattle.board_model.specs.Runs.{Note, World}
+use Rattle.board_model.specs.Runs.{Note, World, entry_of}
 use Rattle.board_model.specs.Settling.{settled_in}
 use Rattle.board_model.specs.Slots.{Config, Standing, Slot, Asking, Listing, Refused, Closed, is_ready, is_there}
 use Rattle.board_model.specs.declared.key.Key.{Key}
@@ -33,12 +34,18 @@ abbrev pub tolds : List Note → List Told
 tolds notes = map (λ note. note.told) notes
 
 abbrev pub entries_of : List Note → List Asked
-entries_of notes = map (λ note. note.entry) notes
+entries_of notes = map entry_of notes
+
+-- each of these answers is to what was asked at its point
+abbrev pub AreAsked : ℕ → Point → List Note → Type 0
+AreAsked retries p [] = Unit {0}
+AreAsked retries p (note ∷ notes) = (asked p ≡ Some note.ask) × AreAsked retries (step retries p note.told) notes
 
 -- an item has heard just these answers since its walk began, and the log's entries of it are theirs
 pub record HasHeard (retries source : ℕ) (path : List ℕ) (walk : Walk) (heard : List Note) (item : Standing) : Type 0 where
   pub repeats : item.retries ≡ retries
   pub stands : item.point ≡ run retries (start retries walk) (tolds heard)
+  pub asks : AreAsked retries (start retries walk) heard
   pub logged : entries_of heard ≡ ran retries source path (start retries walk) (tolds heard)
 
 -- the items of a source by place, each with what it has heard
@@ -54,6 +61,7 @@ history_of n notes place = of_key (record { source = n; place = place }) notes
 pub record HasCome (config : Config) (n : ℕ) (source : Source) (old : Old) (heard : List Note) (came : Result Admitted Staying) : Type 0 where
   pub end : End
   pub ends : run config.settings.retries (start config.settings.retries (release_walk source)) (tolds heard) ≡ Over end
+  pub asks : AreAsked config.settings.retries (start config.settings.retries (release_walk source)) heard
   pub logged : entries_of heard ≡ ran config.settings.retries n release_text (start config.settings.retries (release_walk source)) (tolds heard)
   pub came_to : admitted end old.release config.settings config.change config.now ≡ came
 
@@ -117,4 +125,4 @@ pub record StandsAt (config : Config) (n : ℕ) (source : Source) (old : Old) (w
 pub record AllStand (config : Config) (olds : List Old) (w : World) : Type 0 where
   pub config_is : w.board.config ≡ config
   pub sources : (n : ℕ) (source : Source) (old : Old) → slice_get config.sources n ≡ Some source → slice_get olds n ≡ Some old → StandsAt config n source old w
-  pub log : w.board.asks ≡ map (λ note. note.entry) w.notes
+  pub log : w.board.asks ≡ entries_of w.notes

@@ -2,3 +2,4 @@ pub mod Changes
 pub mod Places
 pub mod Turns
 pub mod Orders
+pub mod Single

@@ -1,13 +1,13 @@
 -- What is put into a lane is handed out of it in that order.
-use Rattle.std.proofs.Common.{◌≡◌, ◌∙◌, ℕ, zero, suc, ◌+◌, ◌%◌, ◌<◌, nat_eq, Bool, true, false, List, [], ◌∷◌, ◌++◌, length, Option, Some, None, refl, sym, ap, subst, inl, inr, arith, append_assoc, append-nil}
-use Rattle.std.specs.Prelude.{bytes_eq, if◌then◌else◌, unwrap_or, option_map, option_and_then, option_to_list, replicate, slice_get}
+use Rattle.std.proofs.Common.{◌≡◌, ◌∙◌, ℕ, zero, suc, ◌%◌, ◌<◌, nat_eq, Bool, true, false, List, [], ◌∷◌, ◌++◌, length, Option, Some, refl, sym, ap, subst, inl, inr, arith, append_assoc, append-nil}
+use Rattle.std.specs.Prelude.{bytes_eq, if◌then◌else◌, option_map, option_and_then, option_to_list, replicate, slice_get}
 use Rattle.std.specs.Option.{option_map_or}
 use Rattle.std.proofs.Math.ListN.{length-replicate}
 use Rattle.std.proofs.lemmas.Slice.Eq.{bytes_eq-Decides}
 use Rattle.std.proofs.lemmas.Bool.{cases_Bool}
 use Rattle.std.proofs.lemmas.Bool.Decides.{nat_tests}
-use Rattle.host_queues.specs.Lanes.{Queue, Lanes, empty_queue, no_hosts, lane_of, place_for, put_for, with_last, first, first_of, without_first, freed, taken_from, freed_at, changed_at}
-use Rattle.host_queues.specs.Laws.{Call, Put, Next, Done, after_call, after, put_by, handed_by, all_by, waiting_in, is_lane, LanesKeepOrder}
+use Rattle.host_queues.specs.Lanes.{Queue, Lanes, empty_queue, no_hosts, lane_of, place_for, put_for, with_last, first, without_first, freed, taken_from, freed_at, changed_at}
+use Rattle.host_queues.specs.Laws.{Call, Put, Next, Done, after, put_by, handed_by, all_by, waiting_in, is_lane, LanesKeepOrder}
 use Rattle.host_queues.proofs.Changes.{length-changed, get-some, get-changed, get-other}
 
 abbrev waiting : Option Queue → List ℕ

@@ -1,12 +1,12 @@
 -- Hosts get the lanes in turn and keep them.
-use Rattle.std.proofs.Common.{◌≡◌, ◌∙◌, ℕ, zero, suc, ◌+◌, ◌%◌, Bool, true, false, List, [], ◌∷◌, ◌++◌, length, Option, Some, None, refl, sym, ap, inl, inr, arith, length-append}
-use Rattle.std.specs.Prelude.{bytes_eq, if◌then◌else◌, unwrap_or, option_map, replicate}
+use Rattle.std.proofs.Common.{◌≡◌, ◌∙◌, ℕ, ◌+◌, ◌%◌, Bool, true, false, List, [], ◌∷◌, ◌++◌, length, Option, Some, None, refl, sym, ap, inl, inr, arith, length-append}
+use Rattle.std.specs.Prelude.{bytes_eq, if◌then◌else◌, unwrap_or, option_map}
 use Rattle.std.specs.List.{list_any}
 use Rattle.std.proofs.Math.ListN.{length-replicate}
 use Rattle.std.proofs.lemmas.Slice.Eq.{bytes_eq-Decides}
 use Rattle.std.proofs.lemmas.Bool.{cases_Bool}
-use Rattle.host_queues.specs.Lanes.{Queue, Lanes, empty_queue, no_hosts, lane_of, place_for, seen_with, with_host, put_for, with_last, without_first, freed, taken_from, freed_at, changed_at}
-use Rattle.host_queues.specs.Laws.{Call, Put, Next, Done, after_call, after, hosts_after, place_among, HostsTakeTurns, HostsKeepLanes}
+use Rattle.host_queues.specs.Lanes.{Lanes, empty_queue, no_hosts, place_for, seen_with, put_for, with_last, without_first, freed, taken_from, freed_at}
+use Rattle.host_queues.specs.Laws.{Call, Put, Next, Done, after, hosts_after, place_among, HostsTakeTurns, HostsKeepLanes}
 use Rattle.host_queues.proofs.Changes.{length-changed}
 
 -- ---- a host among hosts

@@ -1,6 +1,6 @@
 -- What the laws of this crate say.
-use Rattle.std.specs.Prelude.{◌≡◌, ℕ, ◌+◌, ◌%◌, ◌<◌, ◌==◌, Bool, false, if◌then◌else◌, List, [], ◌∷◌, ◌++◌, bytes_eq, slice_get, Option, Some, None, option_to_list, option_map}
-use Rattle.std.specs.List.{list_any}
+use Rattle.std.specs.Prelude.{◌≡◌, ℕ, ◌+◌, ◌%◌, ◌<◌, ◌==◌, Bool, true, false, not, if◌then◌else◌, List, [], ◌∷◌, ◌++◌, bytes_eq, slice_get, Option, Some, None, option_to_list, option_map}
+use Rattle.std.specs.List.{list_all, list_any}
 use Rattle.std.specs.Option.{option_map_or}
 use Rattle.host_queues.specs.Lanes.{Queue, Lanes, no_hosts, lane_of, put_for, first_of, taken_from, freed_at}
 
@@ -78,3 +78,16 @@ LanesKeepOrder =
     (count lane : ℕ) (calls : List Call) → lane < count
     → all_by put_by calls lane (no_hosts count)
     ≡ all_by handed_by calls lane (no_hosts count) ++ waiting_in lane (after calls (no_hosts count))
+
+-- a call frees a lane
+abbrev pub frees : ℕ → Call → Bool
+frees lane (Put host number) = false
+frees lane (Next other) = false
+frees lane (Done other) = lane == other
+
+-- once a number is out of a lane, none is handed out of it until the lane is freed
+abbrev pub OneIsOut : Type 0
+OneIsOut =
+    (lanes : Lanes) (lane number : ℕ) (calls : List Call)
+    → first_of lanes lane ≡ Some number → list_all (λ call. not (frees lane call)) calls ≡ true
+    → all_by handed_by calls lane (taken_from lane lanes) ≡ []

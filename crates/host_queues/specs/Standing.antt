@@ -1,5 +1,4 @@
 -- What queues stand for.
-use Rattle.std.specs.Prelude.{ℕ}
 use Rattle.std.specs.BTreeMap.{get, btree_map_len}
 use Rattle.std.specs.Cmp.Lexicographic.{slice_cmp}
 use Rattle.std.specs.Ordering.{nat_cmp}

@@ -25,7 +25,7 @@ pub fn items_end_as_obtained()
 }
 
 /// A list is asked for at sound URIs alone, whatever is answered.
-pub(crate) fn lists_ask_soundly()
+pub fn lists_ask_soundly()
     ensures { ListsAskSoundly }
 {
     routes_end_as_obtained();

@@ -1,10 +1,10 @@
-use Rattle.std.proofs.Common.{◌≡◌, ◌∙◌, ℕ, ◌+◌, List, Option, Some, None, sym, ap, rules, cond}
+use Rattle.std.proofs.Common.{◌≡◌, ◌∙◌, ℕ, ◌+◌, List, Option, Some, None, sym, ap, rules}
 use Rattle.std.specs.Prelude.{unwrap_or, bytes_eq, if◌then◌else◌}
 use Rattle.std.specs.BTreeMap.{get, btree_map_len}
 use Rattle.std.specs.Cmp.Lexicographic.{slice_cmp}
 use Rattle.std.specs.Ordering.{nat_cmp}
 use Rattle.std.proofs.Math.Path.{fun_ext}
-use Rattle.host_queues.specs.Lanes.{Queue, Lanes, seen_with}
+use Rattle.host_queues.specs.Lanes.{seen_with}
 use Rattle.host_queues.specs.Standing.{lanes_of}
 use Rattle.host_queues.proofs.Places.{same-places, inserted}
 use Rattle.host_queues.proofs.queues.Queues.place.Goals as goal

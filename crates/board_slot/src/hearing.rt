@@ -1,0 +1,116 @@
+//! What an answer makes of a source.
+
+ghost use Rattle.std.specs.Prelude.{◌≡◌, ◌<◌, IfOk, OnOk, Ok};
+ghost use Rattle.update_model.specs.Outcomes.{admitted};
+ghost use Rattle.board_model.specs.Slots as model;
+ghost use Rattle.board_source.specs.Listed.{standing_of};
+ghost use Rattle.board_source.specs.Parts.{config_of, found_of};
+ghost use Rattle.acq_base.specs.declared.plan.Source.{Source as AnySource};
+ghost use Rattle.board_slot.specs.Parts.{slot_of};
+ghost use Rattle.board_slot.specs.declared.slot.Slot.TheVariants as slots;
+
+use crate::slot::{Asking, Listing, Slot};
+use acq_base::{NoMemory, Old, Source};
+use board_source::{Admission, Begun, Found, Setup, admit, begin_lists};
+use kept_hooks::Judge;
+use std::alloc::Global;
+use update_model::{Closed, End};
+
+/// The Release hears an answer, which is the item at place 0.
+pub fn hear_release(
+    alloc: Global,
+    judge: &Judge,
+    setup: &Setup,
+    source: &Source,
+    asking: Asking,
+    place: usize,
+    lane: u32,
+    closed: Closed,
+) -> Result<Slot, NoMemory>
+    requires { judge.now.change ≡ setup.now.change }
+    ensures { IfOk result (λ slot. slot_of slot
+        ≡ model.heard_at (config_of setup.now) source.now place (record { lane = lane; closed = closed }) (slot_of (slots.Asking asking))) }
+{
+    if place != 0 {
+        drop(closed);
+        return Ok(Slot::Asking(asking));
+    }
+    let Asking { old, mut release } = asking;
+    release.answer(alloc, lane, closed)?;
+    after_release(alloc, judge, setup, source, Asking { old, release })
+}
+
+/// A source whose Release has heard an answer: it asks on, or it has ended.
+fn after_release(
+    alloc: Global,
+    judge: &Judge,
+    setup: &Setup,
+    source: &Source,
+    asking: Asking,
+) -> Result<Slot, NoMemory>
+    requires { judge.now.change ≡ setup.now.change }
+    ensures { IfOk result (λ slot. slot_of slot ≡ model.released (config_of setup.now) source.now asking.old (standing_of asking.release)) }
+{
+    if asking.release.ask().is_some() {
+        return Ok(Slot::Asking(asking));
+    }
+    let Asking { old, release } = asking;
+    listed(alloc, judge, setup, source, old, release.end())
+}
+
+/// A source whose Release came to this.
+fn listed(
+    alloc: Global,
+    judge: &Judge,
+    setup: &Setup,
+    source: &Source,
+    old: Old,
+    end: End,
+) -> Result<Slot, NoMemory>
+    requires { judge.now.change ≡ setup.now.change }
+    ensures { IfOk result (λ slot. slot_of slot ≡ model.listed (config_of setup.now) source.now old
+        (admitted end old.release setup.now.settings setup.now.change setup.now.moment)) }
+{
+    match admit(alloc, judge, setup, end, &old)? {
+        Admission::Admitted(found) => listing(alloc, setup, source, old, found),
+        Admission::Stays(why) => Ok(Slot::Refused(why)),
+    }
+}
+
+/// A source whose Release may be installed.
+fn listing(
+    alloc: Global,
+    setup: &Setup,
+    source: &Source,
+    old: Old,
+    found: Found,
+) -> Result<Slot, NoMemory>
+    ensures { IfOk result (λ slot. slot_of slot ≡ model.listed (config_of setup.now) source.now old (Ok (found_of found))) }
+{
+    let Begun { lists, there } = begin_lists(alloc, setup, source, old, &found)?;
+    Ok(Slot::Listing(Listing {
+        found,
+        there,
+        lists,
+    }))
+}
+
+/// The list at a place hears an answer, the first of which is 1.
+pub fn hear_list(
+    alloc: Global,
+    listing: Listing,
+    place: usize,
+    lane: u32,
+    closed: Closed,
+) -> Result<Slot, NoMemory>
+    ensures { (config : model.Config) (source : AnySource) → IfOk result (λ slot. slot_of slot
+        ≡ model.heard_at config source place (record { lane = lane; closed = closed }) (slot_of (slots.Listing listing))) }
+{
+    if place == 0 {
+        drop(closed);
+        return Ok(Slot::Listing(listing));
+    }
+    let mut listing = listing;
+    listing.lists.answer(alloc, place - 1, lane, closed)?;
+    Ok(Slot::Listing(listing))
+}
