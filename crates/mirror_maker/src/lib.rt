@@ -1,0 +1,15 @@
+//! A mirror of four sources before and after a day's update, made of a number: the same one of the same number, on every
+//! machine. One source has its list under its digest alone, one a patch, one a Release that moved, and one a patch that
+//! doesn't fit.
+#![tactic(auto)]
+
+pub use made::{Made, make};
+
+mod draws;
+mod lists;
+mod made;
+mod packages;
+mod rows;
+#[cfg(test)]
+mod tests;
+mod texts;
