@@ -1,0 +1,108 @@
+-- A list's file on its way as pieces come, from one moment of the disk to a later one.
+use Rattle.std.proofs.Common.{◌≡◌, ◌≢◌, refl, sym, ap, ◌∙◌, subst, ℕ, ◌+◌, ◌<◌, ◌≤◌, List, [], ◌∷◌, ◌++◌, length, take, length-append, arith}
+use Rattle.std.proofs.lemmas.List.{length-take-le, take-append-le}
+use Rattle.acq_base.specs.Sum.{sum_of}
+use Rattle.acq_base.specs.declared.sum.Sum.{Sum}
+use Rattle.acq_outside.specs.Crash.{State}
+use Rattle.acq_outside.specs.Going.{no_time, onward}
+use Rattle.acq_outside.specs.Moments.{IsTold, Since, Stands, From}
+use Rattle.hash_gate.specs.Pieces.{HasSummed, size_so_far}
+use Rattle.journal_model.specs.Rest.{IsPartSynced, IsPartThere, KeepsRest, StaysAtRest, bytes_in, part_bytes}
+use Rattle.partial_store.specs.Parts.{PartOf, part_of}
+use Rattle.job_fetch.specs.Fetched.{KeepsFront, LastsAs, Staging}
+use Rattle.job_fetch.specs.Pieces.{IsFilling}
+use Rattle.job_fetch.specs.declared.filling.Filling.{Filling}
+
+rests_by_steps : (a b c : State) → StaysAtRest a b → StaysAtRest b c → StaysAtRest a c
+rests_by_steps a b c first later = record { rest = λ idle folder rest. later.rest (first.idle idle) folder (first.rest idle folder rest); idle = λ idle. later.idle (first.idle idle) }
+
+told_first : (states old : List State) → IsTold (states ++ old) → (old ≡ [] → states ++ old ≡ []) → IsTold old
+told_first states [] told untold = subst IsTold (untold refl) told
+told_first states (s ∷ old) told untold = tt
+
+-- a disk that tells now told before
+pub told_before : (old new : List State) → Since old new (KeepsRest old) → IsTold new → IsTold old
+told_before old new since told = told_first since.states old (subst IsTold since.joined told) (λ none. sym since.joined ∙ since.untold none)
+
+pub staging_none : (name : List ℕ) (now : List State) → Staging name now now
+staging_none name now = record { moments = no_time now now (KeepsRest now) refl; others = λ other apart. refl }
+
+pub staging_more : (name : List ℕ) (old mid new : List State) → Staging name old mid → Staging name mid new → Staging name old new
+staging_more name old mid new first later = record {
+  moments = onward StaysAtRest rests_by_steps old mid new first.moments later.moments;
+  others = λ other apart. later.others other apart ∙ first.others other apart;
+}
+
+pub filled_on : (old new : List State) (before after : Filling) (piece : List ℕ) → IsFilling old before → Since old new (KeepsRest old)
+    → after.part ≡ part_of before.part.name (before.part.len + length piece)
+    → Stands (IsPartThere before.part.name) new
+    → (IsTold new → part_bytes new before.part.name ≡ part_bytes old before.part.name ++ piece)
+    → size_so_far after.total ≡ size_so_far before.total + length piece
+    → ((bytes : List ℕ) → HasSummed before.total bytes → HasSummed after.total (bytes ++ piece))
+    → IsFilling new after
+filled_on old new before after piece is since part there bytes size taken =
+    let name : after.part.name ≡ before.part.name = ap (λ p. p.name) part in
+    let len : after.part.len ≡ before.part.len + length piece = ap (λ p. p.len) part in
+    record {
+      there = subst (λ n. Stands (IsPartThere n) new) (sym name) there;
+      len = λ told. let long = ap length (bytes told) in
+          ap (λ n. length (part_bytes new n)) name ∙ long ∙ length-append (part_bytes old before.part.name) piece
+          ∙ ap (λ n. n + length piece) (is.len (told_before old new since told)) ∙ sym len;
+      small = omega (arith, is.small, size, len);
+      summed = λ told.
+          subst (λ b. HasSummed after.total b) (sym (ap (λ n. part_bytes new n) name ∙ bytes told))
+          (taken (part_bytes old before.part.name) (is.summed (told_before old new since told)));
+    }
+
+pub begun : (old mid new : List State) (name : List ℕ) (keep : ℕ) (filling : Filling) → (IsTold old → keep ≤ length (part_bytes old name)) → Since old mid (KeepsRest old)
+    → filling.part ≡ part_of name keep → Stands (IsPartThere name) mid → (IsTold mid → part_bytes mid name ≡ take keep (part_bytes old name)) → new ≡ mid
+    → size_so_far filling.total ≤ keep → (IsTold mid → length (part_bytes mid name) ≡ keep → HasSummed filling.total (part_bytes mid name)) → IsFilling new filling
+begun old mid new name keep filling has since part there bytes still small sums =
+    let named : filling.part.name ≡ name = ap (λ p. p.name) part in
+    let len : filling.part.len ≡ keep = ap (λ p. p.len) part in
+    let long : IsTold mid → length (part_bytes mid name) ≡ keep = λ told. ap length (bytes told) ∙ length-take-le keep (part_bytes old name) (has (told_before old mid since told)) in
+    subst (λ t. IsFilling t filling) (sym still) record {
+      there = subst (λ n. Stands (IsPartThere n) mid) (sym named) there;
+      len = λ told. ap (λ n. length (part_bytes mid n)) named ∙ long told ∙ sym len;
+      small = omega (arith, small, len);
+      summed = λ told. subst (λ n. HasSummed filling.total (part_bytes mid n)) (sym named) (sums told (long told));
+    }
+
+pub staging_named : (given name : List ℕ) (old new : List State) → given ≡ name → Staging given old new → Staging name old new
+staging_named given name old new same staging = subst (λ n. Staging n old new) same staging
+
+-- what is synced lasts, with these bytes
+pub synced_bytes : (now : List State) (name bytes : List ℕ) → IsTold now → Stands (IsPartSynced name bytes) now → part_bytes now name ≡ bytes
+synced_bytes [] name bytes told synced = elim told [ ]
+synced_bytes (s ∷ past) name bytes told synced = ap bytes_in synced.is
+
+pub lasts_as : (now : List State) (name bytes : List ℕ) (sum : Sum) → IsTold now → Stands (IsPartSynced name bytes) now → sum_of bytes ≡ sum → LastsAs name now sum
+lasts_as [] name bytes sum told synced sums = elim told [ ]
+lasts_as (s ∷ past) name bytes sum told synced sums = record { bytes = bytes; file = synced.is; sums = sums }
+
+pub front_first : (name : List ℕ) (keep : ℕ) (now : List State) → (IsTold now → keep ≤ length (part_bytes now name)) → KeepsFront name keep now now
+front_first name keep now within = record { front = λ told. refl; within = within }
+
+pub front_more : (name : List ℕ) (keep : ℕ) (old mid new : List State) (piece : List ℕ) → (IsTold new → IsTold mid) → (IsTold new → part_bytes new name ≡ part_bytes mid name ++ piece)
+    → KeepsFront name keep old mid → KeepsFront name keep old new
+front_more name keep old mid new piece before bytes keeps = record {
+  front = λ told. ap (take keep) (bytes told) ∙ take-append-le keep (part_bytes mid name) piece (keeps.within (before told)) ∙ keeps.front (before told);
+  within = λ told. omega (arith, keeps.within (before told), ap length (bytes told), length-append (part_bytes mid name) piece);
+}
+
+pub front_same : (name : List ℕ) (keep : ℕ) (old mid new : List State) → (IsTold new → IsTold mid) → (IsTold new → part_bytes new name ≡ part_bytes mid name)
+    → KeepsFront name keep old mid → KeepsFront name keep old new
+front_same name keep old mid new before bytes keeps = record {
+  front = λ told. ap (take keep) (bytes told) ∙ keeps.front (before told);
+  within = λ told. omega (arith, keeps.within (before told), ap length (bytes told));
+}
+
+-- as one name's bytes or another's
+pub bytes_named : (given name : List ℕ) (old new : List State) (piece : List ℕ) → given ≡ name → (IsTold new → part_bytes new given ≡ part_bytes old given ++ piece) → IsTold new → part_bytes new name ≡ part_bytes old name ++ piece
+bytes_named given name old new piece same is = subst (λ n. IsTold new → part_bytes new n ≡ part_bytes old n ++ piece) same is
+
+pub same_named : (given name : List ℕ) (old new : List State) → given ≡ name → (IsTold new → part_bytes new given ≡ part_bytes old given) → IsTold new → part_bytes new name ≡ part_bytes old name
+same_named given name old new same is = subst (λ n. IsTold new → part_bytes new n ≡ part_bytes old n) same is
+
+pub longer : (from : ℕ) (given name : List ℕ) (now : List State) (len : ℕ) → given ≡ name → (IsTold now → length (part_bytes now given) ≡ len) → from < len → IsTold now → from < length (part_bytes now name)
+longer from given name now len same is past told = subst (λ n. from < length (part_bytes now n)) same (subst (λ n. from < n) (sym (is told)) past)

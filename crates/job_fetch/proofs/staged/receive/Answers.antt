@@ -1,0 +1,98 @@
+use Rattle.std.proofs.Common.{◌≡◌, ◌<◌, ◌≤◌, ℕ, true, ◌+◌, List, ◌++◌, length, take, refl, sym, ap, ◌∙◌, subst, Option, IfSome, arith}
+use Rattle.acq_base.specs.Sum.{sum_of}
+use Rattle.acq_outside.specs.Word.{HasSize, IsWord}
+use Rattle.journal_model.specs.Rest.{part_bytes}
+use Rattle.job_fetch.specs.Fetched.{IsAnswer}
+use Rattle.job_fetch.specs.Pieces.{HasCome, fetch_at}
+use Rattle.job_fetch.proofs.Ends.{any_answers, any_more, on_err}
+use Rattle.job_fetch.proofs.Fillings.{bytes_named, longer, front_first, front_more, front_same, same_named, staging_more, staging_named, staging_none, told_before}
+use Rattle.job_fetch.proofs.Pieces.{all_staged, come_first, come_more}
+use Rattle.job_fetch.proofs.Words.{next_word}
+use Rattle.job_fetch.proofs.staged.receive.Goals as goal
+
+pub add-requires-clause-room : goal.add-requires-clause-room
+add-requires-clause-room g c =
+    let piece = rw c.in-Piece.is at c.loop-word.invariant.word in
+    omega (arith, piece.within, ap length c.as_slice.ensures, c.requires.limit)
+
+pub returns-in_err-add-in-Piece-clause-staging : goal.returns-in_err-add-in-Piece-clause-staging
+returns-in_err-add-in-Piece-clause-staging g c =
+    staging_more _ _ _ _ c.loop-word.invariant.staging (staging_named _ _ _ _ c.loop-word.invariant.name c.add.ensures.staging)
+
+pub returns-in_err-sum-in-Done-clause-staging : goal.returns-in_err-sum-in-Done-clause-staging
+returns-in_err-sum-in-Done-clause-staging g c =
+    staging_more _ _ _ _ c.loop-word.invariant.staging (staging_named _ _ _ _ c.loop-word.invariant.name c.close.ensures.staging)
+
+pub returns-in-Done-clause-staging : goal.returns-in-Done-clause-staging
+returns-in-Done-clause-staging g c =
+    staging_more _ _ _ _ c.loop-word.invariant.staging (staging_named _ _ _ _ c.loop-word.invariant.name c.close.ensures.staging)
+
+pub returns-in-Done-clause-answer : goal.returns-in-Done-clause-answer
+returns-in-Done-clause-answer g c =
+    let word = rw c.in-Done.is at c.loop-word.invariant.word in
+    let named = ap (λ n. part_bytes (g.D.Disk.trace c.loop-word.disk) n) c.loop-word.invariant.name in
+    all_staged (g.M.Method.world c.args.method.now) c.args.opened.part.name (g.D.Disk.trace c.args.disk.now) (g.D.Disk.trace c.loop-word.disk) (g.D.Disk.trace c.close.new.disk) c.args.job.now
+    c.loop-word.filling.part.len c.in-Done.size _
+    (told_before _ _ c.close.ensures.staging.moments) (λ told. c.in_ok-sum-in-Done.ensures.sum told ∙ ap sum_of named)
+    word.reached word.told c.loop-word.invariant.come
+
+pub returns-in-Other-clause-counted : goal.returns-in-Other-clause-counted
+returns-in-Other-clause-counted g c =
+    let word = rw c.in-Other.is at c.loop-word.invariant.word in
+    c.in_ok-closed_of-in-Other.ensures.counted (g.M.Method.faults c.args.method.now) (g.M.Method.faults c.loop-word.method) word.counted
+
+pub returns-in-Other-clause-staged : goal.returns-in-Other-clause-staged
+returns-in-Other-clause-staged g c =
+    let word = rw c.in-Other.is at c.loop-word.invariant.word in
+    c.in_ok-closed_of-in-Other.ensures.staged (g.M.Method.faults c.args.method.now) (g.M.Method.faults c.loop-word.method) word.counted c.args.opened.part.name (g.D.Disk.trace c.loop-word.disk)
+
+pub loop-word-preserved : goal.loop-word-preserved
+loop-word-preserved g c =
+    let inv = c.loop-word.invariant in
+    let world = g.M.Method.world c.args.method.now in
+    let job = c.args.job.now in
+    let piece = rw c.in-Piece.is at inv.word in
+    let before = told_before (g.D.Disk.trace c.loop-word.disk) (g.D.Disk.trace c.add.new.disk) c.add.ensures.staging.moments in
+    let given : c.as_slice.result.now ≡ c.in-Piece.bytes = c.as_slice.ensures in
+    let part = c.in_ok-add-in-Piece.ensures.part in
+    let name : c.add.new.filling.part.name ≡ c.loop-word.filling.part.name = ap (λ p. p.name) part in
+    let len : c.add.new.filling.part.len ≡ c.loop-word.filling.part.len + length c.in-Piece.bytes = ap (λ p. p.len) part ∙ ap (λ l. c.loop-word.filling.part.len + length l) given in
+    let bytes = bytes_named c.loop-word.filling.part.name c.args.opened.part.name (g.D.Disk.trace c.loop-word.disk) (g.D.Disk.trace c.add.new.disk) c.in-Piece.bytes inv.name
+    (λ told. c.in_ok-add-in-Piece.ensures.bytes told ∙ ap (λ l. part_bytes (g.D.Disk.trace c.loop-word.disk) c.loop-word.filling.part.name ++ l) given) in
+    record {
+      count = omega (arith, inv.count, c.add.ensures.count);
+      quiet = c.in_ok-add-in-Piece.ensures.quiet ∙ inv.quiet;
+      held = c.add.ensures.held ∙ inv.held;
+      telling = c.add.ensures.telling ∙ inv.telling;
+      method_count = omega (arith, inv.method_count, c.more-word.ensures.count);
+      world = c.more-word.ensures.same ∙ inv.world;
+      name = name ∙ inv.name;
+      past = omega (arith, inv.past, len);
+      filling = c.in_ok-add-in-Piece.ensures.filling;
+      staging = staging_more _ _ _ _ inv.staging (staging_named _ _ _ _ inv.name c.add.ensures.staging);
+      front = front_more c.args.opened.part.name job.from (g.D.Disk.trace c.args.disk.now) (g.D.Disk.trace c.loop-word.disk) (g.D.Disk.trace c.add.new.disk) c.in-Piece.bytes before bytes inv.front;
+      fresh = λ reply is. omega (arith, inv.past, len, piece.nonempty);
+      sound = c.more-word.ensures.sound;
+      word = subst (λ n. IsWord (g.M.Method.faults c.args.method.now) (g.M.Method.faults c.more-word.new.self) world (fetch_at job n) (g.M.Method.under c.more-word.new.self) c.more-word.result) (sym len)
+          (next_word (g.M.Method.faults c.args.method.now) (g.M.Method.faults c.loop-word.method) (g.M.Method.faults c.more-word.new.self) world (g.M.Method.world c.loop-word.method) (fetch_at job c.loop-word.filling.part.len)
+          (g.M.Method.under c.loop-word.method) (g.M.Method.under c.more-word.new.self) c.in-Piece.at c.in-Piece.bytes c.more-word.result piece inv.world c.more-word.ensures.word);
+      come = come_more world c.args.opened.part.name (g.D.Disk.trace c.args.disk.now) (g.D.Disk.trace c.loop-word.disk) (g.D.Disk.trace c.add.new.disk) job c.loop-word.filling.part.len c.add.new.filling.part.len c.in-Piece.bytes
+          inv.past len before bytes piece.told inv.come;
+    }
+
+pub returns-in-Other-clause-more : goal.returns-in-Other-clause-more
+returns-in-Other-clause-more g c =
+    let past : c.args.job.now.from < c.loop-word.filling.part.len = c.loop-word.invariant.fresh c.in-Other.reply c.in-Other.is in
+    any_more c.args.job.now.from c.args.opened.part.name (g.D.Disk.trace c.loop-word.disk) c.in_ok-closed_of-in-Other.field-0
+    (longer c.args.job.now.from c.loop-word.filling.part.name c.args.opened.part.name (g.D.Disk.trace c.loop-word.disk) c.loop-word.filling.part.len c.loop-word.invariant.name c.loop-word.invariant.filling.len past)
+
+pub returns-in-Other-clause-answer : goal.returns-in-Other-clause-answer
+returns-in-Other-clause-answer g c =
+    let word = rw c.in-Other.is at c.loop-word.invariant.word in
+    any_answers (g.M.Method.world c.args.method.now) c.args.opened.part.name (g.D.Disk.trace c.args.disk.now) (g.D.Disk.trace c.loop-word.disk) c.args.job.now c.in_ok-closed_of-in-Other.field-0
+    (λ part. c.in_ok-closed_of-in-Other.ensures.answer (g.M.Method.world c.args.method.now) part true c.args.job.now c.requires.from word.told)
+
+pub returns-in_err-closed_of-in-Other-clause-method_dry : goal.returns-in_err-closed_of-in-Other-clause-method_dry
+returns-in_err-closed_of-in-Other-clause-method_dry g c =
+    let word = rw c.in-Other.is at c.loop-word.invariant.word in
+    on_err _ (c.in_err-closed_of-in-Other.ensures.dry (g.M.Method.faults c.args.method.now) (g.M.Method.faults c.loop-word.method) word.counted)

@@ -1,0 +1,4 @@
+-- What public clauses cite: what a fetch comes to.
+pub mod Fetched
+-- For the crate's own functions: what holds while pieces come.
+pub mod Pieces

@@ -1,0 +1,60 @@
+-- What holds while the pieces of a fetch come.
+use Rattle.std.specs.Prelude.{◌≡◌, ℕ, true, ◌+◌, ◌<◌, ◌≤◌, List, ◌++◌, length, take, drop, Option, IfSome}
+use Rattle.acq_base.specs.Mirror.{World, answer_at}
+use Rattle.acq_base.specs.declared.fetch.Answer.{Answer}
+use Rattle.acq_base.specs.declared.fetch.Answer.TheVariants as answers
+use Rattle.acq_base.specs.declared.fetch.Job.{Job}
+use Rattle.acq_outside.specs.Crash.{State}
+use Rattle.acq_outside.specs.Moments.{IsTold, Stands}
+use Rattle.acq_outside.specs.declared.word.Fetch.{Fetch}
+use Rattle.hash_gate.specs.Pieces.{HasSummed, size_so_far}
+use Rattle.hash_gate.specs.declared.total.Total.{Total}
+use Rattle.journal_model.specs.Rest.{IsPartThere, part_bytes}
+use Rattle.update_model.specs.declared.ask.Closed.{Closed}
+use Rattle.update_model.specs.declared.ask.Closed.TheVariants.{Served}
+use Rattle.job_fetch.specs.Fetched.{IsAnswer}
+use Rattle.job_fetch.specs.declared.filling.Filling.{Filling}
+
+-- a fetch of the job at this place
+abbrev pub fetch_at : Job → ℕ → Fetch
+fetch_at job at = record { job = job; at = at }
+
+-- The bytes so far: those at hand that the job leaves out, and behind them the mirror's file up to this place.
+abbrev pub IsFront : Answer → List ℕ → ℕ → ℕ → List ℕ → Type 0
+IsFront (answers.Served all) part from at bytes = bytes ≡ take from part ++ drop from (take at all)
+IsFront (answers.Moved place) part from at bytes = Unit {0}
+IsFront (answers.Absent status) part from at bytes = Unit {0}
+
+-- where the method tells its mirror
+pub record HasCome (world : Option World) (part : List ℕ) (job : Job) (at : ℕ) (bytes : List ℕ) : Type 0 where
+  pub told : IfSome world (λ entries. IsFront (answer_at entries job.uri) part job.from at bytes)
+
+-- and where the disk tells too: over all bytes of which the file on its way had at first what the job leaves out
+abbrev pub ComesOver : Option World → List ℕ → List State → List State → Job → ℕ → Type 0
+ComesOver world name old now job at =
+    IsTold now → (part : List ℕ) → part_bytes old name ≡ take job.from part → HasCome world part job at (part_bytes now name)
+
+-- The list's file on its way is there and as long as the part says, and the total is that of its bytes.
+pub record IsFilling (now : List State) (filling : Filling) : Type 0 where
+  pub there : Stands (IsPartThere filling.part.name) now
+  pub len : IsTold now → length (part_bytes now filling.part.name) ≡ filling.part.len
+  pub small : size_so_far filling.total ≤ filling.part.len
+  pub summed : IsTold now → HasSummed filling.total (part_bytes now filling.part.name)
+
+-- The total has summed the content up to a place, and then n bytes more of it, none only at its end.
+pub record SumsOn (content : List ℕ) (at n : ℕ) (before after : Total) : Type 0 where
+  pub summed : at ≤ length content → HasSummed before (take at content) → HasSummed after (take (at + n) content)
+  pub inside : at ≤ length content → at + n ≤ length content
+  pub ends : n ≡ 0 → length content ≤ at
+
+-- A file that came is the mirror's beside any bytes of which the file on its way had at first what the job leaves out, and
+-- any other answer is the mirror's beside all bytes.
+abbrev pub AnswersOver : Option World → List ℕ → List State → List State → Job → Closed → Type 0
+AnswersOver world name old new job (Served body) =
+    IsTold new → (part : List ℕ) → part_bytes old name ≡ take job.from part → IsAnswer world part true job (Served body)
+AnswersOver world name old new job closed = (part : List ℕ) → IsAnswer world part true job closed
+
+-- where nothing was served, bytes came behind those that the job leaves out
+abbrev pub HasMore : ℕ → List ℕ → List State → Closed → Type 0
+HasMore from name new (Served body) = Unit {0}
+HasMore from name new _ = IsTold new → from < length (part_bytes new name)

@@ -1,0 +1,152 @@
+//! A fetch whose pieces go into the list's file under `partial/` as they come.
+ghost use Rattle.std.specs.Prelude.{◌≡◌, ◌≢◌, ◌<◌, ◌≤◌, ◌^◌, true, length, IfOk, OnOk, OnErr, IsErrOf};
+ghost use Rattle.acq_base.specs.Uri.{IsSound};
+ghost use Rattle.acq_base.specs.declared.fetch.Reply.{Reply};
+ghost use Rattle.acq_outside.specs.declared.word.Word.TheVariants.{Other};
+ghost use Rattle.acq_outside.specs.Count.{Rose};
+ghost use Rattle.acq_outside.specs.Moments.{IsTold};
+ghost use Rattle.acq_outside.specs.Word.{CanBegin, IsSoundWord, IsWord};
+ghost use Rattle.journal_model.specs.Names.{IsPutName};
+ghost use Rattle.journal_model.specs.Rest.{part_bytes};
+ghost use Rattle.job_fetch.specs.Fetched.{IsAnswer, IsCounted, IsKnown, IsSoundEnd, IsStaged, KeepsFront, LeavesFile, Staging};
+ghost use Rattle.job_fetch.specs.Pieces.{AnswersOver, HasMore, IsFilling, fetch_at};
+
+use crate::closing::closed_of;
+use crate::filling::{Filling, add, close, open};
+use acq_base::{Job, ListName};
+use acq_outside::{Disk, Method, OutError, Word};
+use std::alloc::Global;
+use update_model::{Body, Closed};
+
+/// Fetches what the job's URI names into the list's file under `partial/`, behind as many bytes as the job leaves out,
+/// and takes its sum on the way. One piece at a time is in memory. Where the method's first word is no piece of a file,
+/// the file under `partial/` stays as it is; where a later one isn't, it has what came until then.
+///
+/// The URI is sound, and the file has at least the bytes that the job leaves out.
+/// A fault of the method is told, and comes only where its count of faults rose in this call; `Fault` only where the
+/// disk's did.
+pub fn fetch_staged<D: Disk, M: Method>(
+    alloc: Global,
+    disk: &mut D,
+    method: &mut M,
+    name: &ListName,
+    job: &Job,
+) -> Result<Closed, OutError>
+    requires name { IsPutName name.now.0 }
+    requires sound { IsSound job.now.uri }
+    requires from { CanBegin job.now }
+    requires keep { IsTold (D.trace disk.old) → job.now.from ≤ length (part_bytes (D.trace disk.old) name.now.0) }
+    ensures count { D.faults disk.old ≤ D.faults disk.new }
+    ensures fault { IsErrOf result OutError.Fault → Rose (D.faults disk.old) (D.faults disk.new) }
+    ensures quiet { OnOk result (D.faults disk.new ≡ D.faults disk.old) }
+    ensures dry { IsErrOf result OutError.NoMemory → D.faults disk.new ≡ D.faults disk.old }
+    ensures held { D.held disk.new ≡ D.held disk.old }
+    ensures telling { D.tells disk.new ≡ D.tells disk.old }
+    ensures method_count { M.faults method.old ≤ M.faults method.new }
+    ensures method_dry { OnErr result (M.faults method.new ≡ M.faults method.old) }
+    ensures world { M.world method.new ≡ M.world method.old }
+    ensures counted { IfOk result (IsCounted (M.faults method.old) (M.faults method.new)) }
+    ensures sound { IfOk result IsSoundEnd }
+    ensures staging { Staging name.now.0 (D.trace disk.old) (D.trace disk.new) }
+    ensures front { OnOk result (KeepsFront name.now.0 job.now.from (D.trace disk.old) (D.trace disk.new)) }
+    ensures left { IfOk result (LeavesFile job.now.from name.now.0 (D.trace disk.old) (D.trace disk.new)) }
+    ensures staged { IfOk result (IsStaged name.now.0 (D.trace disk.new)) }
+    ensures answer { IfOk result (λ closed. IsKnown (D.trace disk.new) closed
+        → IsAnswer (M.world method.old) (part_bytes (D.trace disk.old) name.now.0) true job.now closed) }
+{
+    prove!(job.from <= job.max);
+    match method.begin(alloc, job) {
+        Word::Piece { at, bytes } => {
+            fill(alloc, disk, method, name, job, Word::Piece { at, bytes })
+        }
+        Word::Done { size } => fill(alloc, disk, method, name, job, Word::Done { size }),
+        Word::Other(reply) => Ok(closed_of(reply)?),
+    }
+}
+
+/// Opens the file once the first word is there.
+fn fill<D: Disk, M: Method>(
+    alloc: Global,
+    disk: &mut D,
+    method: &mut M,
+    name: &ListName,
+    job: &Job,
+    first: Word,
+) -> Result<Closed, OutError>
+    requires name { IsPutName name.now.0 }
+    requires from { CanBegin job.now }
+    requires limit { job.now.max < 2 ^ 64 }
+    requires keep { IsTold (D.trace disk.old) → job.now.from ≤ length (part_bytes (D.trace disk.old) name.now.0) }
+    requires sound { IsSoundWord first }
+    requires opens { (reply : Reply) → first ≢ Other reply }
+    requires word { IsWord (M.faults method.old) (M.faults method.old) (M.world method.old) (fetch_at job.now job.now.from) (M.under method.old) first }
+    ensures count { D.faults disk.old ≤ D.faults disk.new }
+    ensures fault { IsErrOf result OutError.Fault → Rose (D.faults disk.old) (D.faults disk.new) }
+    ensures quiet { OnOk result (D.faults disk.new ≡ D.faults disk.old) }
+    ensures dry { IsErrOf result OutError.NoMemory → D.faults disk.new ≡ D.faults disk.old }
+    ensures held { D.held disk.new ≡ D.held disk.old }
+    ensures telling { D.tells disk.new ≡ D.tells disk.old }
+    ensures method_count { M.faults method.old ≤ M.faults method.new }
+    ensures method_dry { OnErr result (M.faults method.new ≡ M.faults method.old) }
+    ensures world { M.world method.new ≡ M.world method.old }
+    ensures counted { IfOk result (IsCounted (M.faults method.old) (M.faults method.new)) }
+    ensures sound { IfOk result IsSoundEnd }
+    ensures staging { Staging name.now.0 (D.trace disk.old) (D.trace disk.new) }
+    ensures front { OnOk result (KeepsFront name.now.0 job.now.from (D.trace disk.old) (D.trace disk.new)) }
+    ensures left { IfOk result (LeavesFile job.now.from name.now.0 (D.trace disk.old) (D.trace disk.new)) }
+    ensures staged { IfOk result (IsStaged name.now.0 (D.trace disk.new)) }
+    ensures answer { IfOk result (λ closed. IsKnown (D.trace disk.new) closed
+        → IsAnswer (M.world method.old) (part_bytes (D.trace disk.old) name.now.0) true job.now closed) }
+{
+    let filling = open(disk, name, job.from)?;
+    let closed = receive(alloc, disk, method, job, filling, first)?;
+    Ok(closed)
+}
+
+/// Puts pieces as they come, and closes the file behind the last.
+fn receive<D: Disk, M: Method>(
+    alloc: Global,
+    disk: &mut D,
+    method: &mut M,
+    job: &Job,
+    opened: Filling,
+    first: Word,
+) -> Result<Closed, OutError>
+    requires from { CanBegin job.now }
+    requires limit { job.now.max < 2 ^ 64 }
+    requires filling { IsFilling (D.trace disk.old) opened }
+    requires at { opened.part.len ≡ job.now.from }
+    requires sound { IsSoundWord first }
+    requires opens { (reply : Reply) → first ≢ Other reply }
+    requires word { IsWord (M.faults method.old) (M.faults method.old) (M.world method.old) (fetch_at job.now opened.part.len) (M.under method.old) first }
+    ensures count { D.faults disk.old ≤ D.faults disk.new }
+    ensures fault { IsErrOf result OutError.Fault → Rose (D.faults disk.old) (D.faults disk.new) }
+    ensures quiet { OnOk result (D.faults disk.new ≡ D.faults disk.old) }
+    ensures dry { IsErrOf result OutError.NoMemory → D.faults disk.new ≡ D.faults disk.old }
+    ensures held { D.held disk.new ≡ D.held disk.old }
+    ensures telling { D.tells disk.new ≡ D.tells disk.old }
+    ensures method_count { M.faults method.old ≤ M.faults method.new }
+    ensures method_dry { OnErr result (M.faults method.new ≡ M.faults method.old) }
+    ensures world { M.world method.new ≡ M.world method.old }
+    ensures counted { IfOk result (IsCounted (M.faults method.old) (M.faults method.new)) }
+    ensures sound { IfOk result IsSoundEnd }
+    ensures staging { Staging opened.part.name (D.trace disk.old) (D.trace disk.new) }
+    ensures front { OnOk result (KeepsFront opened.part.name job.now.from (D.trace disk.old) (D.trace disk.new)) }
+    ensures more { IfOk result (HasMore job.now.from opened.part.name (D.trace disk.new)) }
+    ensures staged { IfOk result (IsStaged opened.part.name (D.trace disk.new)) }
+    ensures answer { IfOk result (AnswersOver (M.world method.old) opened.part.name (D.trace disk.old) (D.trace disk.new) job.now) }
+{
+    let mut filling = opened;
+    let mut word = first;
+    loop {
+        match word {
+            Word::Piece { at: _, bytes } => add(disk, &mut filling, bytes.as_slice())?,
+            Word::Done { size: _ } => {
+                let sum = close(disk, filling)?;
+                return Ok(Closed::Served(Body::Staged(sum)));
+            }
+            Word::Other(reply) => return Ok(closed_of(reply)?),
+        }
+        word = method.more(alloc);
+    }
+}
