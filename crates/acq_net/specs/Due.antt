@@ -1,5 +1,5 @@
 -- What a link owes that stands for a mirror: to each request the mirror's answer, as a response.
-use Rattle.std.specs.Prelude.{◌≡◌, ◌⊎◌, ℕ, ◌<◌, ◌≤◌, Bool, true, List, [], ◌++◌, length, drop, Option, Some, IfSome}
+use Rattle.std.specs.Prelude.{◌≡◌, ◌⊎◌, ℕ, ◌<◌, ◌≤◌, Bool, true, List, [], ◌++◌, length, drop, Option, Some}
 use Rattle.acq_base.specs.declared.fetch.Answer.{Answer}
 use Rattle.acq_base.specs.declared.fetch.Answer.TheVariants as answers
 use Rattle.acq_base.specs.declared.uri.Scheme.TheVariants.{Http}

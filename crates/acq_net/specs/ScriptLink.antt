@@ -5,9 +5,17 @@ use Rattle.acq_outside.specs.Count.{one_more}
 use Rattle.acq_net.specs.Talk.{Talk, is_none}
 use Rattle.acq_net.specs.declared.script_link.ScriptLink.{ScriptLink}
 use Rattle.acq_net.specs.declared.script_link.Calls.{Calls}
+use Rattle.acq_net.specs.declared.script_link.Conversation.{Conversation}
+
+abbrev pub said : Conversation → Talk
+said talk = record { sent = talk.sent; received = talk.received; ended = talk.ended }
 
 abbrev pub talk_of : ScriptLink → Talk
-talk_of link = record { sent = link.sent; received = link.received; ended = link.ended }
+talk_of link = said link.talk
+
+-- on the connection before the present one
+abbrev pub former_of : ScriptLink → Talk
+former_of link = said link.former
 
 -- how its calls went, and which are to fail
 abbrev pub calls_of : ScriptLink → Calls

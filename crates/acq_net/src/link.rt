@@ -25,6 +25,9 @@ pub trait Link: Drop {
     /// What was said on the present connection, where it tells.
     ghost talk: { Self → Option Talk };
 
+    /// What was said on the connection before it, where it tells.
+    ghost former: { Self → Option Talk };
+
     /// The mirror that it stands for, where it stands for one.
     ghost world: { Self → Option World };
 
@@ -40,6 +43,7 @@ pub trait Link: Drop {
         ensures made_count { made self.old ≤ made self.new }
         ensures ends { ends self.new ≡ ends self.old }
         ensures fresh { talk self.new ≡ option_map (λ _. silent) (talk self.old) }
+        ensures former { former self.new ≡ talk self.old }
         ensures same { world self.new ≡ world self.old }
         ensures due { OnOk result (IfSome (world self.old) (λ _. due self.new ≡ Some (fresh host.now port))) };
 
@@ -52,6 +56,7 @@ pub trait Link: Drop {
         ensures ends { ends self.new ≡ ends self.old }
         ensures sent { OnOk result (talk self.new ≡ option_map (sends bytes.now) (talk self.old)) }
         ensures part { OnErr result (SendsPart bytes.now (talk self.old) (talk self.new)) }
+        ensures former { former self.new ≡ former self.old }
         ensures same { world self.new ≡ world self.old }
         ensures owes { OnOk result (IfSome (world self.old) (λ entries. Owes entries bytes.now (due self.old) (due self.new))) };
 
@@ -70,6 +75,7 @@ pub trait Link: Drop {
         ensures room { length out.new ≡ length out.old }
         ensures received { IfOk result (λ n. talk self.new ≡ option_map (receives (take n out.new)) (talk self.old)) }
         ensures part { OnErr result (ReceivesPart (talk self.old) (talk self.new)) }
+        ensures former { former self.new ≡ former self.old }
         ensures same { world self.new ≡ world self.old }
         ensures came { IfOk result (λ n. IfSome (due self.old) (λ one. Came (take n out.new) one (due self.new))) };
 
@@ -79,6 +85,7 @@ pub trait Link: Drop {
         ensures made { made self.new ≡ made self.old }
         ensures ends { ends self.new ≡ ends self.old }
         ensures talk { talk self.new ≡ talk self.old }
+        ensures former { former self.new ≡ former self.old }
         ensures same { world self.new ≡ world self.old }
         ensures due { due self.new ≡ due self.old };
 }

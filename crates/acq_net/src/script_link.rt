@@ -6,6 +6,7 @@ use crate::Link;
 use acq_base::{Bytes, NoMemory, Row, Text};
 use acq_outside::Fault;
 use std::alloc::Global;
+use std::mem;
 
 /// How the calls of a link in memory went, and which of them are to fail.
 #[derive(Debug, Drop)]
@@ -51,6 +52,31 @@ impl Calls {
     }
 }
 
+/// What is said on a connection.
+#[derive(Debug, Drop)]
+struct Conversation {
+    sent: Bytes,
+    received: Bytes,
+    ended: bool,
+}
+
+impl Conversation {
+    ghost use Rattle.std.specs.Prelude.{◌≡◌};
+    ghost use Rattle.acq_net.specs.ScriptLink.{said};
+    ghost use Rattle.acq_net.specs.Talk.{silent};
+
+    /// Nothing was said yet.
+    fn new(alloc: Global) -> Conversation
+        ensures { said result ≡ silent }
+    {
+        Conversation {
+            sent: Bytes::new(alloc),
+            received: Bytes::new(alloc),
+            ended: false,
+        }
+    }
+}
+
 /// A link whose peers say what a script has, piece by piece.
 #[derive(Debug, Drop)]
 pub struct ScriptLink {
@@ -59,9 +85,9 @@ pub struct ScriptLink {
     connections: Vec<Row<Bytes>>,
     /// What the peer of the present connection has still to say.
     pieces: Vec<Bytes>,
-    sent: Bytes,
-    received: Bytes,
-    ended: bool,
+    talk: Conversation,
+    /// What was said on the connection before.
+    former: Conversation,
     made: u64,
     ends: u64,
     calls: Calls,
@@ -69,13 +95,14 @@ pub struct ScriptLink {
 
 impl ScriptLink {
     ghost use Rattle.std.specs.Prelude.{◌≡◌, ◌<◌, ◌≤◌, ◌++◌, [], length, min, take, IfOk, OnErr, Some};
-    ghost use Rattle.acq_net.specs.ScriptLink.{talk_of, made_of, ends_of, calls_of, fresh_calls, to_come, waiting};
+    ghost use Rattle.acq_net.specs.ScriptLink.{talk_of, former_of, made_of, ends_of, calls_of, fresh_calls, to_come, waiting};
     ghost use Rattle.acq_net.specs.Talk.{receives, silent};
 
     /// A link whose n-th connection has the n-th row of pieces; the rows past the last are empty. `failing` holds the
     /// numbers of its calls of `connect`, `send` and `receive` that are to fail, counted together from 1.
     pub fn new(alloc: Global, connections: Row<Row<Bytes>>, failing: Row<u64>) -> ScriptLink
         ensures talk { talk_of result ≡ silent }
+        ensures former { former_of result ≡ silent }
         ensures made { made_of result ≡ 0 }
         ensures ends { ends_of result ≡ 0 }
         ensures calls { calls_of result ≡ fresh_calls failing }
@@ -86,9 +113,8 @@ impl ScriptLink {
             alloc,
             connections: connections.into_vec(),
             pieces: Vec::new(alloc),
-            sent: Bytes::new(alloc),
-            received: Bytes::new(alloc),
-            ended: false,
+            talk: Conversation::new(alloc),
+            former: Conversation::new(alloc),
             made: 0,
             ends: 0,
             calls: Calls {
@@ -111,7 +137,7 @@ impl ScriptLink {
     pub fn sent(&self) -> &Bytes
         ensures { result.now ≡ (talk_of self.now).sent }
     {
-        &self.sent
+        &self.talk.sent
     }
 
     /// How often it failed.
@@ -133,6 +159,7 @@ impl ScriptLink {
         requires { (0 < length piece) × (0 < length out.old) }
         ensures room { length out.new ≡ length out.old }
         ensures calls { calls_of self.new ≡ calls_of self.old }
+        ensures former { former_of self.new ≡ former_of self.old }
         ensures counts { (made_of self.new ≡ made_of self.old) × (ends_of self.new ≡ ends_of self.old) }
         ensures some { IfOk result (λ n. (0 < n) × (n ≤ length out.old)) }
         ensures all { IfOk result (λ n. n ≡ min (length piece) (length out.old)) }
@@ -146,7 +173,7 @@ impl ScriptLink {
             let rest = Bytes::from(Vec::from_slice(self.alloc, rest)?);
             self.pieces.insert(0, rest)?;
         }
-        self.received.append(front)?;
+        self.talk.received.append(front)?;
         out[..n].copy_from_slice(front);
         Ok(n)
     }
@@ -156,7 +183,7 @@ impl Link for ScriptLink {
     ghost use Rattle.std.specs.Prelude.{◌≡◌, ◌≢◌, ◌<◌, ◌≤◌, ◌++◌, [], length, min, take, None, Some, IfOk, OnOk, OnErr, is_err};
     ghost use Rattle.acq_outside.specs.Count.{Rose};
     ghost use Rattle.acq_net.specs.Talk.{ReceivesPart, SendsPart, receives, sends, silent};
-    ghost use Rattle.acq_net.specs.ScriptLink.{talk_of, made_of, ends_of, calls_of, to_come, waiting, bytes_of, first_of, later_of};
+    ghost use Rattle.acq_net.specs.ScriptLink.{talk_of, former_of, made_of, ends_of, calls_of, to_come, waiting, bytes_of, first_of, later_of};
     ghost use Rattle.acq_net.specs.ScriptLink.{FailsAsListed, FailsDryAlone, counted, is_listed, next_piece};
 
     ghost faults = { λ link. (calls_of link).faults };
@@ -166,6 +193,8 @@ impl Link for ScriptLink {
     ghost ends = { ends_of };
 
     ghost talk = { λ link. Some (talk_of link) };
+
+    ghost former = { λ link. Some (former_of link) };
 
     ghost world = { λ _. None };
 
@@ -179,6 +208,7 @@ impl Link for ScriptLink {
         ensures made_count { made_of self.old ≤ made_of self.new }
         ensures ends { ends_of self.new ≡ ends_of self.old }
         ensures fresh { Some (talk_of self.new) ≡ Some silent }
+        ensures former { Some (former_of self.new) ≡ Some (talk_of self.old) }
 
         // The peer of each connection has the next row. A listed call fails, and no other one does.
         ensures to_come { to_come self.new ≡ bytes_of (first_of (waiting self.old)) }
@@ -187,9 +217,7 @@ impl Link for ScriptLink {
         ensures counted { calls_of self.new ≡ counted (calls_of self.old) }
     {
         self.made = self.made.saturating_add(1);
-        self.sent = Bytes::new(self.alloc);
-        self.received = Bytes::new(self.alloc);
-        self.ended = false;
+        self.former = mem::replace(&mut self.talk, Conversation::new(self.alloc));
         self.pieces = next_row(self.alloc, &mut self.connections);
         self.calls.call()
     }
@@ -202,6 +230,7 @@ impl Link for ScriptLink {
         ensures ends { ends_of self.new ≡ ends_of self.old }
         ensures sent { OnOk result (Some (talk_of self.new) ≡ Some (sends bytes.now (talk_of self.old))) }
         ensures part { OnErr result (SendsPart bytes.now (Some (talk_of self.old)) (Some (talk_of self.new))) }
+        ensures former { Some (former_of self.new) ≡ Some (former_of self.old) }
 
         // A listed call fails, and another one for want of memory alone.
         ensures to_come { to_come self.new ≡ to_come self.old }
@@ -210,7 +239,7 @@ impl Link for ScriptLink {
         ensures others { FailsDryAlone (calls_of self.old) (calls_of self.new) result }
     {
         self.calls.call()?;
-        match self.sent.append(bytes) {
+        match self.talk.sent.append(bytes) {
             Ok(()) => Ok(()),
             Err(NoMemory) => Err(self.calls.run_dry()),
         }
@@ -230,6 +259,7 @@ impl Link for ScriptLink {
         ensures room { length out.new ≡ length out.old }
         ensures received { IfOk result (λ n. Some (talk_of self.new) ≡ Some (receives (take n out.new) (talk_of self.old))) }
         ensures part { OnErr result (ReceivesPart (Some (talk_of self.old)) (Some (talk_of self.new))) }
+        ensures former { Some (former_of self.new) ≡ Some (former_of self.old) }
 
         // The bytes come in order, as many of one piece as there is room for, and the end behind the last of them. A listed
         // call fails, and another one for want of memory alone.
@@ -241,7 +271,7 @@ impl Link for ScriptLink {
     {
         self.calls.call()?;
         let Some(piece) = next_piece(&mut self.pieces) else {
-            self.ended = true;
+            self.talk.ended = true;
             self.ends = self.ends.saturating_add(1);
             return Ok(0);
         };

@@ -63,6 +63,8 @@ impl<R: Net<Stream = TcpStream> + Drop> Link for TcpLink<R> {
 
     ghost talk = { λ _. None };
 
+    ghost former = { λ _. None };
+
     ghost world = { λ _. None };
 
     ghost due = { λ _. None };

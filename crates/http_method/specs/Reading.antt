@@ -1,5 +1,5 @@
 -- What a method hears of a peer: the stream of a connection since its last request, in words.
-use Rattle.std.specs.Prelude.{◌≡◌, ◌≢◌, ◌⊎◌, ℕ, ◌+◌, ◌≤◌, length, ◌∷◌, [], ◌==◌, ◌&&◌, nat_lt, not, Bool, true, false, if◌then◌else◌, List, ◌++◌, bytes_eq, Option, Some, None, IfSome, IsSome, unwrap_or}
+use Rattle.std.specs.Prelude.{◌≡◌, ◌≢◌, ◌⊎◌, ℕ, ◌+◌, ◌≤◌, length, ◌∷◌, [], ◌==◌, ◌&&◌, nat_lt, not, Bool, true, false, if◌then◌else◌, List, ◌++◌, bytes_eq, Option, Some, None, IfSome, IsSome, option_map, unwrap_or}
 use Rattle.acq_base.specs.declared.fetch.Job.{Job}
 use Rattle.acq_base.specs.declared.fetch.Reply.{Reply}
 use Rattle.acq_base.specs.declared.fetch.Reply.TheVariants as replies
@@ -121,6 +121,15 @@ kept_for uri heard ended = kept_if (keeps heard ended) uri
 abbrev pub is_for : Option Place → Uri → Bool
 is_for None uri = false
 is_for (Some place) uri = bytes_eq place.host uri.host && place.port == uri.port
+
+-- what was said on a connection on which a request was sent whole and the peer ended before a byte of its response
+abbrev pub ended_at_once : Job → Option Talk → Option Talk
+ended_at_once job talk = option_map (λ before. asked before job [] true) talk
+
+-- What was said on the connection before the one that a fetch makes: on the one that was kept for its host and port the
+-- peer ended at once; where none was, nothing was said since.
+abbrev pub before_anew : Option Place → Job → Option Talk → Option Talk
+before_anew kept job talk = if is_for kept job.uri then ended_at_once job talk else talk
 
 abbrev pub IsServed : Option Ending → Type 0
 IsServed (Some (Served keep)) = Unit {0}

@@ -6,9 +6,9 @@ ghost use Rattle.acq_outside.specs.Count.{Rose};
 ghost use Rattle.acq_outside.specs.Word.{CanBegin, IsSoundWord, begun};
 ghost use Rattle.http_wire.specs.Request.{request_text};
 ghost use Rattle.http_method.specs.Line.{Connects, Sends, line_of};
-ghost use Rattle.http_method.specs.Reading.{BeginsAgain, BeginsAnew, BeginsOn, IsKeptBehind, IsOpen, IsTold, Keeps, is_end, is_for, place_of};
+ghost use Rattle.http_method.specs.Reading.{BeginsAgain, BeginsAnew, BeginsOn, IsKeptBehind, IsOpen, IsTold, Keeps, before_anew, ended_at_once, is_end, is_for, place_of};
 
-use crate::hearing::receive_once;
+use crate::hearing::{new_room, receive_once};
 use crate::reading::{Behind, Place, Reading, Said};
 use crate::saying::{next_word, starved};
 use acq_base::{Bytes, Job, Uri};
@@ -43,6 +43,7 @@ pub fn ask<L: Link>(
     ensures fault { OnErr result (Rose (L.faults link.old) (L.faults link.new)) }
     ensures quiet { OnOk result (L.faults link.new ≡ L.faults link.old) }
     ensures made { is_for kept job.now.uri ≡ true → (L.made link.new ≡ L.made link.old) ⊎ Rose (L.ends link.old) (L.ends link.new) }
+    ensures anew { (L.made link.new ≡ L.made link.old) ⊎ (L.former link.new ≡ before_anew kept job.now (L.talk link.old)) }
     ensures sound { IfOk result (λ said. IsSoundWord said.word) }
     ensures world { L.world link.new ≡ L.world link.old }
     ensures told { IfOk result (IsTold (L.world link.old) (begun job.now)) }
@@ -70,6 +71,7 @@ fn ask_anew<L: Link>(alloc: Global, link: &mut L, text: &Bytes, job: &Job) -> Re
     ensures fault { OnErr result (Rose (L.faults link.old) (L.faults link.new)) }
     ensures quiet { OnOk result (L.faults link.new ≡ L.faults link.old) }
     ensures ends { L.ends link.old ≤ L.ends link.new }
+    ensures anew { (L.made link.new ≡ L.made link.old) ⊎ (L.former link.new ≡ L.talk link.old) }
     ensures sound { IfOk result (λ said. IsSoundWord said.word) }
     ensures world { L.world link.new ≡ L.world link.old }
     ensures told { IfOk result (IsTold (L.world link.old) (begun job.now)) }
@@ -91,6 +93,7 @@ fn connect<L: Link>(link: &mut L, uri: &Uri) -> Result<(), Fault>
     ensures count { L.faults link.old ≤ L.faults link.new }
     ensures fault { OnErr result (Rose (L.faults link.old) (L.faults link.new)) }
     ensures quiet { OnOk result (L.faults link.new ≡ L.faults link.old) }
+    ensures former { L.former link.new ≡ L.talk link.old }
     ensures ends { L.ends link.new ≡ L.ends link.old }
     ensures world { L.world link.new ≡ L.world link.old }
     ensures fresh { OnOk result (Connects uri.now.host uri.now.port (line_of L.Link link.old) (line_of L.Link link.new)) }
@@ -107,6 +110,7 @@ fn send<L: Link>(link: &mut L, text: &Bytes) -> Result<(), Fault>
     ensures count { L.faults link.old ≤ L.faults link.new }
     ensures fault { OnErr result (Rose (L.faults link.old) (L.faults link.new)) }
     ensures quiet { OnOk result (L.faults link.new ≡ L.faults link.old) }
+    ensures former { L.former link.new ≡ L.former link.old }
     ensures made { L.made link.new ≡ L.made link.old }
     ensures ends { L.ends link.new ≡ L.ends link.old }
     ensures world { L.world link.new ≡ L.world link.old }
@@ -130,6 +134,7 @@ fn ask_again<L: Link>(alloc: Global, link: &mut L, text: &Bytes, job: &Job) -> R
     ensures fault { OnErr result (Rose (L.faults link.old) (L.faults link.new)) }
     ensures quiet { OnOk result (L.faults link.new ≡ L.faults link.old) }
     ensures made { (L.made link.new ≡ L.made link.old) ⊎ Rose (L.ends link.old) (L.ends link.new) }
+    ensures anew { (L.made link.new ≡ L.made link.old) ⊎ (L.former link.new ≡ ended_at_once job.now (L.talk link.old)) }
     ensures sound { IfOk result (λ said. IsSoundWord said.word) }
     ensures world { L.world link.new ≡ L.world link.old }
     ensures told { IfOk result (IsTold (L.world link.old) (begun job.now)) }
@@ -141,9 +146,13 @@ fn ask_again<L: Link>(alloc: Global, link: &mut L, text: &Bytes, job: &Job) -> R
         link.close();
         return Ok(starved());
     };
+    let Ok(mut room) = new_room(alloc) else {
+        link.close();
+        return Ok(starved());
+    };
     let mut reading = reading;
     send(link, text)?;
-    match receive_once(alloc, link, &mut reading) {
+    match receive_once(alloc, link, &mut reading, room.as_mut_slice()) {
         Ok(()) => {
             if is_end(reading.behind) {
                 return ask_anew(alloc, link, text, job);

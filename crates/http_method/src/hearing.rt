@@ -1,6 +1,7 @@
 //! Receives bytes of a link's peer into the response that is being read.
-ghost use Rattle.std.specs.Prelude.{◌≡◌, ◌≢◌, ◌<◌, ◌≤◌, true, false, [], length, vec_len, IfOk, IsErrOf, OnOk};
+ghost use Rattle.std.specs.Prelude.{◌≡◌, ◌≢◌, ◌<◌, ◌≤◌, true, false, [], length, vec_len, IfOk, IsErrOf, OnOk, option_map};
 ghost use Rattle.acq_outside.specs.Count.{Rose};
+ghost use Rattle.acq_net.specs.Talk.{receives};
 ghost use Rattle.http_wire.specs.Wire.{IsDone, held, wire_state};
 ghost use Rattle.http_method.specs.Line.{line_of};
 ghost use Rattle.http_method.specs.Reading.{Goes, IsReading, Received, StaysSmall, behind_of, is_end};
@@ -15,11 +16,11 @@ use std::alloc::Global;
 /// How many bytes are received at once, at most.
 const ROOM: usize = 65_536;
 
-/// Room for bytes that are received.
-fn room(alloc: Global, size: usize) -> Result<Vec<u8>, NoMemory>
-    ensures { IfOk result (λ room. vec_len room ≡ size) }
+/// Room for bytes that are received at once.
+pub fn new_room(alloc: Global) -> Result<Vec<u8>, NoMemory>
+    ensures { IfOk result (λ room. vec_len room ≡ 65536) }
 {
-    Ok(vec![in alloc; 0u8; size]?)
+    Ok(vec![in alloc; 0u8; ROOM]?)
 }
 
 /// What stands behind so many taken bytes of a piece.
@@ -67,12 +68,15 @@ fn feed(alloc: Global, reading: &mut Reading, piece: &[u8]) -> Result<(), NoMemo
     Ok(())
 }
 
-/// Receives once.
+/// Receives once, into the room.
 pub fn receive_once<L: Link>(
     alloc: Global,
     link: &mut L,
     reading: &mut Reading,
+    room: &mut [u8],
 ) -> Result<(), OutError>
+    requires some { 0 < length room.old }
+    requires few { length room.old ≤ 65536 }
     requires going { wire_state reading.old.wire ≡ State.More }
     requires nothing { reading.old.behind ≡ Behind.Nothing }
     ensures count { L.faults link.old ≤ L.faults link.new }
@@ -80,21 +84,23 @@ pub fn receive_once<L: Link>(
     ensures quiet { OnOk result (L.faults link.new ≡ L.faults link.old) }
     ensures dry { IsErrOf result OutError.NoMemory → L.faults link.new ≡ L.faults link.old }
     ensures made { L.made link.new ≡ L.made link.old }
+    ensures former { L.former link.new ≡ L.former link.old }
     ensures ends { L.ends link.old ≤ L.ends link.new }
     ensures ended { OnOk result (is_end reading.new.behind ≡ true → Rose (L.ends link.old) (L.ends link.new)) }
+    ensures over { OnOk result (is_end reading.new.behind ≡ true → L.talk link.new ≡ option_map (receives []) (L.talk link.old)) }
     ensures fetch { reading.new.fetch ≡ reading.old.fetch }
     ensures going { OnOk result (wire_state reading.new.wire ≡ State.More → reading.new.behind ≡ Behind.Nothing) }
     ensures small { OnOk result (StaysSmall reading.old reading.new) }
     ensures goes { OnOk result (Goes (line_of L.Link link.old) reading.old (line_of L.Link link.new) reading.new []) }
     ensures world { L.world link.new ≡ L.world link.old }
+    ensures room { length room.new ≡ length room.old }
 {
-    let mut room = room(alloc, ROOM)?;
-    let n = link.receive(room.as_mut_slice())?;
+    let n = link.receive(room)?;
     if n == 0 {
         end(reading);
         return Ok(());
     }
-    let (piece, _) = room.as_slice().split_at(n);
+    let (piece, _) = room.split_at(n);
     feed(alloc, reading, piece)?;
     Ok(())
 }
@@ -121,18 +127,22 @@ fn is_going(wire: &Wire) -> bool
     }
 }
 
-/// Receives until bytes of the body have come, which it gives out, or the reading has ended.
+/// Receives into the room until bytes of the body have come, which it gives out, or the reading has ended.
 pub fn listen<L: Link>(
     alloc: Global,
     link: &mut L,
     reading: &mut Reading,
+    room: &mut [u8],
 ) -> Result<Bytes, OutError>
+    requires some { 0 < length room.old }
+    requires few { length room.old ≤ 65536 }
     requires is { IsReading (line_of L.Link link.old) reading.old [] }
     ensures count { L.faults link.old ≤ L.faults link.new }
     ensures fault { IsErrOf result OutError.Fault → Rose (L.faults link.old) (L.faults link.new) }
     ensures quiet { OnOk result (L.faults link.new ≡ L.faults link.old) }
     ensures dry { IsErrOf result OutError.NoMemory → L.faults link.new ≡ L.faults link.old }
     ensures made { L.made link.new ≡ L.made link.old }
+    ensures former { L.former link.new ≡ L.former link.old }
     ensures ends { L.ends link.old ≤ L.ends link.new }
     ensures fetch { reading.new.fetch ≡ reading.old.fetch }
     ensures world { L.world link.new ≡ L.world link.old }
@@ -151,7 +161,7 @@ pub fn listen<L: Link>(
         if !bytes.is_empty() || !is_going(&reading.wire) {
             return Ok(bytes);
         }
-        receive_once(alloc, link, reading)?;
+        receive_once(alloc, link, reading, room)?;
     }
     Err(OutError::NoMemory)
 }

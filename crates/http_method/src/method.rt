@@ -103,7 +103,7 @@ impl<L: Link> Method for HttpMethod<L> {
     ghost use Rattle.acq_outside.specs.Word.{CanBegin, IsSoundWord, IsWord, begun};
     ghost use Rattle.http_method.specs.HttpMethod.{CountsFault, said_of};
     ghost use Rattle.http_method.specs.Line.{line_of};
-    ghost use Rattle.http_method.specs.Reading.{BeginsOn, IsKeptBehind, SaysOn, is_for, under_of, world_of};
+    ghost use Rattle.http_method.specs.Reading.{BeginsOn, IsKeptBehind, SaysOn, before_anew, is_for, under_of, world_of};
 
     ghost faults = { λ method. method.faults };
 
@@ -117,7 +117,7 @@ impl<L: Link> Method for HttpMethod<L> {
 
     // Beside what the trait says: a fault comes exactly where the link's count rose. The words are what is heard of the bytes
     // received since the request, which was sent whole. A connection is kept only behind a whole file, and a fetch for its
-    // host and port makes another one only where the peer ended.
+    // host and port makes another one only where the peer ended behind the request, before a byte; and no fetch two of them.
 
     fn begin(&mut self, alloc: Global, job: &Job) -> Word
         requires sound { IsSound job.now.uri }
@@ -129,6 +129,7 @@ impl<L: Link> Method for HttpMethod<L> {
         ensures link_count { L.faults self.old.link ≤ L.faults self.new.link }
         ensures link_fault { CountsFault (L.faults self.old.link) (L.faults self.new.link) result }
         ensures made { is_for self.old.kept job.now.uri ≡ true → (L.made self.new.link ≡ L.made self.old.link) ⊎ Rose (L.ends self.old.link) (L.ends self.new.link) }
+        ensures anew { (L.made self.new.link ≡ L.made self.old.link) ⊎ (L.former self.new.link ≡ before_anew self.old.kept job.now (L.talk self.old.link)) }
         ensures says { job.now.uri.scheme ≡ Http → BeginsOn (line_of L.Link self.old.link) self.old.kept (line_of L.Link self.new.link) job.now (said_of result self.new) }
         ensures behind { job.now.uri.scheme ≡ Http → IsKeptBehind result self.new.kept }
         ensures elsewhere { job.now.uri.scheme ≡ File → (result ≡ Word.Other (Reply.Absent 404)) × (self.new.link ≡ self.old.link) × (self.new.kept ≡ self.old.kept) }

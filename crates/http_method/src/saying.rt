@@ -6,7 +6,7 @@ ghost use Rattle.http_wire.specs.Wire.{IsDone, held, wire_state};
 ghost use Rattle.http_method.specs.Line.{line_of};
 ghost use Rattle.http_method.specs.Reading.{GivesOn, IsKeptBehind, IsReading, IsTold, Keeps, SaysOn, is_file, is_kept, kept_if, part_of, word_of};
 
-use crate::hearing::listen;
+use crate::hearing::{listen, new_room};
 use crate::reading::{Behind, Place, Reading, Said};
 use acq_base::{Bytes, Reply, Uri};
 use acq_net::Link;
@@ -37,6 +37,7 @@ pub fn next_word<L: Link>(alloc: Global, link: &mut L, reading: Reading) -> Resu
     ensures fault { OnErr result (Rose (L.faults link.old) (L.faults link.new)) }
     ensures quiet { OnOk result (L.faults link.new ≡ L.faults link.old) }
     ensures made { L.made link.new ≡ L.made link.old }
+    ensures former { L.former link.new ≡ L.former link.old }
     ensures ends { L.ends link.old ≤ L.ends link.new }
     ensures sound { IfOk result (λ said. IsSoundWord said.word) }
     ensures world { L.world link.new ≡ L.world link.old }
@@ -45,8 +46,12 @@ pub fn next_word<L: Link>(alloc: Global, link: &mut L, reading: Reading) -> Resu
     ensures behind { IfOk result (λ said. IsKeptBehind said.word said.kept) }
     ensures says { IfOk result (SaysOn (line_of L.Link link.old) reading (line_of L.Link link.new)) }
 {
+    let Ok(mut room) = new_room(alloc) else {
+        link.close();
+        return Ok(starved());
+    };
     let mut reading = reading;
-    match listen(alloc, link, &mut reading) {
+    match listen(alloc, link, &mut reading, room.as_mut_slice()) {
         Ok(bytes) => Ok(say(alloc, link, reading, bytes)),
         Err(OutError::Fault) => {
             link.close();
@@ -68,6 +73,7 @@ fn say<L: Link>(alloc: Global, link: &mut L, reading: Reading, bytes: Bytes) -> 
     requires fits { 0 < length bytes → wire_state reading.wire ≢ State.TooBig }
     ensures faults { L.faults link.new ≡ L.faults link.old }
     ensures made { L.made link.new ≡ L.made link.old }
+    ensures former { L.former link.new ≡ L.former link.old }
     ensures ends { L.ends link.new ≡ L.ends link.old }
     ensures sound { IsSoundWord result.word }
     ensures world { L.world link.new ≡ L.world link.old }
@@ -115,6 +121,7 @@ fn finish<L: Link>(alloc: Global, link: &mut L, reading: Reading) -> Said
     requires all { IsDone (wire_state reading.wire) → held reading.wire ≡ [] }
     ensures faults { L.faults link.new ≡ L.faults link.old }
     ensures made { L.made link.new ≡ L.made link.old }
+    ensures former { L.former link.new ≡ L.former link.old }
     ensures ends { L.ends link.new ≡ L.ends link.old }
     ensures sound { IsSoundWord result.word }
     ensures world { L.world link.new ≡ L.world link.old }
@@ -167,6 +174,7 @@ fn word_of(size: u64, reply: Reply) -> Word
 fn keep_open<L: Link>(link: &mut L, file: bool, keep: bool, uri: Uri) -> Option<Place>
     ensures faults { L.faults link.new ≡ L.faults link.old }
     ensures made { L.made link.new ≡ L.made link.old }
+    ensures former { L.former link.new ≡ L.former link.old }
     ensures ends { L.ends link.new ≡ L.ends link.old }
     ensures line { line_of L.Link link.new ≡ line_of L.Link link.old }
     ensures kept { result ≡ kept_if (file && keep) uri }

@@ -286,6 +286,96 @@ const OTHERS: [Case; 15] = [
     (&[&[ABC, XY]], &[5], [0, 0], b" 0+abc =3; fault 0 1;", 1),
 ];
 
+/// A kept connection is made anew only where its peer ends before a byte, and then a call of the link may fail.
+const ANEW: [Case; 6] = [
+    (
+        &[&[ABC], &[CHUNKED, b"2\r\nxy\r\n0\r\n\r\n"]],
+        &[],
+        [0, 0],
+        b" 0+abc =3; 0+xy =2;",
+        2,
+    ),
+    (
+        &[&[ABC, b"HTTP/1.1 100 C\r\n\r\n"], &[XY]],
+        &[],
+        [0, 0],
+        b" 0+abc =3; garbled 18;",
+        1,
+    ),
+    (
+        &[
+            &[ABC, b"HTTP/1.1 200 OK\r\nContent-Length: 2\r\n\r\nx"],
+            &[XY],
+        ],
+        &[],
+        [0, 0],
+        b" 0+abc =3; 0+x garbled 39;",
+        1,
+    ),
+    (&[&[ABC], &[XY]], &[6], [0, 0], b" 0+abc =3; fault 0 1;", 2),
+    (&[&[ABC], &[XY]], &[7], [0, 0], b" 0+abc =3; fault 0 1;", 2),
+    (&[&[ABC], &[XY]], &[8], [0, 0], b" 0+abc =3; fault 0 1;", 2),
+];
+
+/// Parts of a file, and places of others.
+const PARTS: [Case; 6] = [
+    (&[&[PART, PART]], &[], [1, 1], b" 1+bc =3; 1+bc =3;", 1),
+    (
+        &[&[
+            b"HTTP/1.1 206 P\r\nContent-Range: bytes 1-2/3\r\nTransfer-Encoding: chunked\r\n\r\n",
+            b"2\r\nbc\r\n0\r\n\r\n",
+            XY,
+        ]],
+        &[],
+        [1, 0],
+        b" 1+bc =3; 0+xy =2;",
+        1,
+    ),
+    (
+        &[
+            &[b"HTTP/1.1 206 P\r\nContent-Length: 2\r\n\r\nbc"],
+            &[b"HTTP/1.1 416 X\r\nContent-Range: bytes */3\r\nContent-Length: 0\r\n\r\n"],
+        ],
+        &[],
+        [1, 3],
+        b" garbled 0; absent 416;",
+        2,
+    ),
+    (
+        &[
+            &[b"HTTP/1.1 206 P\r\nContent-Range: bytes 9-10/11\r\nContent-Length: 2\r\n\r\njk"],
+            &[b"HTTP/1.1 206 P\r\nContent-Range: bytes 9-9/10\r\nContent-Length: 1\r\n\r\nj"],
+        ],
+        &[],
+        [9, 9],
+        b" too big; 9+j =10;",
+        2,
+    ),
+    (
+        &[&[
+            ABC,
+            b"HTTP/1.1 308 M\r\nLocation: /z\r\nContent-Length: 0\r\n\r\n",
+        ]],
+        &[],
+        [0, 0],
+        b" 0+abc =3; moved /z;",
+        1,
+    ),
+    (
+        &[
+            &[
+                b"HTTP/1.1 103 E\r\nLink: x\r\n\r\n",
+                b"HTTP/1.1 302 F\r\nLocation: z\r\n\r\n",
+            ],
+            &[CHUNKED, b"3;x=y\r\nabc\r\n0\r\nT: v\r\n\r\n"],
+        ],
+        &[],
+        [0, 0],
+        b" moved /d/z; 0+abc =3;",
+        2,
+    ),
+];
+
 /// The words of two fetches of one URI, and how often a connection was made.
 fn two_fetches(alloc: Global, case: Case) -> Result<(Text, u64), Fail> {
     let (script, failing, from, _, _) = case;
@@ -315,6 +405,61 @@ fn other_answers_and_faults(rt: HostRuntime) -> Result<(), Fail> {
         assert_eq!(rt; line.as_bytes(), case.3);
         assert_eq!(rt; made, case.4, "at {:?}", case.0);
     }
+    Ok(())
+}
+
+#[test]
+fn connections_are_made_anew_before_a_byte_alone(rt: HostRuntime) -> Result<(), Fail> {
+    for case in ANEW {
+        let (line, made) = two_fetches(rt.alloc(), case)?;
+        assert_eq!(rt; line.as_bytes(), case.3);
+        assert_eq!(rt; made, case.4, "at {:?}", case.0);
+    }
+    Ok(())
+}
+
+#[test]
+fn parts_and_places(rt: HostRuntime) -> Result<(), Fail> {
+    for case in PARTS {
+        let (line, made) = two_fetches(rt.alloc(), case)?;
+        assert_eq!(rt; line.as_bytes(), case.3);
+        assert_eq!(rt; made, case.4, "at {:?}", case.0);
+    }
+    Ok(())
+}
+
+/// A place that has moved.
+const MOVED: &[u8] = b"HTTP/1.1 301 M\r\nLocation: /r\r\nContent-Length: 0\r\n\r\n";
+
+#[test]
+fn ten_moves_lead_to_a_file(rt: HostRuntime) -> Result<(), Fail> {
+    let alloc = rt.alloc();
+    let script: [&[&[u8]]; 11] = [
+        &[MOVED],
+        &[MOVED],
+        &[MOVED],
+        &[MOVED],
+        &[MOVED],
+        &[MOVED],
+        &[MOVED],
+        &[MOVED],
+        &[MOVED],
+        &[MOVED],
+        &[ABC],
+    ];
+    let mut method = HttpMethod::new(link(alloc, &script, &[])?);
+    let mut line = Text::new(alloc);
+    let first = read_uri(alloc, b"http://m.example/d/dists/s/Release")?;
+    note_all(alloc, &mut method, first, 0, &mut line)?;
+    for _ in 0..10 {
+        let next = read_uri(alloc, b"http://m.example/r")?;
+        note_all(alloc, &mut method, next, 0, &mut line)?;
+    }
+    assert_eq!(rt;
+        line.as_bytes(),
+        b" moved /r; moved /r; moved /r; moved /r; moved /r; moved /r; moved /r; moved /r; moved /r; moved /r; 0+abc =3;".as_slice()
+    );
+    assert_eq!(rt; method.into_link().made(), 11);
     Ok(())
 }
 
