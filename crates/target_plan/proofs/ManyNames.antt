@@ -1,9 +1,10 @@
 -- Sources and lists that are too many, where the digests of their names differ and none of these is too long.
-use Rattle.std.proofs.Common.{◌≡◌, ◌≢◌, ℕ, ◌<◌, ◌≤◌, nat_lt, Bool, true, false, cond, List, [], ◌∷◌, ◌++◌, map, length, Some, None, refl, sym, ap, ◌∙◌, subst, codes, append_assoc, arith}
+use Rattle.std.proofs.Common.{◌≡◌, ◌≢◌, ℕ, ◌<◌, ◌≤◌, ◌==◌, ◌&&◌, ◌+◌, nat_lt, Bool, true, false, cond, List, [], ◌∷◌, ◌++◌, map, take, get_or, length, Some, None, refl, sym, ap, ◌∙◌, subst, codes, append_assoc, arith}
 use Rattle.std.specs.Prelude.{bytes_eq}
 use Rattle.std.specs.List.{All, AllPairs, flat_map}
+use Rattle.std.proofs.lemmas.Bool.{eqb-true}
 use Rattle.std.proofs.lemmas.Bool.Decides.{nat_tests}
-use Rattle.std.proofs.lemmas.List.{map-append, length-map}
+use Rattle.std.proofs.lemmas.List.{map-append, length-map, take_more}
 use Rattle.std.proofs.lemmas.List.Elements.{All-head, All-tail}
 use Rattle.std.proofs.lemmas.Slice.Eq.{bytes_eq-Decides}
 use Rattle.acq_base.specs.declared.settings.Pick.{Pick}
@@ -12,13 +13,22 @@ use Rattle.source_lists.specs.declared.entry.Entry.{Entry}
 use Rattle.target_plan.specs.declared.checks.File.{File}
 use Rattle.target_plan.specs.declared.draft.Planned.{Planned}
 use Rattle.target_plan.specs.declared.error.PlanError.TheVariants.{LongName, TooMany}
-use Rattle.acq_base.specs.Uri.{list_name}
-use Rattle.target_plan.specs.Drafts.{file_uri, name_of, is_same_name, picked_of, lists_of, source_of, draft_of, file_of, files_of, files_in}
-use Rattle.target_plan.specs.Marks.{digest_of, AreMarked, names_of}
+use Rattle.acq_base.specs.declared.uri.Scheme.{Scheme}
+use Rattle.acq_base.specs.declared.uri.Scheme.TheVariants.{Http, File as FileScheme}
+use Rattle.acq_base.specs.declared.uri.Uri.{Uri}
+use Rattle.acq_base.specs.Uri.{list_name, same_uri, scheme_index}
+use Rattle.uri_names.specs.Folder.{below_of}
+use Rattle.target_plan.specs.Drafts.{is_same_source, folder_of, file_uri, name_of, is_same_name, picked_of, lists_of, source_of, draft_of, file_of, files_of, files_in}
+use Rattle.target_plan.specs.Groups.{together}
+use Rattle.target_plan.specs.declared.marks.Mark.{Mark}
+use Rattle.target_plan.specs.Marks.{digest_of, AreMarked, IsFolderMark, alone, names_of}
 use Rattle.target_plan.specs.Offers.{offers_of}
 use Rattle.target_plan.specs.Planning.{or_else, long_name, clash_of, clash_with, clash_behind, too_many, refusal_of}
+use Rattle.target_plan.specs.Seen.{key_of, key_cmp}
 use Rattle.target_plan.proofs.Clashes.{file_name}
-use Rattle.target_plan.proofs.Lone.{AllOther, Lone, lone_left, lone_right, lone_first, lone_back, lone_from}
+use Rattle.target_plan.proofs.Grouping.{laws_of_keys}
+use Rattle.target_plan.proofs.GroupLemmas.{key_total, same_key}
+use Rattle.target_plan.proofs.Lone.{AllOther, Lone, lone_left, lone_right, lone_first, lone_back, lone_from, lone_groups}
 
 abbrev IsShort : List ℕ → Type 0
 IsShort name = length name ≤ 240
@@ -96,3 +106,51 @@ module _ (pick : Pick) (settings : Settings) where
       let are = all-names groups lone in
       let counted : length files ≡ length digests = sym (length-map files file_name) ∙ ap length are ∙ sym (length-map names digest_of) ∙ ap length (sym marked.added) in
       many-refused files (subst (All IsShort) (sym are) marked.short) (subst LoneNames (sym are) lone) (subst (λ (n : ℕ). 4096 < n) (sym counted) many)
+
+-- ---- entries of different sources
+
+abbrev pub folder_digest : Entry → ℕ
+folder_digest entry = digest_of (list_name (file_uri entry []))
+
+and-parts : (a b : Bool) → (a && b) ≡ true → (a ≡ true) × (b ≡ true)
+and-parts true b e = (refl, e)
+and-parts false b e = absurd cc
+
+schemes : (a b : Scheme) → (scheme_index a == scheme_index b) ≡ true → a ≡ b
+schemes Http Http e = refl
+schemes Http FileScheme e = absurd cc
+schemes FileScheme Http e = absurd cc
+schemes FileScheme FileScheme e = refl
+
+uris : (a b : Uri) → same_uri a b ≡ true → a ≡ b
+uris a b e =
+    let s = scheme_index a.scheme == scheme_index b.scheme in
+    let h = bytes_eq a.host b.host in
+    let p = a.port == b.port in
+    let q = bytes_eq a.path b.path in
+    let path = and-parts (s && h && p) q e in
+    let port = and-parts (s && h) p path.0 in
+    let host = and-parts s h port.0 in
+    λ i. record {
+      scheme = schemes a.scheme b.scheme host.0 i;
+      host = (bytes_eq-Decides a.host b.host).0 host.1 i;
+      port = eqb-true a.port b.port port.1 i;
+      path = (bytes_eq-Decides a.path b.path).0 path.1 i;
+    }
+
+same-folder : (a b : Entry) → is_same_source a b ≡ true → folder_digest a ≡ folder_digest b
+unfolding is_same_source
+same-folder a b e =
+    let both = and-parts (same_uri a.uri b.uri) (bytes_eq a.suite b.suite) e in
+    λ i. digest_of (list_name (below_of (uris a.uri b.uri both.0 i) (folder_of ((bytes_eq-Decides a.suite b.suite).0 both.1 i) ++ [])))
+
+pub folders_more : (entries : List Entry) (i : ℕ) (x : Entry) (mark : Mark) (old new : List ℕ) → i < length entries → x ≡ get_or entries i x → IsFolderMark x mark
+    → old ≡ map folder_digest (take i entries) → new ≡ old ++ mark.digest ∷ [] → new ≡ map folder_digest (take (i + 1) entries)
+folders_more entries i x mark old new within is of so_far added =
+    added ∙ (λ j. so_far j ++ (of.is j).digest ∷ []) ∙ sym (map-append folder_digest (take i entries) (x ∷ []))
+    ∙ ap (map folder_digest) (ap (λ (entry : Entry). take i entries ++ entry ∷ []) is ∙ sym (take_more entries i x within))
+
+-- where the names of their folders differ, each is of a source of its own
+pub alone_by_folders : (entries : List Entry) (digests : List ℕ) → digests ≡ map folder_digest entries → AllPairs (λ (a b : ℕ). a ≢ b) digests → together is_same_source entries ≡ map alone entries
+alone_by_folders entries digests are apart =
+    lone_groups is_same_source (laws_of_keys is_same_source key_cmp key_total key_of same_key).refl entries (lone_from is_same_source folder_digest same-folder entries (subst (AllPairs (λ (a b : ℕ). a ≢ b)) are apart))

@@ -1,8 +1,6 @@
 -- The names of a source with one entry, whose components differ.
-use Rattle.std.proofs.Common.{◌≡◌, ◌≢◌, ℕ, ◌≤◌, ◌<◌, length, get_or, arith, Bool, true, false, cond, List, [], ◌∷◌, ◌++◌, map, refl, sym, ap, ◌∙◌, subst, codes, append_assoc}
+use Rattle.std.proofs.Common.{◌≡◌, ◌≢◌, ℕ, Bool, true, false, cond, List, [], ◌∷◌, ◌++◌, map, refl, sym, ap, ◌∙◌, subst, codes, append_assoc}
 use Rattle.std.specs.Prelude.{if◌then◌else◌}
-use denote.Ref.{Bor}
-use Rattle.std.specs.Global.{Vec}
 use Rattle.std.specs.List.{All, AllPairs, filter, flat_map}
 use Rattle.std.proofs.lemmas.List.{append-nil, map-append}
 use Rattle.std.proofs.lemmas.List.Concat.{flat_map-append}
@@ -21,7 +19,6 @@ use Rattle.target_plan.specs.Groups.{first_of_each, together}
 use Rattle.target_plan.specs.Offers.{Asked, Mention, offer, is_exact, packages_of, sources_of, translation_of, asked_in, is_same_arch, packages_offers, sources_offers, translation_offers, component_offers, mentions_in, is_same_component, suite_offers, exact_offers, offers_of}
 use Rattle.target_plan.specs.Drafts.{folder_of, file_uri, planned_of, name_of, picked_of}
 use Rattle.target_plan.specs.Marks.{AreMarked, IsPlain, plain_from, escaped, names_of, bare_offers, path_of, tails_of, AreTails, names_behind, names_below, MarksFiles, IsFolderMark}
-use Rattle.target_plan.specs.Seen.{seen_entry, seen_group}
 use Rattle.target_plan.proofs.PlainPaths.{name_in_folder, plain_append}
 use Rattle.target_plan.proofs.Lone.{Lone, single, lone_from, lone_groups}
 
@@ -139,18 +136,3 @@ one_marked pick settings first entry folder tails old new of_folder apart of_tai
     subst (λ (names : List (List ℕ)). AreMarked names old new)
     (ap (names_below (list_name (file_uri first [])) entry.components) of_tails.are ∙ sym (names-of-one pick settings first entry of_folder.base of_folder.folder of_folder.suite apart files.plain of_tails.plain))
     (files.marked (list_name (file_uri first [])) of_folder.is)
-
--- ---- a group of one entry
-
-only : {X : Type 0} (xs : List X) (x : X) → 1 ≤ length xs → length xs < 2 → x ≡ get_or xs 0 x → xs ≡ x ∷ []
-only [] x least below is = absurd (omega (arith, least))
-only {X} (y ∷ []) x least below is = ap (λ (z : X). z ∷ []) (sym is)
-only (y ∷ z ∷ xs) x least below is = absurd (omega (arith, below))
-
-pub group_marked : (pick : Pick) (settings : Settings) (group : Bor Entry × Vec (Bor Entry)) (slice : List (Bor Entry)) (entry : Bor Entry) (folder : Mark) (tails : List (List ℕ)) (old new : List ℕ)
-    → slice ≡ group.1.items → 1 ≤ length slice → length slice < 2 → entry ≡ get_or slice 0 entry
-    → IsFolderMark group.0.now folder → AllPairs (λ (a b : List ℕ). a ≢ b) entry.now.components → AreTails pick settings entry.now tails → MarksFiles folder entry.now.components tails old new
-    → AreMarked (names_of pick settings (seen_group seen_entry group)) old new
-group_marked pick settings group slice entry folder tails old new are least below is of_folder apart of_tails files =
-    subst (λ (entries : List (Bor Entry)). AreMarked (names_of pick settings (group.0.now, map seen_entry entries)) old new) (sym (only slice entry least below is) ∙ are)
-    (one_marked pick settings group.0.now entry.now folder tails old new of_folder apart of_tails files)

@@ -66,6 +66,10 @@ behind_folder head path suite =
 
 -- ---- the names of a source's files
 
+-- an entry whose source has no other entry
+abbrev pub alone : Entry → Entry × List Entry
+alone entry = (entry, entry ∷ [])
+
 -- its Release's, and those of its lists, of which some may be the same
 abbrev pub names_of : Pick → Settings → Entry × List Entry → List (List ℕ)
 names_of pick settings group =

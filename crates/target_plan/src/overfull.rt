@@ -1,20 +1,21 @@
 //! Whether sources and lists are too many, told from their names alone. It may take memory, and touches nothing else.
 //!
 //! Only where no name is too long and no two files have one name are they told to be too many. What isn't so plain as
-//! that each source has one entry, whose suite is no exact path, is left to the drafts.
+//! that each source has one entry, whose suite is no exact path, is left to the drafts. So no source is looked up here.
 
 ghost use Rattle.std.specs.Prelude.{◌≡◌, ◌≢◌, ◌∷◌, [], IfOk, IfSome, fold, map, length, true, Some, AllPairs, ◌<◌};
 ghost use Rattle.acq_base.specs.Uri.{port_text};
 ghost use Rattle.target_plan.specs.declared.error.PlanError.TheVariants.{TooMany};
 ghost use Rattle.target_plan.specs.Drafts as drafts;
+ghost use Rattle.target_plan.specs.Drafts.{is_same_source};
+ghost use Rattle.target_plan.specs.Groups.{together};
 ghost use Rattle.target_plan.specs.Marks as spec;
 ghost use Rattle.target_plan.specs.Offers as offered;
 ghost use Rattle.target_plan.specs.Planning.{refusal_of};
-ghost use Rattle.target_plan.specs.Seen.{seen_entry, seen_group};
 
 use crate::checks::{LONGEST_NAME, MOST_FILES};
 use crate::draft::picked;
-use crate::groups::{Group, Mention, one};
+use crate::groups::{Mention, one};
 use crate::marks::{Mark, START, are_distinct, is_plain, over, over_escaped};
 use crate::offers::{Offer, component_offers, is_exact};
 use acq_base::{NoMemory, Scheme, Settings, Text, TryCopy, Uri};
@@ -23,28 +24,30 @@ use source_lists::Entry;
 use std::alloc::Global;
 use uri_names::list_name;
 
-/// Whether these sources and their lists are too many for a plan, and nothing else is wrong with them.
+/// Whether the sources of these entries and their lists are too many for a plan, and nothing else is wrong with them.
 pub fn is_overfull(
     alloc: Global,
-    groups: &[Group<&Entry>],
+    entries: &[Entry],
     settings: &Settings,
     picker: &Picker,
 ) -> Result<bool, NoMemory>
     ensures { IfOk result (λ over. over ≡ true
-        → refusal_of (drafts.files_in (map (drafts.draft_of picker.now.pick settings.now) (map (seen_group seen_entry) groups.now))) ≡ Some TooMany) }
+        → refusal_of (drafts.files_in (drafts.drafts_of picker.now.pick settings.now entries.now)) ≡ Some TooMany) }
 {
-    let Some(group) = groups.first() else {
+    if !are_alone(alloc, entries)? {
+        return Ok(false);
+    }
+    let Some(model) = entries.first() else {
         return Ok(false);
     };
-    let model = group.0;
     let Some(tails) = tails(alloc, model, settings, picker)? else {
         return Ok(false);
     };
     let mut digests = Vec::new(alloc);
-    for group in groups {
+    for entry in entries {
         if !mark_source(
             alloc,
-            group,
+            entry,
             settings,
             picker,
             model,
@@ -60,10 +63,25 @@ pub fn is_overfull(
     Ok(are_distinct(digests))
 }
 
-/// Appends the digests of a source's files, where it is plain and no name is too long. These are the tails of a model.
+/// Whether no two of these entries are told to be of one source.
+fn are_alone(alloc: Global, entries: &[Entry]) -> Result<bool, NoMemory>
+    ensures { IfOk result (λ alone. alone ≡ true → together is_same_source entries.now ≡ map spec.alone entries.now) }
+{
+    let mut digests = Vec::new(alloc);
+    for entry in entries {
+        let Some(folder) = folder_mark(alloc, entry)? else {
+            return Ok(false);
+        };
+        digests.push(folder.digest)?;
+    }
+    Ok(are_distinct(digests))
+}
+
+/// Appends the digests of the files of an entry's source, where that has no other entry, is plain, and no name is too long.
+/// These are the tails of a model.
 fn mark_source(
     alloc: Global,
-    group: &Group<&Entry>,
+    entry: &Entry,
     settings: &Settings,
     picker: &Picker,
     model: &Entry,
@@ -72,13 +90,9 @@ fn mark_source(
 ) -> Result<bool, NoMemory>
     requires { spec.AreTails picker.now.pick settings.now model.now tails_of_model.now }
     ensures { IfOk result (λ all. all ≡ true
-        → spec.AreMarked (spec.names_of picker.now.pick settings.now (seen_group seen_entry group.now)) digests.old.items digests.new.items) }
+        → spec.AreMarked (spec.names_of picker.now.pick settings.now (spec.alone entry.now)) digests.old.items digests.new.items) }
 {
-    let (first, entries) = group;
-    let [entry] = entries.as_slice() else {
-        return Ok(false);
-    };
-    let Some(folder) = folder_mark(alloc, first)? else {
+    let Some(folder) = folder_mark(alloc, entry)? else {
         return Ok(false);
     };
     if !are_apart(alloc, entry.components.as_slice())? {

@@ -53,10 +53,10 @@ pub fn plan(
     // What the readers give has a sound plan.
     ensures sound { All IsSoundEntry entries.now → IsSoundSettings settings.now → IfOk result IsSound }
 {
-    let groups = by_source(alloc, entries.as_slice())?;
-    if is_overfull(alloc, groups.as_slice(), settings, picker)? {
+    if is_overfull(alloc, entries.as_slice(), settings, picker)? {
         return Err(PlanError::TooMany);
     }
+    let groups = by_source(alloc, entries.as_slice())?;
     let drafts = drafts(alloc, groups.as_slice(), settings, picker)?;
     let files = files(alloc, drafts.as_slice())?;
     check_clashes(alloc, files.as_slice())?;

@@ -299,13 +299,65 @@ fn entries_are_planned_in_order(rt: HostRuntime) {
     }
 }
 
+/// Texts of sources.list, and the names of the files that are planned of them.
+static TEXTS: [(&[u8], &str); 2] = [
+    (
+        b"deb [arch=x] http://m/d s a a ./a # b\n",
+        "m_d_dists_s_Release m_d_dists_s_a_binary-x_Packages m_d_dists_s_a_i18n_Translation-en\n",
+    ),
+    (
+        b"deb http://deb.example.org/debian bookworm main non-free-firmware\n",
+        "deb.example.org_debian_dists_bookworm_Release deb.example.org_debian_dists_bookworm_main_binary-amd64_Packages deb.example.org_debian_dists_bookworm_main_i18n_Translation-en deb.example.org_debian_dists_bookworm_non-free-firmware_binary-amd64_Packages deb.example.org_debian_dists_bookworm_non-free-firmware_i18n_Translation-en\n",
+    ),
+];
+
 #[test]
-fn a_text_that_is_read_has_a_plan(rt: HostRuntime) {
+fn texts_that_are_read_have_plans(rt: HostRuntime) {
     let alloc = rt.alloc();
-    let answer = read_and_planned(alloc, b"deb [arch=x] http://m/d s a a ./a # b\n", ALL);
-    let told = told(alloc, &answer).expect(&rt, "memory");
-    assert_eq!(rt;
-        told.as_bytes(),
-        b"m_d_dists_s_Release m_d_dists_s_a_binary-x_Packages m_d_dists_s_a_i18n_Translation-en\n".as_slice()
-    );
+    for (text, expected) in TEXTS {
+        let answer = read_and_planned(alloc, text, ALL);
+        let told = told(alloc, &answer).expect(&rt, "memory");
+        assert_eq!(rt; told.as_bytes(), expected.as_bytes());
+    }
+}
+
+/// Entries of one source of this many lists: of each of its components the source packages. With `again` one more entry names a
+/// component that is there already.
+fn wide(alloc: Global, lists: u64, again: bool) -> Result<Row<Entry>, NoMemory> {
+    let mut first = entry(alloc, 1, &("deb-src", "/d/", "s", "", ""))?;
+    for number in 0..lists {
+        let name = format!(in alloc; "c{number}")?;
+        first
+            .components
+            .push(Text::from_bytes(alloc, name.as_bytes())?)?;
+    }
+    let mut entries = Row::new(alloc);
+    entries.push(first)?;
+    if again {
+        entries.push(entry(alloc, 2, &("deb-src", "/d/", "s", "c7", ""))?)?;
+    }
+    Ok(entries)
+}
+
+/// The number of the refusal, or 0.
+fn refusal_of(answer: &Result<Plan, PlanError>) -> u32 {
+    match answer {
+        Ok(_) => 0,
+        Err(refusal) => refusal.number(),
+    }
+}
+
+#[test]
+fn a_plan_has_at_most_4096_files(rt: HostRuntime) {
+    let alloc = rt.alloc();
+    for (lists, again, refusal) in [
+        (4095, false, 0),
+        (4095, true, 0),
+        (4096, false, 23),
+        (4096, true, 23),
+    ] {
+        let entries = wide(alloc, lists, again).expect(&rt, "memory");
+        let answer = planned(alloc, &entries, ALL);
+        assert_eq!(rt; refusal_of(&answer), refusal, "of {lists} lists");
+    }
 }

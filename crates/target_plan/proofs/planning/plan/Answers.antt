@@ -15,13 +15,13 @@ pub returns-clause-each_entry : goal.returns-clause-each_entry
 returns-clause-each_entry g c =
     each_entry c.args.picker.now.pick c.args.settings.now c.args.entries.now c.in_ok-sources.field-0
     (c.in_ok-sources.ensures ∙ ap (map finished) (c.as_slice-7.ensures.value ∙ c.in_ok-drafts.ensures.0
-    ∙ ap (map (draft_of c.args.picker.now.pick c.args.settings.now)) (ap (map (seen_group seen_entry)) c.as_slice-3.ensures.value ∙ c.in_ok-groups.ensures ∙ ap (together is_same_source) c.as_slice.ensures)))
+    ∙ ap (map (draft_of c.args.picker.now.pick c.args.settings.now)) (ap (map (seen_group seen_entry)) c.as_slice-3.ensures.value ∙ c.in_ok-groups.ensures ∙ ap (together is_same_source) c.as_slice-2.ensures)))
 
 pub returns-clause-each_source : goal.returns-clause-each_source
 returns-clause-each_source g c =
     each_source c.args.picker.now.pick c.args.settings.now c.args.entries.now c.in_ok-sources.field-0
     (c.in_ok-sources.ensures ∙ ap (map finished) (c.as_slice-7.ensures.value ∙ c.in_ok-drafts.ensures.0
-    ∙ ap (map (draft_of c.args.picker.now.pick c.args.settings.now)) (ap (map (seen_group seen_entry)) c.as_slice-3.ensures.value ∙ c.in_ok-groups.ensures ∙ ap (together is_same_source) c.as_slice.ensures)))
+    ∙ ap (map (draft_of c.args.picker.now.pick c.args.settings.now)) (ap (map (seen_group seen_entry)) c.as_slice-3.ensures.value ∙ c.in_ok-groups.ensures ∙ ap (together is_same_source) c.as_slice-2.ensures)))
 
 pub returns-clause-picked : goal.returns-clause-picked
 returns-clause-picked g c =
@@ -58,7 +58,7 @@ returns-clause-sound g c = λ entries settings.
     let are_drafts = c.in_ok-sources.ensures ∙ ap (map finished) c.as_slice-7.ensures.value in
     plan_sound c.files_below_are_sound.ensures c.args.picker.now.pick c.args.settings.now c.args.entries.now (record { sources = c.in_ok-sources.field-0 })
     (c.in_ok-sources.ensures ∙ ap (map finished) (c.as_slice-7.ensures.value ∙ c.in_ok-drafts.ensures.0
-    ∙ ap (map (draft_of c.args.picker.now.pick c.args.settings.now)) (ap (map (seen_group seen_entry)) c.as_slice-3.ensures.value ∙ c.in_ok-groups.ensures ∙ ap (together is_same_source) c.as_slice.ensures)))
+    ∙ ap (map (draft_of c.args.picker.now.pick c.args.settings.now)) (ap (map (seen_group seen_entry)) c.as_slice-3.ensures.value ∙ c.in_ok-groups.ensures ∙ ap (together is_same_source) c.as_slice-2.ensures)))
     entries settings
     (distinct_names drafts c.in_ok-files.files.items c.in_ok-sources.field-0 are_files are_drafts (ap clash (sym c.as_slice-5.ensures.value) ∙ c.in_ok-check_clashes.ensures))
     (no_long_names drafts c.in_ok-files.files.items c.in_ok-sources.field-0 are_files are_drafts (ap long_name (are_files ∙ ap files_in c.in_ok-drafts.ensures.0) ∙ c.in_ok-drafts.ensures.1))
@@ -68,10 +68,10 @@ pub returns-clause-asked : goal.returns-clause-asked
 returns-clause-asked g c =
     all_asked c.args.picker.now.pick c.args.settings.now c.args.entries.now c.in_ok-sources.field-0
     (c.in_ok-sources.ensures ∙ ap (map finished) (c.as_slice-7.ensures.value ∙ c.in_ok-drafts.ensures.0
-    ∙ ap (map (draft_of c.args.picker.now.pick c.args.settings.now)) (ap (map (seen_group seen_entry)) c.as_slice-3.ensures.value ∙ c.in_ok-groups.ensures ∙ ap (together is_same_source) c.as_slice.ensures)))
+    ∙ ap (map (draft_of c.args.picker.now.pick c.args.settings.now)) (ap (map (seen_group seen_entry)) c.as_slice-3.ensures.value ∙ c.in_ok-groups.ensures ∙ ap (together is_same_source) c.as_slice-2.ensures)))
 
 pub returns-clause-complete : goal.returns-clause-complete
 returns-clause-complete g c =
     all_planned c.args.picker.now.pick c.args.settings.now c.args.entries.now c.in_ok-sources.field-0
     (c.in_ok-sources.ensures ∙ ap (map finished) (c.as_slice-7.ensures.value ∙ c.in_ok-drafts.ensures.0
-    ∙ ap (map (draft_of c.args.picker.now.pick c.args.settings.now)) (ap (map (seen_group seen_entry)) c.as_slice-3.ensures.value ∙ c.in_ok-groups.ensures ∙ ap (together is_same_source) c.as_slice.ensures)))
+    ∙ ap (map (draft_of c.args.picker.now.pick c.args.settings.now)) (ap (map (seen_group seen_entry)) c.as_slice-3.ensures.value ∙ c.in_ok-groups.ensures ∙ ap (together is_same_source) c.as_slice-2.ensures)))
