@@ -1,11 +1,11 @@
 -- Packages, sources and commands, one more at a time.
-use Rattle.std.proofs.Common.{◌≡◌, refl, sym, ap, ◌∙◌, subst, ℕ, zero, suc, ◌+◌, ◌-◌, ◌<◌, List, [], ◌∷◌, ◌++◌, length, drop, append_assoc, arith}
+use Rattle.std.proofs.Common.{◌≡◌, refl, sym, ap, ◌∙◌, ℕ, zero, suc, ◌+◌, List, [], ◌∷◌, ◌++◌, append_assoc, arith}
 use Rattle.acq_base.specs.Mirror.{World}
 use Rattle.mirror_maker.specs.Draws.{drawn, next}
 use Rattle.mirror_maker.specs.Lists.{lists_of}
 use Rattle.mirror_maker.specs.Packages.{after_source, behind, packages, packages_from}
 use Rattle.mirror_maker.specs.Rows.{first_rows, second_rows}
-use Rattle.mirror_maker.specs.Made.{first_from, second_from}
+use Rattle.mirror_maker.specs.Made.{first_before, second_before, state_of}
 use Rattle.mirror_maker.specs.declared.packages.Package.{Package}
 
 -- one package less is left, and stands behind the others
@@ -35,35 +35,25 @@ pub none_behind : (state all : ℕ) → behind zero state ≡ all → state ≡ 
 unfolding behind
 none_behind state all were = were
 
-nothing_more : (l : World) → l ++ [] ≡ l
-nothing_more [] = refl
-nothing_more (x ∷ l) = ap (λ (m : World). x ∷ m) (nothing_more l)
-
-pub first_done : (left source state : ℕ) (done all : World) → left ≡ zero → done ++ first_from left source state ≡ all → done ≡ all
-unfolding first_from
-first_done left source state done all is were = sym (nothing_more done) ∙ ap (λ (n : ℕ). done ++ first_from n source state) (sym is) ∙ were
-
-pub second_done : (left source state : ℕ) (done all : World) → left ≡ zero → done ++ second_from left source state ≡ all → done ≡ all
-unfolding second_from
-second_done left source state done all is were = sym (nothing_more done) ∙ ap (λ (n : ℕ). done ++ second_from n source state) (sym is) ∙ were
-
 -- one source more
-pub first_more : (left fewer source next state later : ℕ) (done more all : World) → left ≡ suc fewer → next ≡ suc source → later ≡ after_source state
-    → more ≡ done ++ first_rows source (lists_of (packages_from state)) → done ++ first_from left source state ≡ all → more ++ first_from fewer next later ≡ all
-unfolding first_from
-first_more left fewer source next state later done more all is on goes grown were =
-    ap (λ (l : World). l ++ first_from fewer next later) grown
-    ∙ append_assoc done (first_rows source (lists_of (packages_from state))) (first_from fewer next later)
-    ∙ ap (λ (s : ℕ). done ++ (first_rows source (lists_of (packages_from state)) ++ first_from fewer s later)) on
-    ∙ ap (λ (s : ℕ). done ++ (first_rows source (lists_of (packages_from state)) ++ first_from fewer (suc source) s)) goes
-    ∙ ap (λ (n : ℕ). done ++ first_from n source state) (sym is) ∙ were
+pub state_more : (n source before later : ℕ) → before ≡ state_of n source → later ≡ after_source before → later ≡ state_of n (source + 1)
+unfolding state_of
+state_more n source before later was goes =
+    let on : suc source ≡ source + 1 = omega arith in
+    goes ∙ ap after_source was ∙ ap (state_of n) on
 
-pub second_more : (left fewer source next state later : ℕ) (done more all : World) → left ≡ suc fewer → next ≡ suc source → later ≡ after_source state
-    → more ≡ done ++ second_rows source (lists_of (packages_from state)) → done ++ second_from left source state ≡ all → more ++ second_from fewer next later ≡ all
-unfolding second_from
-second_more left fewer source next state later done more all is on goes grown were =
-    ap (λ (l : World). l ++ second_from fewer next later) grown
-    ∙ append_assoc done (second_rows source (lists_of (packages_from state))) (second_from fewer next later)
-    ∙ ap (λ (s : ℕ). done ++ (second_rows source (lists_of (packages_from state)) ++ second_from fewer s later)) on
-    ∙ ap (λ (s : ℕ). done ++ (second_rows source (lists_of (packages_from state)) ++ second_from fewer (suc source) s)) goes
-    ∙ ap (λ (n : ℕ). done ++ second_from n source state) (sym is) ∙ were
+pub first_more : (n source state : ℕ) (done more : World) → done ≡ first_before n source → state ≡ state_of n source
+    → more ≡ done ++ first_rows source (lists_of (packages_from state)) → more ≡ first_before n (source + 1)
+unfolding first_before
+first_more n source state done more was at grown =
+    let on : suc source ≡ source + 1 = omega arith in
+    grown ∙ ap (λ (l : World). l ++ first_rows source (lists_of (packages_from state))) was
+    ∙ ap (λ (s : ℕ). first_before n source ++ first_rows source (lists_of (packages_from s))) at ∙ ap (first_before n) on
+
+pub second_more : (n source state : ℕ) (done more : World) → done ≡ second_before n source → state ≡ state_of n source
+    → more ≡ done ++ second_rows source (lists_of (packages_from state)) → more ≡ second_before n (source + 1)
+unfolding second_before
+second_more n source state done more was at grown =
+    let on : suc source ≡ source + 1 = omega arith in
+    grown ∙ ap (λ (l : World). l ++ second_rows source (lists_of (packages_from state))) was
+    ∙ ap (λ (s : ℕ). second_before n source ++ second_rows source (lists_of (packages_from s))) at ∙ ap (second_before n) on

@@ -1,5 +1,5 @@
 -- A product and a sum, each modulo 2^64, are one of both.
-use Rattle.std.proofs.Common.{◌≡◌, ℕ, ◌+◌, ◌*◌, ◌%◌, ◌^◌, sym}
+use Rattle.std.proofs.Common.{◌≡◌, ℕ, ◌+◌, ◌*◌, ◌%◌, ◌^◌}
 use Rattle.std.proofs.Math.Nat.{mod-add-mod}
 use Rattle.mirror_maker.specs.Draws.{next}
 

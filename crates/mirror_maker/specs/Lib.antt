@@ -5,3 +5,4 @@ pub mod Lists
 pub mod Texts
 pub mod Rows
 pub mod Made
+pub mod Patch

@@ -3,9 +3,11 @@
 //! doesn't fit.
 #![tactic(auto)]
 
+pub use laws::patch_makes_second_list;
 pub use made::{Made, make};
 
 mod draws;
+mod laws;
 mod lists;
 mod made;
 mod packages;

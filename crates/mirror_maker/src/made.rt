@@ -1,6 +1,7 @@
 //! The mirror of a number. It takes memory, and touches nothing else.
-ghost use Rattle.std.specs.Prelude.{◌≡◌, ◌++◌, ◌<◌, ◌+◌, IfOk, pos};
-ghost use Rattle.mirror_maker.specs.Made.{first_from, list_text, second_from};
+ghost use Rattle.std.specs.Prelude.{◌≡◌, ◌++◌, ◌<◌, ◌+◌, IfOk};
+ghost use Rattle.acq_base.specs.Fetch.{IsSoundMirror};
+ghost use Rattle.mirror_maker.specs.Made.{first_before, first_mirror, first_moment, list_text, second_before, second_mirror, second_moment, state_of};
 ghost use Rattle.mirror_maker.specs.Packages.{after_source, packages_from};
 ghost use Rattle.mirror_maker.specs.Lists.{lists_of};
 ghost use Rattle.mirror_maker.specs.Rows.{first_rows, second_rows};
@@ -31,13 +32,17 @@ pub struct Made {
     pub second_now: i64,
 }
 
-/// The mirror of this number.
+/// The mirror of this number. A method over it (`MapMethod`) may be made: its URIs are distinct, and each place that an
+/// answer moves to is a sound URI.
+#[tactic(auto, unfolding(crate::specs::Made::state_of, crate::specs::Made::first_before, crate::specs::Made::second_before))]
 pub fn make(alloc: Global, n: u64) -> Result<Made, NoMemory>
-    ensures first { IfOk result (λ made. made.first.rows ≡ first_from 4 0 n) }
-    ensures second { IfOk result (λ made. made.second.rows ≡ second_from 4 0 n) }
+    ensures first { IfOk result (λ made. made.first.rows ≡ first_mirror n) }
+    ensures second { IfOk result (λ made. made.second.rows ≡ second_mirror n) }
+    ensures first_sound { IfOk result (λ made. IsSoundMirror made.first) }
+    ensures second_sound { IfOk result (λ made. IsSoundMirror made.second) }
     ensures list { IfOk result (λ made. made.list ≡ list_text) }
-    ensures first_now { IfOk result (λ made. made.first_now ≡ pos 1686387273) }
-    ensures second_now { IfOk result (λ made. made.second_now ≡ pos 1686473673) }
+    ensures first_now { IfOk result (λ made. made.first_now ≡ first_moment) }
+    ensures second_now { IfOk result (λ made. made.second_now ≡ second_moment) }
 {
     let mut draws = Draws { state: n };
     let mut first = Row::new(alloc);

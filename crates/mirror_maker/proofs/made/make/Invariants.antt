@@ -1,11 +1,12 @@
-use Rattle.std.proofs.Common.{◌≡◌, ◌-◌, ◌≤◌, ◌++◌}
-use Rattle.mirror_maker.specs.Made.{first_from, second_from}
+use Rattle.std.proofs.Common.{◌≡◌, ◌-◌, ◌≤◌}
+use Rattle.mirror_maker.specs.Made.{first_before, second_before, state_of}
 use Rattle.mirror_maker.proofs.made.make.Given as goal
 
 abbrev pub invariant-loop-source : goal.invariant-loop-source
 invariant-loop-source l = record {
-  first : l.first ++ first_from (4 - l.source) l.source l.draws.state ≡ first_from 4 0 l.fn.n;
-  second : l.second ++ second_from (4 - l.source) l.source l.draws.state ≡ second_from 4 0 l.fn.n;
+  state : l.draws.state ≡ state_of l.fn.n l.source;
+  first : l.first ≡ first_before l.fn.n l.source;
+  second : l.second ≡ second_before l.fn.n l.source;
   within : l.source ≤ 4;
 }
 

@@ -1,4 +1,4 @@
-use Rattle.std.proofs.Common.{◌≡◌, subst, ◌++◌, ℕ, suc, ◌-◌, ◌+◌, [], ◌∷◌, length, length-append, ap, arith}
+use Rattle.std.proofs.Common.{◌≡◌, subst, ◌++◌, suc, ◌-◌, [], ◌∷◌, length, length-append, ap, arith}
 use Rattle.mirror_maker.specs.Packages.{behind, packages}
 use Rattle.mirror_maker.proofs.Drawing.{none_behind, none_left, one_behind, one_drawn}
 use Rattle.mirror_maker.proofs.packages.draw_packages.Goals as goal
