@@ -1,0 +1,9 @@
+pub mod Lines
+pub mod Chains
+pub mod Listed
+pub mod Beside
+pub mod Walking
+pub mod Asking
+pub mod Naming
+pub mod Weighing
+pub mod Counting

@@ -1,0 +1,163 @@
+-- The list name of a sound URI has a `_` and no `/`, so it is neither `lock` nor `journal`, and nothing in `partial/`.
+use Rattle.std.proofs.Common.{◌≡◌, ◌≢◌, ◌≤◌, ◌∙◌, inl, inr, ℕ, zero, suc, ◌+◌, ◌==◌, ◌||◌, ◌&&◌, ◌/◌, ◌%◌, nat_lt, not, Bool, true, false, List, [], ◌∷◌, ◌++◌, length, map, take, get_or, codes, All, Contains, Some, refl, sym, ap, subst, arith}
+use Rattle.std.specs.Prelude.{if◌then◌else◌, slice_get}
+use Rattle.std.specs.Fmt.{digit_glyph}
+use Rattle.std.specs.List.{flat_map, list_any}
+use Rattle.std.proofs.lemmas.Bool.{cases_Bool, false≢true, ne_eqb}
+use Rattle.std.proofs.lemmas.List.Elements.{All-cons, All-map}
+use Rattle.std.proofs.lemmas.List.Folds.{list_any-append}
+use Rattle.std.proofs.lemmas.Option.{same_Some}
+use Rattle.std.proofs.lemmas.Slice.Eq.{bytes_eq-Decides}
+use Rattle.acq_base.specs.Plan.{IsPlanned, IsSoundTarget, names_of}
+use Rattle.acq_base.specs.Uri.{IsSound, is_alphanumeric, list_name, name_byte, name_of_parts, port_text}
+use Rattle.acq_base.specs.declared.plan.Source.{Source}
+use Rattle.acq_base.specs.declared.plan.Target.{Target}
+use Rattle.acq_base.specs.declared.uri.Scheme.{Scheme}
+use Rattle.acq_base.specs.declared.uri.Scheme.TheVariants.{Http, File}
+use Rattle.acq_base.specs.declared.uri.Uri.{Uri}
+use Rattle.acq_outside.specs.Disk.{IsName, same_name}
+use Rattle.journal_model.specs.Names.{IsPutName, is_aside, is_list, is_partial, journal, lock, partial}
+use Rattle.board_bounds.specs.Names.{PartialNamesAreOthers, PlannedNamesAreLists, PlannedNamesArePutNames}
+
+has_bar : List ℕ → Bool
+has_bar name = list_any (λ c. c == 95) name
+
+has_slash : List ℕ → Bool
+has_slash name = list_any (λ c. c == 47) name
+
+-- ---- no slash
+
+glyph-flat : (d : ℕ) → (digit_glyph false d == 47) ≡ false
+glyph-flat d = one (nat_lt d 10)
+  where
+    one : (t : Bool) → ((if t then 48 + d else (if false then 55 + d else 87 + d)) == 47) ≡ false
+    one true = ne_eqb (48 + d) 47 (λ e. omega (arith, e))
+    one false = ne_eqb (87 + d) 47 (λ e. omega (arith, e))
+
+byte-flat : (c : ℕ) → has_slash (name_byte c) ≡ false
+unfolding has_slash
+byte-flat c = one (c == 47) refl (is_alphanumeric c || list_any (λ d. c == d) (codes ".-+:"))
+  where
+    one : (t : Bool) → (c == 47) ≡ t → (u : Bool) → list_any (λ c. c == 47) (if t then 95 ∷ [] else if u then c ∷ [] else 37 ∷ digit_glyph false (c / 16) ∷ digit_glyph false (c % 16) ∷ []) ≡ false
+    one true is u = refl
+    one false is true = rw is refl
+    one false is false = rw (glyph-flat (c / 16), glyph-flat (c % 16)) refl
+
+text-flat : (text : List ℕ) → has_slash (flat_map name_byte text) ≡ false
+unfolding has_slash
+text-flat [] = refl
+text-flat (c ∷ text) =
+    list_any-append (λ d. d == 47) (name_byte c) (flat_map name_byte text)
+    ∙ ap (λ (b : Bool). b || has_slash (flat_map name_byte text)) (byte-flat c) ∙ text-flat text
+
+parts-flat : (scheme : Scheme) (host : List ℕ) (port : ℕ) (path : List ℕ) → has_slash (name_of_parts scheme host port path) ≡ false
+unfolding name_of_parts
+parts-flat Http host port path = text-flat (host ++ port_text port ++ path)
+parts-flat File host port path = text-flat path
+
+-- ---- a bar
+
+or-true : (b : Bool) → (b || true) ≡ true
+or-true true = refl
+or-true false = refl
+
+text-barred : (front path : List ℕ) → slice_get path 0 ≡ Some 47 → has_bar (flat_map name_byte (front ++ path)) ≡ true
+unfolding has_bar
+text-barred [] [] rooted = absurd (cc)
+text-barred [] (c ∷ path) rooted = let slash : c ≡ 47 = same_Some c 47 rooted in subst (λ d. list_any (λ c. c == 95) (flat_map name_byte (d ∷ path)) ≡ true) (sym slash) refl
+text-barred (c ∷ front) path rooted =
+    list_any-append (λ d. d == 95) (name_byte c) (flat_map name_byte (front ++ path))
+    ∙ ap (λ (b : Bool). list_any (λ d. d == 95) (name_byte c) || b) (text-barred front path rooted) ∙ or-true (list_any (λ d. d == 95) (name_byte c))
+
+parts-barred : (scheme : Scheme) (host : List ℕ) (port : ℕ) (path : List ℕ) → slice_get path 0 ≡ Some 47 → has_bar (name_of_parts scheme host port path) ≡ true
+unfolding name_of_parts
+parts-barred Http host port path rooted = text-barred (host ++ port_text port) path rooted
+parts-barred File host port path rooted = text-barred [] path rooted
+
+-- ---- the names of a source
+
+-- a name of a sound URI
+abbrev IsListName : List ℕ → Type 0
+IsListName name = (has_bar name ≡ true) × (has_slash name ≡ false)
+
+list-named : (uri : Uri) (name : List ℕ) → IsSound uri → name ≡ list_name uri → IsListName name
+list-named uri name sound is = subst IsListName (sym is) (parts-barred uri.scheme uri.host uri.port uri.path sound.rooted, parts-flat uri.scheme uri.host uri.port uri.path)
+
+names-named : (source : Source) → IsPlanned source → All IsListName (names_of source)
+names-named source planned =
+    All-cons IsListName source.release_name.0 (map (λ (t : Target). t.name.0) source.targets)
+    (list-named source.release source.release_name.0 planned.sound.release planned.sound.named)
+    (All-map IsListName (λ (t : Target). t.name.0) source.targets (λ i d below. one (get_or source.targets i d) (planned.sound.targets i d below)))
+  where
+    one : (target : Target) → IsSoundTarget target → IsListName target.name.0
+    one target sound = list-named target.uri target.name.0 sound.uri sound.named
+
+-- no name with a bar is one without
+other-name : (name fixed : List ℕ) → has_bar name ≡ true → has_bar fixed ≡ false → name ≢ fixed
+other-name name fixed barred plain same = false≢true (sym plain ∙ ap has_bar (sym same) ∙ barred)
+
+lock-plain : has_bar lock ≡ false
+unfolding has_bar
+lock-plain = refl
+
+journal-plain : has_bar journal ≡ false
+unfolding has_bar
+journal-plain = refl
+
+put-name : (name : List ℕ) → IsName name → length name ≤ 240 → IsListName name → IsPutName name
+put-name name named short is = record {
+  named = named;
+  short = omega (arith, short);
+  not_lock = other-name name lock is.0 lock-plain;
+  not_journal = other-name name journal is.0 journal-plain;
+}
+
+pub put-names : ((source : Source) → IsPlanned source → All IsName (names_of source)) → PlannedNamesArePutNames
+put-names law source planned i d below =
+    put-name (get_or (names_of source) i d) (law source planned i d below) (planned.short i d below) (names-named source planned i d below)
+
+not-same : (a b : List ℕ) → a ≢ b → same_name a b ≡ false
+not-same a b apart = elim (cases_Bool (same_name a b)) [ inl is ↦ absurd (apart ((bytes_eq-Decides a b).0 is)) | inr isnt ↦ isnt ]
+
+take-flat : (n : ℕ) (xs : List ℕ) → has_slash xs ≡ false → has_slash (take n xs) ≡ false
+unfolding has_slash
+take-flat n [] h = one n
+  where
+    one : (n : ℕ) → list_any (λ c. c == 47) (take n []) ≡ false
+    one zero = refl
+    one (suc n) = refl
+take-flat zero (x ∷ xs) h = refl
+take-flat (suc n) (x ∷ xs) h = one (x == 47) (take-flat n xs) h
+  where
+    one : (c : Bool) → (list_any (λ c. c == 47) xs ≡ false → list_any (λ c. c == 47) (take n xs) ≡ false) → (c || list_any (λ c. c == 47) xs) ≡ false → (c || list_any (λ c. c == 47) (take n xs)) ≡ false
+    one true rest h = h
+    one false rest h = rest h
+
+slashed : (has_slash (codes "partial/")) ≡ true
+unfolding has_slash
+slashed = refl
+
+not-partial : (name : List ℕ) → has_slash name ≡ false → is_partial name ≡ false
+not-partial name flat = not-same (take 8 name) (codes "partial/") (λ same. false≢true (sym (take-flat 8 name flat) ∙ ap has_slash same ∙ slashed))
+
+is-list : (name : List ℕ) → IsListName name → is_list name ≡ true
+is-list name is =
+    let not_journal : same_name name journal ≡ false = not-same name journal (other-name name journal is.0 journal-plain) in
+    let not_lock : same_name name lock ≡ false = not-same name lock (other-name name lock is.0 lock-plain) in
+    let not_partial : is_partial name ≡ false = not-partial name is.1 in
+    ap (λ (b : Bool). not b && not (is_aside name)) not_journal ∙ ap (λ (b : Bool). not (b || is_partial name)) not_lock ∙ ap not not_partial
+
+pub are-lists : PlannedNamesAreLists
+are-lists source planned i d below = is-list (get_or (names_of source) i d) (names-named source planned i d below)
+
+partial-slashed : (other : List ℕ) → has_slash (partial other) ≡ true
+unfolding has_slash
+partial-slashed other = refl
+
+named-at : (names : List (List ℕ)) (name : List ℕ) → All IsListName names → Contains names name → IsListName name
+named-at names name all among = subst IsListName among.2 (all among.0 name among.1)
+
+pub partials-others : PartialNamesAreOthers
+partials-others source planned name other among same =
+    let is = named-at (names_of source) name (names-named source planned) among in
+    false≢true (sym is.1 ∙ ap has_slash (sym same) ∙ partial-slashed other)
