@@ -1,0 +1,5 @@
+pub mod Changed
+pub mod Askers
+pub mod Waiting
+pub mod Ready
+pub mod Begun
