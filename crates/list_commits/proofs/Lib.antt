@@ -1,0 +1,11 @@
+pub mod Apart
+pub mod Begins
+pub mod Carrying
+pub mod Folding
+pub mod Fronts
+pub mod Gone
+pub mod Nothing
+pub mod Owned
+pub mod Recording
+pub mod Sorting
+pub mod Turns

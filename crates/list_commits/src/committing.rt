@@ -1,0 +1,47 @@
+//! One commit, from its changes to its end.
+ghost use Rattle.std.specs.Prelude.{◌≡◌, ◌≢◌, ◌≤◌, ℕ, OnOk, OnErr, IsErrOf, Err};
+ghost use Rattle.acq_outside.specs.Count.{Rose};
+ghost use Rattle.acq_outside.specs.Moments.{Stands};
+ghost use Rattle.journal_model.specs.Rest.{IsIdle, IsSettled, part_bytes};
+ghost use Rattle.commit_journal.specs.Changes.{filled_all, CanRecord, AreAllStaged};
+ghost use Rattle.commit_journal.specs.Commits.{KeepsUnnamed};
+ghost use Rattle.commit_journal.specs.Runs.{HasCommitted};
+ghost use Rattle.list_commits.specs.Made.{IsStopped};
+
+use acq_base::Row;
+use acq_outside::Disk;
+use commit_journal::{Change, Journal, JournalError, commit, prepare};
+use std::alloc::Global;
+
+/// Makes one commit of these groups of changes: it is prepared, and then made. Whenever it is stopped, a crash leaves the
+/// lists before it or those after it, whole.
+///
+/// The changes can be recorded, each staged file is there and lasts, and the journal is open for commits. `DiskFault` only
+/// where the disk's count of faults rose, and never `BadJournal`. Without memory nothing was changed.
+pub fn commit_groups<D: Disk>(
+    alloc: Global,
+    journal: &mut Journal,
+    disk: &mut D,
+    groups: Row<Row<Change>>,
+) -> Result<(), JournalError>
+    requires changes { CanRecord groups }
+    requires staged { Stands (AreAllStaged groups) (D.trace disk.old) }
+    requires idle { Stands IsIdle (D.trace disk.old) }
+    ensures count { D.faults disk.old ≤ D.faults disk.new }
+    ensures fault { IsErrOf result JournalError.DiskFault → Rose (D.faults disk.old) (D.faults disk.new) }
+    ensures quiet { OnOk result (D.faults disk.new ≡ D.faults disk.old) }
+    ensures undamaged { (at : ℕ) → result ≢ Err (JournalError.BadJournal at) }
+    ensures dry { IsErrOf result JournalError.NoMemory → D.trace disk.new ≡ D.trace disk.old }
+    ensures dry_faults { IsErrOf result JournalError.NoMemory → D.faults disk.new ≡ D.faults disk.old }
+    ensures held { D.held disk.new ≡ D.held disk.old }
+    ensures telling { D.tells disk.new ≡ D.tells disk.old }
+    ensures settled { Stands IsSettled (D.trace disk.old) → Stands IsSettled (D.trace disk.new) }
+    ensures idle { OnOk result (Stands IsIdle (D.trace disk.new)) }
+    ensures others { KeepsUnnamed groups (D.trace disk.old) (D.trace disk.new) }
+    ensures done { OnOk result (HasCommitted (filled_all (part_bytes (D.trace disk.old)) groups) (D.trace disk.old) (D.trace disk.new)) }
+    ensures stopped { OnErr result (IsStopped (filled_all (part_bytes (D.trace disk.old)) groups) (D.trace disk.old) (D.trace disk.new)) }
+{
+    let prepared = prepare(alloc, journal, disk, groups)?;
+    commit(journal, disk, prepared)?;
+    Ok(())
+}
