@@ -1,0 +1,125 @@
+-- A source as it is settled: its changes, and the outcome that they leave.
+use Rattle.std.proofs.Common.{◌≡◌, inl, inr, refl, sym, ap, ◌∙◌, subst, arith, ℕ, suc, ◌+◌, Bool, true, false, List, [], ◌∷◌, Option, Some, None, Ok, Err}
+use Rattle.std.specs.Prelude.{if◌then◌else◌, option_map, slice_get}
+use Rattle.std.proofs.lemmas.Bool.{cases_Bool}
+use Rattle.acq_base.specs.Plan.{IsPlanned}
+use Rattle.acq_base.specs.declared.installed.Old.{Old}
+use Rattle.acq_base.specs.declared.plan.Source.{Source}
+use Rattle.board_bounds.specs.Names.{PartialNamesAreOthers, PlannedNamesAreLists, PlannedNamesArePutNames}
+use Rattle.board_model.specs.Boards.{Board, first_ready, settled_of}
+use Rattle.board_model.specs.Ends.{verdict_for}
+use Rattle.board_model.specs.Laws.{BoardsStand, SettledSourcesCome}
+use Rattle.board_model.specs.Reached.{Reached}
+use Rattle.board_model.specs.RunLaws.{IsSourceAt}
+use Rattle.board_model.specs.Runs.{Note}
+use Rattle.board_model.specs.SetLaws.{ChangesLeaveOutcomes, TouchedAreApart, TouchedAreOwn}
+use Rattle.board_model.specs.Settling.{held_of, settled_in}
+use Rattle.board_model.specs.Slots.{Config, Slot, is_ready, is_there}
+use Rattle.board_model.specs.Stands.{AllStand, History, IsOpen, SourceStands, StandsAt, history_of}
+use Rattle.list_commits.specs.SetLaws.{ChangesMakeSets, HasPutNames, LooseNamesAreLoose, OwnsChanges}
+use Rattle.update_model.specs.Obtained.{◌>>=◌}
+use Rattle.update_model.specs.Outcomes.{Admitted, Outcome, Older, Kept}
+use Rattle.update_model.specs.declared.settled.Held.{Held}
+use Rattle.update_model.specs.declared.settled.Settled.{Settled}
+use Rattle.update_model.specs.declared.settled.Verdict2.{Verdict2}
+use Rattle.update_model.specs.declared.settled.Verdict2.TheVariants.{Installed, Hit}
+
+-- what the crates below say of a source that is settled
+pub record Below : Type 0 where
+  pub stand : BoardsStand
+  pub come : SettledSourcesCome
+  pub leave : ChangesLeaveOutcomes
+  pub own : TouchedAreOwn
+  pub apart : TouchedAreApart
+  pub make : ChangesMakeSets
+  pub puts : PlannedNamesArePutNames
+  pub lists : PlannedNamesAreLists
+  pub others : PartialNamesAreOthers
+  pub loose : LooseNamesAreLoose
+
+-- ---- a source that is ready
+
+pub ready_slot : (slots : List Slot) (n : ℕ) → first_ready slots ≡ Some n → (slot : Slot) × (slice_get slots n ≡ Some slot) × (is_ready slot ≡ true)
+ready_slot [] n e = absurd (cc)
+ready_slot (slot ∷ slots) n e = elim (cases_Bool (is_ready slot)) [
+  | inl is ↦
+      let zero_is : Some 0 ≡ Some n = rw is at e in
+      let same : 0 ≡ n = cc in
+      (slot, ap (λ (k : ℕ). slice_get (slot ∷ slots) k) (sym same), is)
+  | inr isnt ↦ later (ready_slot slots) (first_ready slots) refl (rw isnt at e)
+]
+  where
+    later : ((k : ℕ) → first_ready slots ≡ Some k → (s : Slot) × (slice_get slots k ≡ Some s) × (is_ready s ≡ true)) → (o : Option ℕ) → first_ready slots ≡ o → option_map (λ k. k + 1) o ≡ Some n
+        → (s : Slot) × (slice_get (slot ∷ slots) n ≡ Some s) × (is_ready s ≡ true)
+    later find None is e = absurd (cc)
+    later find (Some k) is e =
+        let found = find k is in
+        let same : suc k ≡ n = let q : k + 1 ≡ n = cc in omega arith in
+        (found.0, ap (λ (m : ℕ). slice_get (slot ∷ slots) m) (sym same) ∙ found.1, found.2)
+
+pub bound : {A B : Type 0} (o : Option A) (f : A → Option B) (b : B) → (o >>= f) ≡ Some b → (a : A) × (o ≡ Some a) × (f a ≡ Some b)
+bound None f b e = absurd (cc)
+bound (Some a) f b e = (a, refl, e)
+
+still_open : (config : Config) (n : ℕ) (source : Source) (old : Old) (slot : Slot) (verdict : Verdict2) (history : History) → SourceStands config n source old slot verdict history → is_ready slot ≡ true
+    → IsOpen config n source old slot history
+still_open config n source old slot verdict history (inl h) ready = h
+still_open config n source old slot verdict history (inr h) ready = let none : false ≡ true = subst (λ (s : Slot). is_ready s ≡ true) h.0 ready in absurd (cc)
+
+pub record WasReady (config : Config) (n : ℕ) (source : Source) (old : Old) (notes : List Note) (settled : Settled) : Type 0 where
+  pub slot : Slot
+  pub open_slot : IsOpen config n source old slot (history_of n notes)
+  pub ready : is_ready slot ≡ true
+  pub comes_to : settled_in source slot ≡ Some settled
+
+pub reached_stands : BoardsStand → (config : Config) (olds : List Old) (notes : List Note) (b : Board) (r : Reached config olds notes b)
+    → AllStand config olds (record { board = b; jobs = r.jobs; queue = []; notes = notes })
+reached_stands stand config olds notes b r = subst (AllStand config olds) r.leads (stand config olds r.lanes r.events)
+
+pub was_ready : BoardsStand → (config : Config) (olds : List Old) (notes : List Note) (b : Board) (n : ℕ) (source : Source) (old : Old) (settled : Settled)
+    → Reached config olds notes b → first_ready b.slots ≡ Some n → settled_of b n ≡ Some settled → IsSourceAt config olds n source old → WasReady config n source old notes settled
+was_ready law config olds notes b n source old settled r ready is at =
+    let stand = reached_stands law config olds notes b r in
+    let s : StandsAt config n source old (record { board = b; jobs = r.jobs; queue = []; notes = notes }) = stand.sources n source old at.source_is at.old_is in
+    let x = ready_slot b.slots n ready in
+    let slot_both : Some x.0 ≡ Some s.slot = sym x.1 ∙ s.slot_is in
+    let slot_same : x.0 ≡ s.slot = cc in
+    let is_ready_slot : is_ready s.slot ≡ true = subst (λ (y : Slot). is_ready y ≡ true) slot_same x.2 in
+    let p = bound (slice_get b.config.sources n) _ settled is in
+    let q = bound (slice_get b.slots n) _ settled p.2 in
+    let source_both : Some p.0 ≡ Some source = sym p.1 ∙ ap (λ (c : Config). slice_get c.sources n) stand.config_is ∙ at.source_is in
+    let source_same : p.0 ≡ source = cc in
+    let q_both : Some q.0 ≡ Some s.slot = sym q.1 ∙ s.slot_is in
+    let q_same : q.0 ≡ s.slot = cc in
+    record {
+      slot = s.slot;
+      open_slot = still_open config n source old s.slot s.verdict (history_of n notes) s.stands is_ready_slot;
+      ready = is_ready_slot;
+      comes_to = subst (λ (z : Slot). settled_in source z ≡ Some settled) q_same (subst (λ (z : Source). settled_in z q.0 ≡ Some settled) source_same q.2);
+    }
+
+-- ---- its changes
+
+pub put_names : Below → (source : Source) → IsPlanned source → HasPutNames source
+put_names below source planned = record { put = below.puts source planned; listed = below.lists source planned; others = below.others source planned }
+
+pub owns : Below → (config : Config) (n : ℕ) (source : Source) (old : Old) (notes : List Note) (settled : Settled) → WasReady config n source old notes settled → IsPlanned source → OwnsChanges source settled
+owns below config n source old notes settled was planned = record {
+  own = below.own source was.slot settled was.comes_to;
+  apart = below.apart config n source old was.slot (history_of n notes) settled was.open_slot was.comes_to planned;
+}
+
+-- ---- the outcome that they leave
+
+verdict_is_set : (source : Source) (old : Old) (came_to : Outcome) (held : Held) → Installed held ≡ verdict_for source old came_to → (set : Admitted) × (came_to ≡ Ok set) × (held ≡ held_of source set)
+verdict_is_set source old (Ok set) held is = (set, refl, one (is_there source old set) is)
+  where
+    one : (c : Bool) → Installed held ≡ (if c then Hit (held_of source set) else Installed (held_of source set)) → held ≡ held_of source set
+    one true e = absurd (cc)
+    one false e = cc
+verdict_is_set source old (Err (Older date)) held is = absurd (cc)
+verdict_is_set source old (Err (Kept cause)) held is = absurd (cc)
+
+pub installed_set : (source : Source) (old : Old) (came_to : Outcome) (verdict : Verdict2) (held : Held) → verdict ≡ verdict_for source old came_to → verdict ≡ Installed held
+    → (set : Admitted) × (came_to ≡ Ok set) × (held ≡ held_of source set)
+installed_set source old came_to verdict held is installs = verdict_is_set source old came_to held (sym installs ∙ is)
