@@ -1,0 +1,110 @@
+-- What a board wants of the lists on their way is there once a job has ended.
+use Rattle.std.proofs.Common.{◌≡◌, ◌∙◌, ◌⊎◌, ◌≤◌, ℕ, zero, suc, Bool, true, false, List, [], ◌∷◌, ◌++◌, length, take, Option, Some, None, IfSome, refl, inl, inr, bytes_eq, arith}
+use Rattle.std.proofs.lemmas.Slice.Eq.{bytes_eq-Decides}
+use Rattle.acq_base.specs.declared.uri.ListName.{ListName}
+use Rattle.acq_outside.specs.Crash.{State}
+use Rattle.acq_outside.specs.Moments.{Each, IsTold, Since, Stands}
+use Rattle.board_model.specs.Uses.{PartUse, Resumes, Whole, Free, Falls, IsWholeOf, use_from}
+use Rattle.job_fetch.specs.Fetched.{IsStaged, KeepsFront}
+use Rattle.journal_model.specs.Names.{partial}
+use Rattle.journal_model.specs.Rest.{IsIdle, KeepsRest, part_bytes, part_file}
+use Rattle.update_model.specs.Outcomes.{Parts}
+use Rattle.update_model.specs.declared.ask.Body.TheVariants as bodies
+use Rattle.update_model.specs.declared.ask.Closed.{Closed}
+use Rattle.update_model.specs.declared.ask.Closed.TheVariants as closings
+use Rattle.run_jobs.specs.Coupling.{HoldsUse, UsesHold}
+use Rattle.run_jobs.specs.Fetching.{ComesTo, IsFetched, KeepsBytes}
+
+pub told_back : (P : State → Type 0) (old now : List State) → Since old now P → IsTold now → IsTold old
+told_back P [] now since told = rw (since.untold refl) at told
+told_back P (s ∷ past) now since told = tt
+
+-- no time has passed
+pub no_time : (P : State → Type 0) (now : List State) → Since now now P
+no_time P now = record { states = []; joined = refl; untold = λ e. e; each = tt }
+
+-- a commit may still be prepared
+pub idle_now : (old now : List State) → Since old now (KeepsRest old) → Stands IsIdle old → Stands IsIdle now
+idle_now [] now since idle = rw (since.untold refl) tt
+idle_now (s ∷ past) now since idle = by since.states since.joined since.each
+  where
+    by : (states : List State) → now ≡ states ++ s ∷ past → Each (KeepsRest (s ∷ past)) states → Stands IsIdle now
+    by [] joined each = rw joined idle
+    by (t ∷ states) joined each = rw joined (each.0.idle idle)
+
+pub moments_of : (staged : Option ListName) (old now : List State) → IsFetched staged old now → Since old now (KeepsRest old)
+moments_of None old now is = rw is (no_time (KeepsRest old) old)
+moments_of (Some name) old now is = is.moments
+
+keep_by : (from : ℕ) (wanted : PartUse) (name first : List ℕ) (now : List State) → wanted ≡ use_from from → HoldsUse wanted name first now → from ≤ length (part_bytes now name)
+keep_by zero wanted name first now e holds = omega arith
+keep_by (suc n) wanted name first now e holds = let h = rw e at holds in h.within
+
+-- the bytes that a job leaves out are there
+pub keep_of : (from : ℕ) (wanted : List ℕ → PartUse) (name : List ℕ) (first : Parts) (now : List State) → wanted name ≡ use_from from → UsesHold wanted first now → IsTold now → from ≤ length (part_bytes now name)
+keep_of from wanted name first now e uses told = keep_by from (wanted name) name (first name) now e (uses.each name told)
+
+front_by : (from : ℕ) (wanted : PartUse) (name first : List ℕ) (now : List State) → wanted ≡ use_from from → HoldsUse wanted name first now → take from (part_bytes now name) ≡ take from first
+front_by zero wanted name first now e holds = refl
+front_by (suc n) wanted name first now e holds = let h = rw e at holds in h.front
+
+-- and they are those that were there at first
+pub front_is : (from : ℕ) (wanted : List ℕ → PartUse) (name : List ℕ) (first : Parts) (now : List State) → wanted name ≡ use_from from → UsesHold wanted first now → IsTold now
+    → take from (part_bytes now name) ≡ take from (first name)
+front_is from wanted name first now e uses told = front_by from (wanted name) name (first name) now e (uses.each name told)
+
+falls_holds : (before after : PartUse) (name first : List ℕ) (now : List State) → Falls before after → HoldsUse before name first now → HoldsUse after name first now
+falls_holds before after name first now (inl e) holds = rw e holds
+falls_holds before after name first now (inr e) holds = rw e tt
+
+-- a file that stays holds what it held
+stays_holds : (wanted : PartUse) (name first : List ℕ) (old now : List State) → part_file now name ≡ part_file old name → HoldsUse wanted name first old → HoldsUse wanted name first now
+stays_holds (Resumes size) name first old now same holds = record { front = rw same holds.front; within = rw same holds.within }
+stays_holds (Whole sum) name first old now same holds = record { bytes = holds.bytes; file = same ∙ holds.file; sums = holds.sums }
+stays_holds Free name first old now same holds = tt
+
+-- the file of a staged job, of which the first bytes stayed
+kept_holds : (from : ℕ) (before : PartUse) (name first : List ℕ) (old now : List State) → before ≡ use_from from → IsTold now → KeepsFront name from old now → HoldsUse before name first old → HoldsUse before name first now
+kept_holds zero before name first old now e told keeps holds = rw e tt
+kept_holds (suc n) before name first old now e told keeps holds =
+    let h = rw e at holds in
+    rw e (record { front = keeps.front told ∙ h.front; within = keeps.within told })
+
+whole_holds : (staged : ListName) (name first : List ℕ) (closed : Closed) (after : PartUse) (now : List State) → IsTold now → IsStaged staged.0 now closed → IsWholeOf (Some staged) closed name after → HoldsUse after name first now
+whole_holds staged name first (closings.Served (bodies.Bytes bytes)) after now told ends is = absurd is
+whole_holds staged name first (closings.Served (bodies.Staged sum)) after now told ends is = rw is.1 (rw is.0 (ends told))
+whole_holds staged name first (closings.Moved place) after now told ends is = absurd is
+whole_holds staged name first (closings.Absent status) after now told ends is = absurd is
+whole_holds staged name first closings.TooBig after now told ends is = absurd is
+whole_holds staged name first (closings.Garbled at) after now told ends is = absurd is
+whole_holds staged name first (closings.Fault a b) after now told ends is = absurd is
+
+-- the same name or another
+pub same_name : (a b : List ℕ) → (a ≡ b) ⊎ ((a ≡ b) → ⊥)
+same_name a b = by (bytes_eq a b) refl
+  where
+    by : (t : Bool) → bytes_eq a b ≡ t → (a ≡ b) ⊎ ((a ≡ b) → ⊥)
+    by true is = inl ((bytes_eq-Decides a b).0 is)
+    by false is = inr (λ same. let yes = (bytes_eq-Decides a b).1 same in cc)
+
+-- two lists on their way under one name are one
+pub partial_apart : (a b : List ℕ) → (a ≡ b → ⊥) → partial a ≡ partial b → ⊥
+partial_apart a b apart e = apart (grind (arith, partial))
+
+-- what a board wants is there once a job has ended
+pub uses_after : (staged : Option ListName) (from : ℕ) (closed : Closed) (wanted after : List ℕ → PartUse) (first : Parts) (old now : List State) → IsFetched staged old now
+    → KeepsBytes staged from old now → ComesTo staged now closed → IfSome staged (λ name. wanted name.0 ≡ use_from from)
+    → ((name : List ℕ) → Falls (wanted name) (after name) ⊎ IsWholeOf staged closed name (after name)) → UsesHold wanted first old → UsesHold after first now
+uses_after None from closed wanted after first old now fetched keeps comes e falls uses = record { each = λ name told. by name told (falls name) }
+  where
+    by : (name : List ℕ) → IsTold now → Falls (wanted name) (after name) ⊎ IsWholeOf None closed name (after name) → HoldsUse (after name) name (first name) now
+    by name told (inl f) = falls_holds (wanted name) (after name) name (first name) now f (rw fetched (uses.each name (rw fetched at told)))
+    by name told (inr w) = absurd w
+uses_after (Some staged) from closed wanted after first old now fetched keeps comes e falls uses = record { each = λ name told. by name told (falls name) (same_name name staged.0) }
+  where
+    by : (name : List ℕ) → IsTold now → Falls (wanted name) (after name) ⊎ IsWholeOf (Some staged) closed name (after name) → (name ≡ staged.0) ⊎ ((name ≡ staged.0) → ⊥) → HoldsUse (after name) name (first name) now
+    by name told (inr w) is = whole_holds staged name (first name) closed (after name) now told comes w
+    by name told (inl f) (inl same) = falls_holds (wanted name) (after name) name (first name) now f
+        (kept_holds from (wanted name) name (first name) old now (rw same e) told (rw same keeps) (uses.each name (told_back (KeepsRest old) old now fetched.moments told)))
+    by name told (inl f) (inr apart) = falls_holds (wanted name) (after name) name (first name) now f
+        (stays_holds (wanted name) name (first name) old now (fetched.others (partial name) (partial_apart name staged.0 apart)) (uses.each name (told_back (KeepsRest old) old now fetched.moments told)))

@@ -1,0 +1,5 @@
+mod Telling
+mod Keeping
+mod StagedLists
+mod OneJob
+mod Idle

@@ -1,0 +1,169 @@
+-- What is staged is a list of its source.
+use Rattle.std.proofs.Common.{◌≡◌, ℕ, zero, suc, true, false, List, [], ◌∷◌, length, Option, Some, None, refl, sym, subst, arith, inl, inr}
+use Rattle.std.specs.Prelude.{option_and_then, slice_get}
+use Rattle.acq_base.specs.declared.installed.Old.{Old}
+use Rattle.acq_base.specs.declared.plan.Source.{Source}
+use Rattle.acq_base.specs.declared.plan.Target.{Target}
+use Rattle.item_graph.specs.Items.{asked}
+use Rattle.release_file.specs.declared.release.Release.{Release}
+use Rattle.update_model.specs.Obtained.{◌>>=◌}
+use Rattle.update_model.specs.Points.{Point, Over, At, run, start, step, lead}
+use Rattle.update_model.specs.Reach.{Way, On, Stop, way}
+use Rattle.update_model.specs.Trails.{Told, Leads}
+use Rattle.update_model.specs.Walks.{Walk, Finish, Try, after_in_release, release_walk}
+use Rattle.update_model.specs.declared.ask.Ask.{Ask}
+use Rattle.update_model.specs.declared.ask.Closed.{Closed}
+use Rattle.update_model.specs.declared.ask.Closed.TheVariants as closings
+use Rattle.update_model.specs.declared.ask.Ending.{Ending}
+use Rattle.update_model.specs.declared.ask.Ending.TheVariants as endings
+use Rattle.update_model.specs.declared.settled.Verdict2.{Verdict2}
+use Rattle.board_model.specs.Boards.{Asker, Board, asker_of}
+use Rattle.board_model.specs.Keys.{key_at, name_at}
+use Rattle.board_model.specs.Laws.{BoardsStand}
+use Rattle.board_model.specs.Reached.{Reached}
+use Rattle.board_model.specs.Runs.{Note, World}
+use Rattle.board_model.specs.Slots.{Config, Standing, Slot, Asking, Listing, Refused, Closed as Settled, ask_of, item_at, item_in, joined}
+use Rattle.board_model.specs.Stands.{AllStand, History, IsOpen, ListsStand, SourceStands, history_of, tolds}
+use Rattle.board_model.specs.declared.key.Key.{Key}
+
+-- ---- a Release is held in memory
+
+abbrev HeldWalk : Walk → Type 0
+HeldWalk (Finish end) = Unit {0}
+HeldWalk (Try ask next) = (ask.stage ≡ false) × ((e : Ending) → HeldWalk (next e))
+
+abbrev HeldPoint : Point → Type 0
+HeldPoint (Over end) = Unit {0}
+HeldPoint (At ask left faults next) = (ask.stage ≡ false) × ((e : Ending) → HeldWalk (next e))
+
+held_start : (retries : ℕ) (walk : Walk) → HeldWalk walk → HeldPoint (start retries walk)
+held_start retries (Finish end) h = tt
+held_start retries (Try ask next) h = h
+
+held_lead : (retries : ℕ) (ask : Ask) (left : ℕ) (next : Ending → Walk) (w : Way) → ask.stage ≡ false → ((e : Ending) → HeldWalk (next e)) → HeldPoint (lead retries ask left next w)
+held_lead retries ask left next (On to) stage h = (stage, h)
+held_lead retries ask left next (Stop ending) stage h = held_start retries (next ending) (h ending)
+
+held_led : (retries : ℕ) (ask : Ask) (left : ℕ) (next : Ending → Walk) (lane : ℕ) (closed : Closed) (faults : ℕ) → ask.stage ≡ false → ((e : Ending) → HeldWalk (next e))
+    → HeldPoint (Leads left ask.uri lane closed faults (λ n. At ask left n next) (λ w. lead retries ask left next w))
+held_led retries ask left next lane (closings.Fault from to) zero stage h = held_start retries (next (endings.Dead lane from to)) (h (endings.Dead lane from to))
+held_led retries ask left next lane (closings.Fault from to) (suc n) stage h = (stage, h)
+held_led retries ask left next lane (closings.Served body) faults stage h = held_lead retries ask left next (way left ask.uri (closings.Served body)) stage h
+held_led retries ask left next lane (closings.Moved place) faults stage h = held_lead retries ask left next (way left ask.uri (closings.Moved place)) stage h
+held_led retries ask left next lane (closings.Absent status) faults stage h = held_lead retries ask left next (way left ask.uri (closings.Absent status)) stage h
+held_led retries ask left next lane closings.TooBig faults stage h = held_lead retries ask left next (way left ask.uri closings.TooBig) stage h
+held_led retries ask left next lane (closings.Garbled at) faults stage h = held_lead retries ask left next (way left ask.uri (closings.Garbled at)) stage h
+
+held_step : (retries : ℕ) (p : Point) (t : Told) → HeldPoint p → HeldPoint (step retries p t)
+held_step retries (Over end) t h = tt
+held_step retries (At ask left faults next) t h = held_led retries ask left next t.lane t.closed faults h.0 h.1
+
+held_run : (retries : ℕ) (p : Point) (ts : List Told) → HeldPoint p → HeldPoint (run retries p ts)
+held_run retries p [] h = h
+held_run retries p (t ∷ ts) h = held_run retries (step retries p t) ts (held_step retries p t h)
+
+held_after : (e : Ending) (release : Walk) → HeldWalk release → HeldWalk (after_in_release e release)
+held_after (endings.Served body) release h = tt
+held_after (endings.Dead lane before after) release h = tt
+held_after endings.TooBig release h = h
+held_after (endings.Absent status) release h = h
+held_after endings.Lost release h = h
+held_after (endings.Garbled at) release h = h
+
+held_release : (source : Source) → HeldWalk (release_walk source)
+held_release source = (refl, λ e. held_after e _ (refl, λ e. tt))
+
+held_asks : (p : Point) (ask : Ask) → HeldPoint p → asked p ≡ Some ask → ask.stage ≡ false
+held_asks (Over end) ask h e = absurd (cc)
+held_asks (At other left faults next) ask h e = let same : other ≡ ask = cc in subst (λ (x : Ask). x.stage ≡ false) same h.0
+
+-- ---- an item that asks
+
+bound : {A B : Type 0} (o : Option A) (f : A → Option B) (b : B) → (o >>= f) ≡ Some b → (a : A) × (o ≡ Some a) × (f a ≡ Some b)
+bound None f b e = absurd (cc)
+bound (Some a) f b e = (a, refl, e)
+
+-- what is known of it
+pub record IsAsking (b : Board) (number : ℕ) (a : Asker) : Type 0 where
+  pub key_is : key_at b.config.sources number ≡ Some a.key
+  pub source_is : slice_get b.config.sources a.key.source ≡ Some a.source
+  pub slot : Slot
+  pub slot_is : slice_get b.slots a.key.source ≡ Some slot
+  pub asks : ask_of (item_in slot a.key.place) ≡ Some a.ask
+
+slot_asks : (slots : List Slot) (key : Key) (ask : Ask) → ask_of (item_at slots key) ≡ Some ask
+    → (slot : Slot) × (slice_get slots key.source ≡ Some slot) × (ask_of (item_in slot key.place) ≡ Some ask)
+slot_asks slots key ask e = one (slice_get slots key.source) refl e
+  where
+    one : (o : Option Slot) → slice_get slots key.source ≡ o → ask_of (option_and_then (λ slot. item_in slot key.place) o) ≡ Some ask
+        → (slot : Slot) × (slice_get slots key.source ≡ Some slot) × (ask_of (item_in slot key.place) ≡ Some ask)
+    one None is e = absurd (cc)
+    one (Some slot) is e = (slot, is, e)
+
+pub asker_asks : (b : Board) (number : ℕ) (a : Asker) → asker_of b number ≡ Some a → IsAsking b number a
+asker_asks b number a e =
+    let k = bound (key_at b.config.sources number) _ a e in
+    let s = bound (slice_get b.config.sources k.0.source) _ a k.2 in
+    let q = bound (ask_of (item_at b.slots k.0)) _ a s.2 in
+    let same : (record { key = k.0; source = s.0; ask = q.0 }) ≡ a = cc in
+    let there = slot_asks b.slots k.0 q.0 q.1 in
+    subst (λ (x : Asker). IsAsking b number x) same (record { key_is = k.1; source_is = s.1; slot = there.0; slot_is = there.1; asks = there.2 })
+
+olds_there : (sources : List Source) (olds : List Old) (n : ℕ) (source : Source) → length olds ≡ length sources → slice_get sources n ≡ Some source
+    → (old : Old) × (slice_get olds n ≡ Some old)
+olds_there [] olds n source each there = absurd (cc)
+olds_there (x ∷ sources) [] n source each there = absurd (omega (arith, each))
+olds_there (x ∷ sources) (old ∷ olds) zero source each there = (old, refl)
+olds_there (x ∷ sources) (old ∷ olds) (suc n) source each there = olds_there sources olds n source (omega (arith, each)) there
+
+list_of : (config : Config) (n : ℕ) (source : Source) (old : Old) (release : Release) (place : ℕ) (targets : List Target) (lists : List (Option Standing)) (history : History) (k : ℕ) (item : Standing)
+    → ListsStand config n source old release place targets lists history → slice_get lists k ≡ Some (Some item) → (target : Target) × (slice_get targets k ≡ Some target)
+list_of config n source old release place [] lists history k item h e =
+    let none : slice_get [] k ≡ Some (Some item) = subst (λ (xs : List (Option Standing)). slice_get xs k ≡ Some (Some item)) h e in
+    absurd (cc)
+list_of config n source old release place (t ∷ targets) [] history k item h e = absurd h
+list_of config n source old release place (t ∷ targets) (list ∷ lists) history zero item h e = (t, refl)
+list_of config n source old release place (t ∷ targets) (list ∷ lists) history (suc k) item h e = list_of config n source old release (suc place) targets lists history k item h.1 e
+
+-- a list of the source
+pub record IsNamed (source : Source) (place : ℕ) : Type 0 where
+  pub k : ℕ
+  pub target : Target
+  pub at : slice_get source.targets k ≡ Some target
+  pub is : name_at source place ≡ Some target.name
+
+open_named : (config : Config) (n : ℕ) (source : Source) (old : Old) (slot : Slot) (history : History) (place : ℕ) (ask : Ask) → IsOpen config n source old slot history
+    → ask_of (item_in slot place) ≡ Some ask → ask.stage ≡ true → IsNamed source place
+open_named config n source old (Asking kept release) history zero ask h e stage =
+    let held = held_asks release.point ask (rw h.1.stands (held_run config.settings.retries (start config.settings.retries (release_walk source)) (tolds (history 0)) (held_start config.settings.retries (release_walk source) (held_release source)))) e in
+    absurd (cc)
+open_named config n source old (Asking kept release) history (suc place) ask h e stage = absurd (cc)
+open_named config n source old (Listing set there lists) history zero ask h e stage = absurd (cc)
+open_named config n source old (Listing set there lists) history (suc k) ask h e stage = one (slice_get lists k) refl e
+  where
+    one : (o : Option (Option Standing)) → slice_get lists k ≡ o → ask_of (joined o) ≡ Some ask → IsNamed source (suc k)
+    one None is e = absurd (cc)
+    one (Some None) is e = absurd (cc)
+    one (Some (Some item)) is e =
+        let t = list_of config n source old set.release 1 source.targets lists history k item h.2 is in
+        record { k = k; target = t.0; at = t.1; is = rw t.1 refl }
+open_named config n source old (Refused why) history place ask h e stage = absurd (cc)
+open_named config n source old Settled history place ask h e stage = absurd h
+
+stands_named : (config : Config) (a : Asker) (old : Old) (slot : Slot) (verdict : Verdict2) (history : History) → ask_of (item_in slot a.key.place) ≡ Some a.ask → a.ask.stage ≡ true
+    → SourceStands config a.key.source a.source old slot verdict history → IsNamed a.source a.key.place
+stands_named config a old slot verdict history asks stage (inl opened) = open_named config a.key.source a.source old slot history a.key.place a.ask opened asks stage
+stands_named config a old slot verdict history asks stage (inr closed) =
+    let none : ask_of (item_in Settled a.key.place) ≡ Some a.ask = subst (λ (s : Slot). ask_of (item_in s a.key.place) ≡ Some a.ask) closed.0 asks in absurd (cc)
+
+pub staged_named : BoardsStand → (config : Config) (olds : List Old) (notes : List Note) (b : Board) (number : ℕ) (a : Asker) → Reached config olds notes b → asker_of b number ≡ Some a → a.ask.stage ≡ true
+    → IsNamed a.source a.key.place
+staged_named law config olds notes b number a reached e stage =
+    let i = asker_asks b number a e in
+    let w : World = record { board = b; jobs = reached.jobs; queue = []; notes = notes } in
+    let all : AllStand config olds w = subst (λ (x : World). AllStand config olds x) reached.leads (law config olds reached.lanes reached.events) in
+    let source_is : slice_get config.sources a.key.source ≡ Some a.source = subst (λ (c : Config). slice_get c.sources a.key.source ≡ Some a.source) all.config_is i.source_is in
+    let old = olds_there config.sources olds a.key.source a.source reached.each source_is in
+    let at = all.sources a.key.source a.source old.0 source_is old.1 in
+    let same : at.slot ≡ i.slot = cc in
+    stands_named config a old.0 at.slot at.verdict (history_of a.key.source notes) (subst (λ (s : Slot). ask_of (item_in s a.key.place) ≡ Some a.ask) (sym same) i.asks) stage at.stands

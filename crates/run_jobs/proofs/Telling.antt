@@ -1,0 +1,61 @@
+-- What one answer adds to what was heard.
+use Rattle.std.proofs.Common.{◌≡◌, ◌≤◌, ℕ, List, [], ◌∷◌, ◌++◌, take, Option, Some, None, IfSome, refl, sym, subst, arith}
+use Rattle.std.specs.List.{AllByRecursion as Each}
+use Rattle.acq_base.specs.declared.fetch.Answer.{Answer}
+use Rattle.acq_base.specs.declared.fetch.Answer.TheVariants as answers
+use Rattle.item_graph.specs.Sound.{IsSoundAnswer}
+use Rattle.job_fetch.specs.Fetched.{IsCounted, IsSoundEnd}
+use Rattle.update_model.specs.Trails.{answered, heard_of}
+use Rattle.update_model.specs.declared.ask.Ask.{Ask}
+use Rattle.update_model.specs.declared.ask.Closed.{Closed}
+use Rattle.update_model.specs.declared.ask.Closed.TheVariants as closings
+use Rattle.update_model.specs.declared.log.Asked.{Asked}
+use Rattle.update_model.specs.declared.log.Heard.{Heard}
+use Rattle.update_model.specs.declared.log.Heard.TheVariants as heards
+use Rattle.run_jobs.specs.Counting.{CountsOn, CountsUp}
+
+pub each_last : {A : Type 0} (P : A → Type 0) (xs : List A) (x : A) → Each P xs → P x → Each P (xs ++ x ∷ [])
+each_last P [] x all is = (is, tt)
+each_last P (y ∷ xs) x all is = (all.0, each_last P xs x all.1 is)
+
+pub if_both : {A : Type 0} (o : Option A) (P Q R : A → Type 0) → ((x : A) → P x → Q x → R x) → IfSome o P → IfSome o Q → IfSome o R
+if_both None P Q R f p q = p
+if_both (Some x) P Q R f p q = f x p q
+
+-- an answer beside other bytes that begin alike is the same
+pub answered_front : (p q : List ℕ) (ask : Ask) (answer : Answer) → take ask.from p ≡ take ask.from q → answered p ask answer ≡ answered q ask answer
+answered_front p q ask (answers.Served bytes) same = rw same refl
+answered_front p q ask (answers.Moved place) same = refl
+answered_front p q ask (answers.Absent status) same = refl
+
+pub sound_answer : (closed : Closed) → IsSoundEnd closed → IsSoundAnswer closed
+sound_answer (closings.Served body) is = tt
+sound_answer (closings.Moved place) is = is
+sound_answer (closings.Absent status) is = tt
+sound_answer closings.TooBig is = tt
+sound_answer (closings.Garbled at) is = tt
+sound_answer (closings.Fault before after) is = tt
+
+-- one more answer is counted
+counts_one : (entry : Asked) (closed : Closed) (first before after : ℕ) → entry.heard ≡ heard_of closed → first ≤ before → IsCounted before after closed → before ≤ after → CountsUp first after (entry ∷ [])
+counts_one entry (closings.Served body) first before after e le is up = rw e (rw is le)
+counts_one entry (closings.Moved place) first before after e le is up = rw e (rw is le)
+counts_one entry (closings.Absent status) first before after e le is up = rw e (rw is le)
+counts_one entry closings.TooBig first before after e le is up = rw e (rw is le)
+counts_one entry (closings.Garbled at) first before after e le is up = rw e (rw is le)
+counts_one entry (closings.Fault b a) first before after e le is up =
+    rw e (subst (λ n. first ≤ n) (sym is.0) le, rw is.0 (rw is.1 is.2), rw is.0 (rw is.1 up), subst (λ n. n ≤ after) (sym is.1) (omega arith))
+
+on_heard : (heard : Heard) (count : ℕ) (P Q : ℕ → Type 0) → ((n : ℕ) → P n → Q n) → CountsOn heard count P → CountsOn heard count Q
+on_heard (heards.Served sum) count P Q f is = f count is
+on_heard (heards.Moved place) count P Q f is = f count is
+on_heard (heards.Absent status) count P Q f is = f count is
+on_heard heards.TooBig count P Q f is = f count is
+on_heard (heards.Garbled at) count P Q f is = f count is
+on_heard (heards.Fault before after) count P Q f is = (is.0, is.1, is.2, f after is.3)
+
+pub counts_last : (entries : List Asked) (entry : Asked) (closed : Closed) (first before after : ℕ) → entry.heard ≡ heard_of closed → CountsUp first before entries → IsCounted before after closed → before ≤ after
+    → CountsUp first after (entries ++ entry ∷ [])
+counts_last [] entry closed first before after e up is le = counts_one entry closed first before after e up is le
+counts_last (other ∷ entries) entry closed first before after e up is le =
+    on_heard other.heard first _ _ (λ n rest. counts_last entries entry closed n before after e rest is le) up

@@ -1,0 +1,17 @@
+-- How a log tells the faults of a method.
+use Rattle.std.specs.Prelude.{ℕ, ◌≤◌, List, [], ◌∷◌}
+use Rattle.acq_outside.specs.Count.{Rose}
+use Rattle.update_model.specs.declared.log.Asked.{Asked}
+use Rattle.update_model.specs.declared.log.Heard.{Heard}
+use Rattle.update_model.specs.declared.log.Heard.TheVariants.{Fault}
+
+-- a fault that is told rose from the count so far or above, and the others begin where it ended
+abbrev pub CountsOn : Heard → ℕ → (ℕ → Type 0) → Type 0
+CountsOn (Fault before after) count rest = (count ≤ before) × Rose before after × (before ≤ after) × rest after
+CountsOn heard count rest = rest count
+
+-- The faults of these entries don't overlap: the first begins at this count or above it, each next one where the one before
+-- ended or above, and the last ends at the other count or below it.
+abbrev pub CountsUp : ℕ → ℕ → List Asked → Type 0
+CountsUp first last [] = first ≤ last
+CountsUp first last (entry ∷ entries) = CountsOn entry.heard first (λ count. CountsUp count last entries)

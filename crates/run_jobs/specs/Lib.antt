@@ -1,0 +1,10 @@
+-- What public clauses cite: what a run is between two of its steps,
+pub mod Running
+-- what is on the disk of what a board wants,
+pub mod Coupling
+-- how faults are told,
+pub mod Counting
+-- and why a run gives no log.
+pub mod Refusals
+-- For the crate's own functions: what the fetch of one job does.
+pub mod Fetching

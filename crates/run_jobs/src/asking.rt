@@ -1,0 +1,97 @@
+//! One job of a run: it goes out, is fetched, and its answer comes in.
+ghost use Rattle.std.specs.Prelude.{◌≡◌, ◌≢◌, ◌≤◌, ◌+◌, ℕ, true, false, length, None, Err, IfOk, OnOk, IsErrOf};
+ghost use Rattle.acq_outside.specs.Count.{Rose};
+ghost use Rattle.acq_outside.specs.Moments.{Since};
+ghost use Rattle.board_model.specs.Boards.{staged_name};
+ghost use Rattle.board_model.specs.Jobs.{NoneAsks};
+ghost use Rattle.job_fetch.specs.Fetched.{IsCounted, IsSoundEnd};
+ghost use Rattle.journal_model.specs.Rest.{KeepsRest};
+ghost use Rattle.update_core.specs.Standing.{board_of};
+ghost use Rattle.run_jobs.specs.Fetching.{Answers, CanFetch, ComesTo, IsFetched, KeepsBytes};
+ghost use Rattle.run_jobs.specs.Running.{GoesOn, IsReady, SameBoard};
+
+use crate::RunError;
+use acq_base::Job;
+use acq_outside::{Disk, Method, OutError};
+use board_bounds::{asks_may_be_fetched, planned_names_are_put_names};
+use board_model::{
+    boards_rest, boards_walk_routes, calls_are_events, jobs_stand, named_lists_rest,
+};
+use job_fetch::{fetch_held, fetch_staged};
+use kept_hooks::Judge;
+use std::alloc::Global;
+use update_core::Board;
+use update_model::Closed;
+
+/// Fetches a job that is out: into its list's file on its way, or into memory.
+fn fetch<D: Disk, M: Method>(
+    alloc: Global,
+    disk: &mut D,
+    method: &mut M,
+    board: &Board,
+    job: &Job,
+) -> Result<Closed, OutError>
+    requires { CanFetch (staged_name (board_of board.now) job.now.no) job.now (D.trace disk.old) }
+    ensures count { D.faults disk.old ≤ D.faults disk.new }
+    ensures fault { IsErrOf result OutError.Fault → Rose (D.faults disk.old) (D.faults disk.new) }
+    ensures quiet { OnOk result (D.faults disk.new ≡ D.faults disk.old) }
+    ensures held { D.held disk.new ≡ D.held disk.old }
+    ensures telling { D.tells disk.new ≡ D.tells disk.old }
+    ensures method_count { M.faults method.old ≤ M.faults method.new }
+    ensures world { M.world method.new ≡ M.world method.old }
+    ensures counted { IfOk result (IsCounted (M.faults method.old) (M.faults method.new)) }
+    ensures sound { IfOk result IsSoundEnd }
+    ensures fetched { IsFetched (staged_name (board_of board.now) job.now.no) (D.trace disk.old) (D.trace disk.new) }
+    ensures kept { OnOk result (KeepsBytes (staged_name (board_of board.now) job.now.no) job.now.from (D.trace disk.old) (D.trace disk.new)) }
+    ensures comes { IfOk result (ComesTo (staged_name (board_of board.now) job.now.no) (D.trace disk.new)) }
+    ensures answers { IfOk result (Answers (M.world method.old) (staged_name (board_of board.now) job.now.no) job.now (D.trace disk.old) (D.trace disk.new)) }
+{
+    match board.stage(job.no) {
+        Some(name) => fetch_staged(alloc, disk, method, name, job),
+        None => Ok(fetch_held(alloc, method, job)?),
+    }
+}
+
+/// Hands out the next job, fetches it and takes its answer in; whether there was one. With none nothing is asked any more.
+///
+/// `DiskFault` only where the disk's count of faults rose, and never `BadJournal`.
+pub fn ask_one<D: Disk, M: Method>(
+    alloc: Global,
+    judge: &Judge,
+    disk: &mut D,
+    method: &mut M,
+    board: &mut Board,
+) -> Result<bool, RunError>
+    requires ready { IsReady (M.world method.old) (M.faults method.old) (board_of board.old) (D.trace disk.old) }
+    requires change { judge.now.change ≡ (board_of board.old).config.change }
+    ensures count { D.faults disk.old ≤ D.faults disk.new }
+    ensures fault { IsErrOf result RunError.DiskFault → Rose (D.faults disk.old) (D.faults disk.new) }
+    ensures quiet { OnOk result (D.faults disk.new ≡ D.faults disk.old) }
+    ensures undamaged { (at : ℕ) → result ≢ Err (RunError.BadJournal at) }
+    ensures held { D.held disk.new ≡ D.held disk.old }
+    ensures telling { D.tells disk.new ≡ D.tells disk.old }
+    ensures method_count { M.faults method.old ≤ M.faults method.new }
+    ensures world { M.world method.new ≡ M.world method.old }
+    ensures moments { Since (D.trace disk.old) (D.trace disk.new) (KeepsRest (D.trace disk.old)) }
+    ensures goes { OnOk result (GoesOn (M.world method.old) (M.faults method.old) (M.faults method.new)
+        (board_of board.old) (board_of board.new) (D.trace disk.old) (D.trace disk.new)) }
+    ensures same { OnOk result (SameBoard (board_of board.old) (board_of board.new)) }
+    ensures more { IfOk result (λ more. more ≡ true → length (board_of board.new).asks ≡ length (board_of board.old).asks + 1) }
+    ensures none { IfOk result (λ more. more ≡ false → NoneAsks (board_of board.new)) }
+{
+    calls_are_events();
+    boards_walk_routes();
+    boards_rest();
+    named_lists_rest();
+    jobs_stand();
+    asks_may_be_fetched();
+    planned_names_are_put_names();
+    match board.issue(alloc, 0)? {
+        None => Ok(false),
+        Some(job) => {
+            let closed = fetch(alloc, disk, method, board, &job)?;
+            board.absorb(alloc, judge, 0, job.no, closed)?;
+            Ok(true)
+        }
+    }
+}
