@@ -1,0 +1,136 @@
+//! What a program makes of the words and variables that it was started with.
+ghost use Rattle.std.specs.Prelude.{◌≡◌, drop, map, string_bytes, All, IsUtf8, IfOk, IfSome, IfErr, OnOk, option_map};
+ghost use Rattle.start_values.specs.Environment.{Known};
+ghost use Rattle.start_values.specs.Start.{ForStart, IsFolderRefusal, IsRefusal, IsWordsRefusal, SaysLanes, etc_of, folder_of, known_lanes, lanes_of, lists_of};
+
+use crate::{Environment, Refused, Unread};
+use std::alloc::Global;
+
+/// How many workers may fetch where nothing else is asked for.
+const LANES: u8 = 4;
+
+/// What a program goes by.
+#[derive(Debug, Drop)]
+pub struct Start {
+    /// The words behind the program's own name.
+    pub words: Vec<String>,
+    /// The path of the configuration folder.
+    pub etc: String,
+    /// The path of the lists folder.
+    pub lists: String,
+    /// How many workers may fetch beside the program itself: 0 to 8.
+    pub lanes: u8,
+}
+
+/// Reads what a program goes by. A folder whose variable isn't set, or is empty, is the usual one; so many lanes as
+/// `ACQUIRE_LANES` says by one digit from 0 to 8, and 4 where it says anything else.
+///
+/// A word that isn't UTF-8 is refused before any variable is looked at.
+#[tactic(auto, using(crate::proofs::Refusals::refusal))]
+pub fn read_start<E: Environment>(alloc: Global, environment: &E) -> Result<Start, Refused>
+    ensures text { IfSome (E.known environment.now) (λ known. OnOk result (All IsUtf8 known.words)) }
+    ensures refused { IfSome (E.known environment.now) (λ known. IfErr result (IsRefusal known)) }
+    ensures words { ForStart (E.known environment.now) result (λ known start. map string_bytes start.words.items ≡ drop 1 known.words) }
+    ensures etc { ForStart (E.known environment.now) result (λ known start. string_bytes start.etc ≡ etc_of known) }
+    ensures lists { ForStart (E.known environment.now) result (λ known start. string_bytes start.lists ≡ lists_of known) }
+    ensures lanes { ForStart (E.known environment.now) result (λ known start. start.lanes ≡ known_lanes known) }
+{
+    let words = read_words(alloc, environment)?;
+    let etc = read_folder(alloc, environment, "ACQUIRE_ETC", "/etc/apt")?;
+    let lists = read_folder(alloc, environment, "ACQUIRE_LISTS", "/var/lib/apt/lists")?;
+    let lanes = read_lanes(alloc, environment)?;
+    Ok(Start {
+        words,
+        etc,
+        lists,
+        lanes,
+    })
+}
+
+/// The words behind the program's own name.
+fn read_words<E: Environment>(alloc: Global, environment: &E) -> Result<Vec<String>, Refused>
+    ensures words { IfSome (E.known environment.now) (λ known. IfOk result (λ words. map string_bytes words.items ≡ drop 1 known.words)) }
+    ensures text { IfSome (E.known environment.now) (λ known. OnOk result (All IsUtf8 known.words)) }
+    ensures refused { IfSome (E.known environment.now) (λ known. IfErr result (IsWordsRefusal known)) }
+{
+    match environment.words(alloc) {
+        Ok(mut words) => {
+            drop_first(&mut words);
+            Ok(words)
+        }
+        Err(Unread::NotText) => Err(Refused::Words),
+        Err(Unread::NoMemory) => Err(Refused::NoMemory),
+    }
+}
+
+/// Drops the first of some words, if there is one.
+fn drop_first(words: &mut Vec<String>)
+    ensures { words.new.items ≡ drop 1 words.old.items }
+{
+    if !words.is_empty() {
+        words.remove(0);
+    }
+}
+
+/// The folder that a variable names, or the usual one.
+fn read_folder<E: Environment>(
+    alloc: Global,
+    environment: &E,
+    name: &str,
+    usual: &str,
+) -> Result<String, Refused>
+    ensures folder { IfSome (E.known environment.now) (λ known. IfOk result (λ folder. string_bytes folder ≡ folder_of usual.now (known.value name.now))) }
+    ensures refused { IfSome (E.known environment.now) (λ known. IfErr result (IsFolderRefusal known name.now)) }
+{
+    match environment.variable(alloc, name) {
+        Ok(found) => folder_or(alloc, found, usual),
+        Err(Unread::NotText) => Err(Refused::Environment),
+        Err(Unread::NoMemory) => Err(Refused::NoMemory),
+    }
+}
+
+/// The folder that was found, or the usual one where none was, or an empty one.
+fn folder_or(alloc: Global, found: Option<String>, usual: &str) -> Result<String, Refused>
+    ensures folder { IfOk result (λ folder. string_bytes folder ≡ folder_of usual.now (option_map string_bytes found)) }
+    ensures memory { IfErr result (λ refused. refused ≡ Refused.NoMemory) }
+{
+    match found {
+        Some(folder) if !folder.is_empty() => Ok(folder),
+        _ => match String::from_str(alloc, usual) {
+            Ok(folder) => Ok(folder),
+            Err(_) => Err(Refused::NoMemory),
+        },
+    }
+}
+
+/// How many workers may fetch.
+fn read_lanes<E: Environment>(alloc: Global, environment: &E) -> Result<u8, Refused>
+    ensures lanes { IfSome (E.known environment.now) (λ known. IfOk result (λ lanes. lanes ≡ known_lanes known)) }
+    ensures memory { IfErr result (λ refused. refused ≡ Refused.NoMemory) }
+{
+    lanes_or_usual(environment.variable(alloc, "ACQUIRE_LANES"))
+}
+
+/// The number of lanes that the answer for a variable says. What isn't UTF-8 counts as any other text.
+#[tactic(auto, using(crate::proofs::Lanes::lanes_of_no_text))]
+fn lanes_or_usual(found: Result<Option<String>, Unread>) -> Result<u8, Refused>
+    ensures lanes { IfOk result (λ lanes. SaysLanes found lanes) }
+    ensures memory { IfErr result (λ refused. refused ≡ Refused.NoMemory) }
+{
+    match found {
+        Ok(Some(text)) => Ok(lanes_of(text.as_str())),
+        Ok(None) => Ok(LANES),
+        Err(Unread::NotText) => Ok(LANES),
+        Err(Unread::NoMemory) => Err(Refused::NoMemory),
+    }
+}
+
+/// The number of lanes that a text says.
+fn lanes_of(text: &str) -> u8
+    ensures { result ≡ lanes_of text.now }
+{
+    match text.as_bytes() {
+        [digit] if b'0' <= *digit && *digit <= b'8' => *digit - b'0',
+        _ => LANES,
+    }
+}
