@@ -1,6 +1,5 @@
 mod cases;
-mod failing;
-mod installing;
-mod keeping;
+mod debian;
 mod objects;
+mod rows;
 mod running;

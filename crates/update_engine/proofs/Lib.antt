@@ -1,0 +1,12 @@
+mod Lists
+mod Naming
+mod OnBoards
+mod Committing
+mod Gathered
+mod Distinct
+mod Finishing
+mod LastCommit
+mod NewBoards
+mod PutNames
+mod Over
+mod Stepping

@@ -1,0 +1,13 @@
+use Rattle.std.proofs.Common.{◌≡◌, ◌∙◌, ℤ, w64, length, List, sym, ap, subst}
+use Rattle.std.proofs.lemmas.Int.{to_z-of_z}
+use Rattle.board_model.specs.Boards.{first_board}
+use Rattle.update_core.specs.Standing.{board_of}
+use Rattle.update_core.specs.Standing.{config_for}
+use Rattle.update_engine.proofs.NewBoards.{read_told, starts}
+use Rattle.update_engine.proofs.beginning.begin.Goals as goal
+
+pub returns-clause-starts : goal.returns-clause-starts
+returns-clause-starts g c = λ together. starts c.beginnings_are_known.ensures c.args.plan c.args.settings c.args.change c.args.now together c.in_ok-olds.olds c.in_ok-sizes.sizes _ (board_of c.in_ok-new.field-0) c.requires
+    (c.sources_are_planned.ensures c.args.plan c.requires) (c.in_ok-olds.ensures.each ∙ ap length c.as_slice.ensures)
+    (read_told _ _ c.in_ok-sizes.sizes c.args.plan.sources _ c.read_installed.ensures.still c.as_slice-2.ensures c.in_ok-sizes.ensures.told)
+    (c.in_ok-new.ensures ∙ ap (λ (z : ℤ). first_board (config_for c.args.plan c.in_ok-sizes.sizes c.args.settings c.args.change z) c.in_ok-olds.olds 1) (to_z-of_z w64 c.args.now c.ranges.now))
