@@ -17,6 +17,7 @@ pub struct Dice {
 }
 
 impl Dice {
+    /// Dice whose rolls all follow from this number.
     pub fn new(seed: u64) -> Dice {
         Dice { state: seed }
     }
