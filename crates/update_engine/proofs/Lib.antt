@@ -1,0 +1,14 @@
+mod Lists
+mod Naming
+mod OnBoards
+mod Committing
+mod Gathered
+mod Distinct
+mod Finishing
+mod LastCommit
+mod Ended
+mod NewBoards
+mod PutNames
+mod Verdicts
+mod Over
+mod Stepping

@@ -1,0 +1,276 @@
+-- A source that is settled, on its board.
+use Rattle.std.proofs.Common.{◌≡◌, ◌≢◌, ◌⊎◌, ◌∙◌, inl, inr, refl, sym, ap, subst, arith, ℕ, zero, suc, ◌+◌, Bool, true, false, List, [], ◌∷◌, ◌++◌, length, Option, Some, None}
+use Rattle.std.specs.Prelude.{◌<◌, filter, if◌then◌else◌, option_map, slice_get}
+use Rattle.std.specs.List.{AllByRecursion as Each}
+use Rattle.std.proofs.lemmas.Bool.{cases_Bool}
+use Rattle.acq_base.specs.Plan.{IsPlanned}
+use Rattle.acq_base.specs.declared.installed.Old.{Old}
+use Rattle.acq_base.specs.declared.plan.Source.{Source}
+use Rattle.acq_outside.specs.Crash.{State}
+use Rattle.board_model.specs.Boards.{Asker, Board, first_ready, settled_as, settled_of}
+use Rattle.board_model.specs.CallLaws.{AreOnce}
+use Rattle.board_model.specs.Reached.{Reached}
+use Rattle.board_model.specs.Runs.{Note}
+use Rattle.board_model.specs.Settling.{settled_in}
+use Rattle.board_model.specs.Slots.{Closed, Config, Slot, ask_of, is_ready, item_at}
+use Rattle.board_model.specs.Jobs.{NoneAsks}
+use Rattle.board_model.specs.Keys.{key_at}
+use Rattle.board_model.specs.declared.key.Key.{Key}
+use Rattle.update_model.specs.declared.ask.Ask.{Ask}
+use Rattle.board_model.specs.Stands.{AllStand, History, IsOpen, SourceStands, StandsAt, history_of}
+use Rattle.board_model.specs.Uses.{Falls, PartUse, rests}
+use Rattle.host_queues.specs.Lanes.{changed_at}
+use Rattle.list_commits.specs.SetLaws.{OwnsChanges}
+use Rattle.run_jobs.specs.Coupling.{HoldsUse, UsesHold}
+use Rattle.run_jobs.specs.Running.{Begun as Start, HasHeard, IsUnderWay}
+use Rattle.run_model.specs.Runs.{is_installed, is_told_installed}
+use Rattle.update_model.specs.Obtained.{◌>>=◌}
+use Rattle.update_model.specs.declared.settled.Settled.{Settled}
+use Rattle.update_model.specs.declared.settled.Verdict2.{Verdict2}
+use Rattle.update_engine.specs.Known.{Settling as Below}
+use Rattle.update_engine.specs.Session.{HasSettled, OnlySettles, installed_in}
+use Rattle.update_engine.proofs.Lists.{each_more, filter_last, filter_same}
+
+-- ---- what it was
+
+bound : {A B : Type 0} (o : Option A) (f : A → Option B) (b : B) → (o >>= f) ≡ Some b → (a : A) × (o ≡ Some a) × (f a ≡ Some b)
+bound None f b e = absurd (cc)
+bound (Some a) f b e = (a, refl, e)
+
+-- the source that was settled
+pub record IsOf (b : Board) (n : ℕ) (settled : Settled) : Type 0 where
+  pub source : Source
+  pub source_is : slice_get b.config.sources n ≡ Some source
+  pub slot : Slot
+  pub slot_is : slice_get b.slots n ≡ Some slot
+  pub comes_to : settled_in source slot ≡ Some settled
+
+pub is_of : (b : Board) (n : ℕ) (settled : Settled) → settled_of b n ≡ Some settled → IsOf b n settled
+is_of b n settled e =
+    let p = bound (slice_get b.config.sources n) _ settled e in
+    let q = bound (slice_get b.slots n) _ settled p.2 in
+    record { source = p.0; source_is = p.1; slot = q.0; slot_is = q.1; comes_to = q.2 }
+
+ready_slot : (slots : List Slot) (n : ℕ) → first_ready slots ≡ Some n → (slot : Slot) × (slice_get slots n ≡ Some slot) × (is_ready slot ≡ true)
+ready_slot [] n e = absurd (cc)
+ready_slot (slot ∷ slots) n e = elim (cases_Bool (is_ready slot)) [
+  | inl is ↦
+      let zero_is : Some 0 ≡ Some n = rw is at e in
+      let same : 0 ≡ n = cc in
+      (slot, ap (λ (k : ℕ). slice_get (slot ∷ slots) k) (sym same), is)
+  | inr isnt ↦ later (ready_slot slots) (first_ready slots) refl (rw isnt at e)
+]
+  where
+    later : ((k : ℕ) → first_ready slots ≡ Some k → (s : Slot) × (slice_get slots k ≡ Some s) × (is_ready s ≡ true)) → (o : Option ℕ) → first_ready slots ≡ o → option_map (λ k. k + 1) o ≡ Some n
+        → (s : Slot) × (slice_get (slot ∷ slots) n ≡ Some s) × (is_ready s ≡ true)
+    later find None is e = absurd (cc)
+    later find (Some k) is e =
+        let found = find k is in
+        let same : suc k ≡ n = let q : k + 1 ≡ n = cc in omega arith in
+        (found.0, ap (λ (m : ℕ). slice_get (slot ∷ slots) m) (sym same) ∙ found.1, found.2)
+
+old_there : (sources : List Source) (olds : List Old) (n : ℕ) (source : Source) → length olds ≡ length sources → slice_get sources n ≡ Some source → (old : Old) × (slice_get olds n ≡ Some old)
+old_there [] olds n source each is = absurd (cc)
+old_there (x ∷ sources) [] n source each is = absurd (omega (arith, each))
+old_there (x ∷ sources) (old ∷ olds) zero source each is = (old, refl)
+old_there (x ∷ sources) (old ∷ olds) (suc n) source each is = old_there sources olds n source (omega (arith, each)) is
+
+-- the source as it stands on a board that was reached
+pub record AsOpen (config : Config) (notes : List Note) (b : Board) (n : ℕ) (source : Source) (slot : Slot) : Type 0 where
+  pub old : Old
+  pub open_slot : IsOpen config n source old slot (history_of n notes)
+  pub verdict : Verdict2
+  pub verdict_is : slice_get b.verdicts n ≡ Some verdict
+
+still_open : (config : Config) (n : ℕ) (source : Source) (old : Old) (slot : Slot) (verdict : Verdict2) (history : History) → SourceStands config n source old slot verdict history → is_ready slot ≡ true
+    → IsOpen config n source old slot history
+still_open config n source old slot verdict history (inl h) ready = h
+still_open config n source old slot verdict history (inr h) ready = let none : false ≡ true = subst (λ (s : Slot). is_ready s ≡ true) h.0 ready in absurd (cc)
+
+pub as_open : Below → (config : Config) (olds : List Old) (notes : List Note) (b : Board) (n : ℕ) (source : Source) (slot : Slot) → (r : Reached config olds notes b) → first_ready b.slots ≡ Some n
+    → slice_get config.sources n ≡ Some source → slice_get b.slots n ≡ Some slot → AsOpen config notes b n source slot
+as_open below config olds notes b n source slot r ready source_is slot_is =
+    let all : AllStand config olds (record { board = b; jobs = r.jobs; queue = []; notes = notes }) = subst (AllStand config olds) r.leads (below.stand config olds r.lanes r.events) in
+    let old = old_there config.sources olds n source r.each source_is in
+    let at : StandsAt config n source old.0 (record { board = b; jobs = r.jobs; queue = []; notes = notes }) = all.sources n source old.0 source_is old.1 in
+    let x = ready_slot b.slots n ready in
+    let x_both : Some x.0 ≡ Some slot = sym x.1 ∙ slot_is in
+    let x_same : x.0 ≡ slot = cc in
+    let both : Some at.slot ≡ Some slot = sym at.slot_is ∙ slot_is in
+    let same : at.slot ≡ slot = cc in
+    record {
+      old = old.0;
+      open_slot = still_open config n source old.0 slot at.verdict (history_of n notes) (subst (λ (s : Slot). SourceStands config n source old.0 s at.verdict (history_of n notes)) same at.stands)
+          (subst (λ (y : Slot). is_ready y ≡ true) x_same x.2);
+      verdict = at.verdict;
+      verdict_is = at.verdict_is;
+    }
+
+-- its changes are of its own names, each once
+pub owns : Below → (config : Config) (notes : List Note) (b : Board) (n : ℕ) (source : Source) (slot : Slot) (settled : Settled) → AsOpen config notes b n source slot → settled_in source slot ≡ Some settled → IsPlanned source
+    → OwnsChanges source settled
+owns below config notes b n source slot settled at comes planned = record {
+  own = below.own source slot settled comes;
+  apart = below.apart config n source at.old slot (history_of n notes) settled at.open_slot comes planned;
+}
+
+-- ---- the board behind it
+
+pub falls_holds : (before after : PartUse) (name first : List ℕ) (now : List State) → Falls before after → HoldsUse before name first now → HoldsUse after name first now
+falls_holds before after name first now (inl e) holds = rw e holds
+falls_holds before after name first now (inr e) holds = rw e tt
+
+-- what it wants of lists on their way is there where it was
+pub uses_settled : Below → (b : Board) (n : ℕ) (verdict : Verdict2) (first : List ℕ → List ℕ) (now : List State) → UsesHold (rests b) first now → UsesHold (rests (settled_as b n verdict)) first now
+uses_settled below b n verdict first now uses = record { each = λ name told. falls_holds (rests b name) (rests (settled_as b n verdict) name) name (first name) now (below.rest b n verdict name) (uses.each name told) }
+
+pub heard_settled : Below → (start : Start) (notes : List Note) (count : ℕ) (b : Board) (n : ℕ) (settled : Settled) (now : List State) → first_ready b.slots ≡ Some n → settled_of b n ≡ Some settled
+    → HasHeard start notes count b now → HasHeard start notes count (settled_as b n settled.verdict) now
+heard_settled below start notes count b n settled now ready comes heard = record {
+  config = heard.config;
+  reached = below.reached start.config start.olds notes b n settled heard.reached ready comes;
+  sound = heard.sound;
+  answers = heard.answers;
+  counts = heard.counts;
+  lanes = heard.lanes;
+}
+
+pub under_settled : Below → (start : Start) (notes : List Note) (count : ℕ) (b : Board) (n : ℕ) (settled : Settled) (now : List State) → first_ready b.slots ≡ Some n → settled_of b n ≡ Some settled
+    → IsUnderWay start notes count b now → IsUnderWay start notes count (settled_as b n settled.verdict) now
+under_settled below start notes count b n settled now ready comes under = record {
+  heard = heard_settled below start notes count b n settled now ready comes under.heard;
+  none_out = under.none_out;
+  uses = uses_settled below b n settled.verdict start.parts now under.uses;
+}
+
+-- ---- what it tells as installed
+
+other_kept : {A : Type 0} (f : A → A) (xs : List A) (n m : ℕ) → m ≢ n → slice_get (changed_at n f xs) m ≡ slice_get xs m
+other_kept f [] n m differ = refl
+other_kept f (x ∷ xs) zero zero differ = absurd (differ refl)
+other_kept f (x ∷ xs) zero (suc m) differ = refl
+other_kept f (x ∷ xs) (suc n) zero differ = refl
+other_kept f (x ∷ xs) (suc n) (suc m) differ = other_kept f xs n m (λ same. differ (ap suc same))
+
+one_changed : {A : Type 0} (xs : List A) (n : ℕ) (x y : A) → slice_get xs n ≡ Some x → slice_get (changed_at n (λ other. y) xs) n ≡ Some y
+one_changed [] n x y e = absurd (cc)
+one_changed (z ∷ xs) zero x y e = refl
+one_changed (z ∷ xs) (suc n) x y e = one_changed xs n x y e
+
+last_once : (ns : List ℕ) (n : ℕ) → AreOnce (ns ++ n ∷ []) → Each (λ m. m ≢ n) ns
+last_once [] n once = tt
+last_once (m ∷ ns) n once = ((λ same. last_differs ns n m once.0 (sym same)), last_once ns n once.1)
+  where
+    last_differs : (xs : List ℕ) (x k : ℕ) → Each (λ j. j ≢ k) (xs ++ x ∷ []) → x ≢ k
+    last_differs [] x k each = each.0
+    last_differs (y ∷ xs) x k each = last_differs xs x k each.1
+
+-- the source is one more, where it was installed
+pub told_more : (b : Board) (n : ℕ) (verdict former : Verdict2) → slice_get b.verdicts n ≡ Some former → AreOnce (b.settled ++ n ∷ [])
+    → installed_in (settled_as b n verdict) ≡ installed_in b ++ (if is_installed verdict then n ∷ [] else [])
+told_more b n verdict former is once =
+    let p = λ (m : ℕ). is_told_installed (slice_get (changed_at n (λ other. verdict) b.verdicts) m) in
+    let q = λ (m : ℕ). is_told_installed (slice_get b.verdicts m) in
+    let rest : filter p b.settled ≡ filter q b.settled = filter_same p q b.settled
+    (each_more (λ m. m ≢ n) (λ m. p m ≡ q m) b.settled (λ m differ. ap is_told_installed (other_kept (λ other. verdict) b.verdicts n m differ)) (last_once b.settled n once)) in
+    let here : p n ≡ is_installed verdict = ap is_told_installed (one_changed b.verdicts n former verdict is) in
+    filter_last p b.settled n ∙ ap (λ (xs : List ℕ). xs ++ (if p n then n ∷ [] else [])) rest ∙ ap (λ (c : Bool). filter q b.settled ++ (if c then n ∷ [] else [])) here
+
+-- ---- fewer are ready
+
+abbrev pub ready_count : List Slot → ℕ
+ready_count [] = 0
+ready_count (slot ∷ slots) = (if is_ready slot then 1 else 0) + ready_count slots
+
+fewer_ready : (slots : List Slot) (n : ℕ) → first_ready slots ≡ Some n → ready_count (changed_at n (λ slot. Closed) slots) < ready_count slots
+fewer_ready [] n e = absurd (cc)
+fewer_ready (slot ∷ slots) n e = elim (cases_Bool (is_ready slot)) [
+  | inl is ↦
+      let zero_is : Some 0 ≡ Some n = rw is at e in
+      let same : 0 ≡ n = cc in
+      subst (λ (k : ℕ). ready_count (changed_at k (λ slot. Closed) (slot ∷ slots)) < ready_count (slot ∷ slots)) same (rw is (omega arith))
+  | inr isnt ↦ later (fewer_ready slots) (first_ready slots) refl (rw isnt at e)
+]
+  where
+    later : ((k : ℕ) → first_ready slots ≡ Some k → ready_count (changed_at k (λ slot. Closed) slots) < ready_count slots) → (o : Option ℕ) → first_ready slots ≡ o → option_map (λ k. k + 1) o ≡ Some n
+        → ready_count (changed_at n (λ slot. Closed) (slot ∷ slots)) < ready_count (slot ∷ slots)
+    later less None is e = absurd (cc)
+    later less (Some k) is e =
+        let same : suc k ≡ n = let q : k + 1 ≡ n = cc in omega arith in
+        let fewer = less k is in
+        subst (λ (m : ℕ). ready_count (changed_at m (λ slot. Closed) (slot ∷ slots)) < ready_count (slot ∷ slots)) same (omega (arith, fewer))
+
+-- the next that is ready is behind the first
+pub next_later : (slots : List Slot) (n m : ℕ) → first_ready slots ≡ Some n → first_ready (changed_at n (λ slot. Closed) slots) ≡ Some m → n < m
+next_later [] n m e next = absurd (cc)
+next_later (slot ∷ slots) n m e next = elim (cases_Bool (is_ready slot)) [
+  | inl is ↦
+      let zero_is : Some 0 ≡ Some n = rw is at e in
+      let same : 0 ≡ n = cc in
+      behind n m same (subst (λ (k : ℕ). first_ready (changed_at k (λ s. Closed) (slot ∷ slots)) ≡ Some m) (sym same) next)
+  | inr isnt ↦ later n m isnt (next_later slots) (first_ready slots) refl (rw isnt at e) next
+]
+  where
+    one_more : (o : Option ℕ) (k m : ℕ) → k ≡ 0 → option_map (λ j. j + 1) o ≡ Some m → k < m
+    one_more None k m zero_is e = absurd (cc)
+    one_more (Some j) k m zero_is e = let same : j + 1 ≡ m = cc in omega (arith, same, zero_is)
+
+    behind : (n m : ℕ) → 0 ≡ n → first_ready (Closed ∷ slots) ≡ Some m → n < m
+    behind n m same next = one_more (first_ready slots) n m (sym same) next
+
+    two : (o : Option ℕ) (k m : ℕ) → ((j : ℕ) → o ≡ Some j → k < j) → option_map (λ j. j + 1) o ≡ Some m → k + 1 < m
+    two None k m less e = absurd (cc)
+    two (Some j) k m less e = let low = less j refl in let same : j + 1 ≡ m = cc in omega (arith, same, low)
+
+    later : (n m : ℕ) → is_ready slot ≡ false → ((k j : ℕ) → first_ready slots ≡ Some k → first_ready (changed_at k (λ s. Closed) slots) ≡ Some j → k < j) → (o : Option ℕ) → first_ready slots ≡ o → option_map (λ k. k + 1) o ≡ Some n
+        → first_ready (changed_at n (λ s. Closed) (slot ∷ slots)) ≡ Some m → n < m
+    later n m isnt less None is e next = absurd (cc)
+    later n m isnt less (Some k) is e next =
+        let same : suc k ≡ n = let q : k + 1 ≡ n = cc in omega arith in
+        let after_it : first_ready (slot ∷ changed_at k (λ s. Closed) slots) ≡ Some m = subst (λ (j : ℕ). first_ready (changed_at j (λ s. Closed) (slot ∷ slots)) ≡ Some m) (sym same) next in
+        let low : k + 1 < m = two (first_ready (changed_at k (λ s. Closed) slots)) k m (λ j there. less k j is there) (rw isnt at after_it) in
+        omega (arith, same, low)
+
+pub fewer_settled : (b c : Board) (n : ℕ) → first_ready b.slots ≡ Some n → HasSettled n b c → ready_count c.slots < ready_count b.slots
+fewer_settled b c n ready settled = subst (λ (x : Board). ready_count x.slots < ready_count b.slots) (sym settled.is) (fewer_ready b.slots n ready)
+
+-- ---- nothing more is asked
+
+slot_then : (slots : List Slot) (n m : ℕ) → (slice_get (changed_at n (λ slot. Closed) slots) m ≡ slice_get slots m) ⊎ (slice_get (changed_at n (λ slot. Closed) slots) m ≡ Some Closed)
+slot_then [] n m = inl refl
+slot_then (slot ∷ slots) zero zero = inr refl
+slot_then (slot ∷ slots) zero (suc m) = inl refl
+slot_then (slot ∷ slots) (suc n) zero = inl refl
+slot_then (slot ∷ slots) (suc n) (suc m) = slot_then slots n m
+
+abbrev asker_by : Key → Source → Option Ask → Option Asker
+asker_by key source o = o >>= λ (ask : Ask). Some (record { key = key; source = source; ask = ask })
+
+abbrev asker_with : List Slot → Config → Option Key → Option Asker
+asker_with slots config key = key >>= λ (k : Key). slice_get config.sources k.source >>= λ (source : Source). asker_by k source (ask_of (item_at slots k))
+
+asker_then : (b : Board) (n : ℕ) (verdict : Verdict2) (number : ℕ) (key : Option Key) → asker_with b.slots b.config key ≡ None → asker_with (settled_as b n verdict).slots b.config key ≡ None
+asker_then b n verdict number None e = refl
+asker_then b n verdict number (Some key) e = one (slice_get b.config.sources key.source) e
+  where
+    two : (source : Source) → (slice_get (changed_at n (λ slot. Closed) b.slots) key.source ≡ slice_get b.slots key.source) ⊎ (slice_get (changed_at n (λ slot. Closed) b.slots) key.source ≡ Some Closed)
+        → asker_by key source (ask_of (item_at b.slots key)) ≡ None → asker_by key source (ask_of (item_at (changed_at n (λ slot. Closed) b.slots) key)) ≡ None
+    two source (inl same) e = rw same e
+    two source (inr closed) e = rw closed refl
+
+    one : (o : Option Source) → (o >>= λ (source : Source). asker_by key source (ask_of (item_at b.slots key))) ≡ None
+        → (o >>= λ (source : Source). asker_by key source (ask_of (item_at (changed_at n (λ slot. Closed) b.slots) key))) ≡ None
+    one None e = refl
+    one (Some source) e = two source (slot_then b.slots n key.source) e
+
+quiet_settled : (b : Board) (n : ℕ) (verdict : Verdict2) → NoneAsks b → NoneAsks (settled_as b n verdict)
+quiet_settled b n verdict none number = asker_then b n verdict number (key_at b.config.sources number) (none number)
+
+pub only_settled : (b c : Board) (n : ℕ) → HasSettled n b c → OnlySettles b c
+only_settled b c n settled = subst (λ (x : Board). OnlySettles b x) (sym settled.is) (record { config = refl; asks = refl; quiet = quiet_settled b n settled.verdict })
+
+pub only_none : (b : Board) → OnlySettles b b
+only_none b = record { config = refl; asks = refl; quiet = λ none. none }
+
+pub only_more : (b c d : Board) → OnlySettles b c → OnlySettles c d → OnlySettles b d
+only_more b c d one two = record { config = two.config ∙ one.config; asks = two.asks ∙ one.asks; quiet = λ none. two.quiet (one.quiet none) }

@@ -1,0 +1,214 @@
+-- A run from step to step.
+use Rattle.std.proofs.Common.{◌≡◌, ◌∙◌, ◌≤◌, ◌<◌, ◌-◌, ℕ, ◌+◌, ◌++◌, false, List, [], ◌∷◌, length, Option, refl, sym, ap, subst, arith}
+use Rattle.std.proofs.lemmas.List.{append-nil, append_assoc}
+use Rattle.acq_base.specs.Mirror.{World as Mirror}
+use Rattle.acq_outside.specs.Crash.{State}
+use Rattle.acq_outside.specs.Disk.{Files}
+use Rattle.acq_outside.specs.Moments.{Each as EachState, IsTold, Since, Stands}
+use Rattle.board_model.specs.Boards.{Board}
+use Rattle.board_model.specs.CountLaws.{AsksAreFew, most_asks}
+use Rattle.board_model.specs.Runs.{Note}
+use Rattle.journal_model.specs.Rest.{IsIdle, KeepsRest}
+use Rattle.list_commits.specs.Made.{rests}
+use Rattle.run_jobs.specs.Running.{Begun as Start, GoesOn, HasHeard, IsReady, IsUnderWay, SameBoard}
+use Rattle.run_model.specs.Groups.{all_groups, commits_of}
+use Rattle.update_engine.specs.Known.{Committing}
+use Rattle.update_engine.specs.Session.{GoesAside, GoesFar, HasCommittedSets, IsAtMoment, IsStanding, StopsAside, StopsFar, begun_of}
+use Rattle.update_engine.proofs.Committing.{back_since, has_begun, settled_made, told_on}
+
+-- a commit may still be prepared
+idle_now : (old now : List State) → Since old now (KeepsRest old) → Stands IsIdle old → Stands IsIdle now
+idle_now [] now since idle = rw (since.untold refl) tt
+idle_now (s ∷ past) now since idle = by since.states since.joined since.each
+  where
+    by : (states : List State) → now ≡ states ++ s ∷ past → EachState (KeepsRest (s ∷ past)) states → Stands IsIdle now
+    by [] joined each = rw joined idle
+    by (t ∷ states) joined each = rw joined (each.0.idle idle)
+
+-- ---- between two jobs
+
+pub goes_nowhere : (b : Board) (now : List State) → GoesAside b b now now
+goes_nowhere b now = record { under_way = λ start notes count sound under. under; sets = λ start notes count opened sound under sets. sets }
+
+pub goes_aside : (b c d : Board) (old mid now : List State) → GoesAside b c old mid → GoesAside c d mid now → GoesAside b d old now
+goes_aside b c d old mid now one two = record {
+  under_way = λ start notes count sound under. two.under_way start notes count sound (one.under_way start notes count sound under);
+  sets = λ start notes count opened sound under sets. two.sets start notes count opened sound (one.under_way start notes count sound under) (one.sets start notes count opened sound under sets);
+}
+
+pub stops_aside : (b c : Board) (old mid now : List State) → GoesAside b c old mid → StopsAside c mid now → StopsAside b old now
+stops_aside b c old mid now one stops = λ start notes count lists opened sound under sets. stops start notes count lists opened sound (one.under_way start notes count sound under) (one.sets start notes count opened sound under sets)
+
+pub stands_aside : (b c : Board) (old now : List State) → IsStanding b old → GoesAside b c old now → Stands IsIdle now → IsStanding c now
+stands_aside b c old now stands goes idle = record {
+  start = stands.start;
+  notes = stands.notes;
+  count = stands.count;
+  sound = stands.sound;
+  under_way = goes.under_way stands.start stands.notes stands.count stands.sound stands.under_way;
+  idle = idle;
+}
+
+pub stands_ready : (mirror : Option Mirror) (count : ℕ) (b : Board) (now : List State) → IsReady mirror count b now → IsStanding b now
+stands_ready mirror count b now ready = record { start = ready.begun; notes = ready.notes; count = count; sound = ready.sound; under_way = ready.under_way; idle = ready.idle }
+
+pub ready_aside : (mirror : Option Mirror) (count : ℕ) (b c : Board) (old now : List State) → IsReady mirror count b old → GoesAside b c old now → Stands IsIdle now → IsReady mirror count c now
+ready_aside mirror count b c old now ready goes idle = record {
+  begun = ready.begun;
+  notes = ready.notes;
+  sound = ready.sound;
+  from = ready.from;
+  under_way = goes.under_way ready.begun ready.notes count ready.sound ready.under_way;
+  idle = idle;
+}
+
+-- ---- over jobs
+
+with_more : {start : Start} {count : ℕ} {b : Board} {now : List State} (notes more later : List Note) → IsUnderWay start ((notes ++ more) ++ later) count b now → IsUnderWay start (notes ++ (more ++ later)) count b now
+with_more {start} {count} {b} {now} notes more later under = subst (λ (ns : List Note). IsUnderWay start ns count b now) (append_assoc notes more later) under
+
+sets_more : (start : Start) {opened now : List State} {b : Board} (notes more later : List Note) → HasCommittedSets (begun_of start) ((notes ++ more) ++ later) opened now b → HasCommittedSets (begun_of start) (notes ++ (more ++ later)) opened now b
+sets_more start {opened} {now} {b} notes more later sets = subst (λ (ns : List Note). HasCommittedSets (begun_of start) ns opened now b) (append_assoc notes more later) sets
+
+pub far_nowhere : (mirror : Option Mirror) (count : ℕ) (b : Board) (now : List State) → GoesFar mirror count count b b now now
+far_nowhere mirror count b now = λ start notes sound from under. record {
+  more = [];
+  under_way = subst (λ (ns : List Note). IsUnderWay start ns count b now) (sym (append-nil notes)) under;
+  sets = λ opened sets. subst (λ (ns : List Note). HasCommittedSets (begun_of start) ns opened now b) (sym (append-nil notes)) sets;
+}
+
+pub far_aside : (mirror : Option Mirror) (count mid_count : ℕ) (b c d : Board) (old mid now : List State) → GoesFar mirror count mid_count b c old mid → GoesAside c d mid now → GoesFar mirror count mid_count b d old now
+far_aside mirror count mid_count b c d old mid now far aside = λ start notes sound from under.
+    let w = far start notes sound from under in
+    record {
+      more = w.more;
+      under_way = aside.under_way start (notes ++ w.more) mid_count sound w.under_way;
+      sets = λ opened sets. aside.sets start (notes ++ w.more) mid_count opened sound w.under_way (w.sets opened sets);
+    }
+
+-- the sets stand behind a job
+sets_asked : Committing → (start : Start) (notes more : List Note) (opened : List State) (b c : Board) (old now : List State) → Stands IsIdle old → Since old now (KeepsRest old) → SameBoard b c
+    → HasCommittedSets (begun_of start) notes opened old b → HasCommittedSets (begun_of start) (notes ++ more) opened now c
+sets_asked laws start notes more opened b c old now idle since same sets = record {
+  told = told_on (KeepsRest old) old now since sets.told;
+  commits = sets.commits;
+  made = rests sets.made idle since;
+  each = sets.each;
+  groups = laws.stay (begun_of start) notes more (all_groups sets.commits) sets.groups;
+  order = rw (same.settled, same.verdicts) sets.order;
+}
+
+pub far_asked : Committing → (mirror here : Option Mirror) (count mid_count later : ℕ) (b c d : Board) (old mid now : List State) → here ≡ mirror → GoesFar mirror count mid_count b c old mid → Stands IsIdle mid
+    → Since mid now (KeepsRest mid) → SameBoard c d → GoesOn here mid_count later c d mid now → GoesFar mirror count later b d old now
+far_asked laws mirror here count mid_count later b c d old mid now world far idle since same goes = λ start notes sound from under.
+    let w = far start notes sound from under in
+    let v = goes start (notes ++ w.more) sound (from ∙ sym world) w.under_way in
+    record {
+      more = w.more ++ v.more;
+      under_way = with_more notes w.more v.more v.under_way;
+      sets = λ opened sets. sets_more start notes w.more v.more (sets_asked laws start (notes ++ w.more) v.more opened c d mid now idle since same (w.sets opened sets));
+    }
+
+-- a run that was ready is so after a job
+pub ready_asked : (mirror later_mirror : Option Mirror) (count later : ℕ) (b c : Board) (old now : List State) → later_mirror ≡ mirror → IsReady mirror count b old → Since old now (KeepsRest old) → GoesOn mirror count later b c old now
+    → IsReady later_mirror later c now
+ready_asked mirror later_mirror count later b c old now same ready since goes =
+    let w = goes ready.begun ready.notes ready.sound ready.from ready.under_way in
+    record {
+      begun = ready.begun;
+      notes = ready.notes ++ w.more;
+      sound = ready.sound;
+      from = ready.from ∙ sym same;
+      under_way = w.under_way;
+      idle = idle_now old now since ready.idle;
+    }
+
+-- ---- where it stops
+
+-- at a moment at which all sets so far are made
+pub at_moment : Committing → (start : Start) (notes : List Note) (count : ℕ) (lists : Files) (opened : List State) (b : Board) (old now : List State) → HasHeard start notes count b old → (IsTold now → IsTold old) → HasCommittedSets (begun_of start) notes opened now b
+    → IsAtMoment start false lists opened now
+unfolding has_begun
+at_moment laws start notes count lists opened b old now heard back sets = record {
+  commits = sets.commits;
+  acknowledged = length (commits_of sets.commits);
+  started = length (commits_of sets.commits);
+  moment = laws.made (commits_of sets.commits) opened now sets.made;
+  has = has_begun start notes count b old lists sets.commits heard sets.each sets.groups sets.order;
+  agrees = λ told. heard.answers (back told);
+  settled = λ rest. settled_made laws (commits_of sets.commits) lists opened now sets.made rest;
+}
+
+pub far_stops : (mirror : Option Mirror) (count mid_count : ℕ) (b c : Board) (old mid now : List State) → GoesFar mirror count mid_count b c old mid → StopsAside c mid now → StopsFar mirror count b old now
+far_stops mirror count mid_count b c old mid now far stops = λ start notes lists opened sound from under sets.
+    let w = far start notes sound from under in
+    stops start (notes ++ w.more) mid_count lists opened sound w.under_way (w.sets opened sets)
+
+-- within a job
+pub far_stops_asking : Committing → (mirror : Option Mirror) (count mid_count : ℕ) (b c : Board) (old mid now : List State) → GoesFar mirror count mid_count b c old mid → Stands IsIdle mid → Since mid now (KeepsRest mid)
+    → StopsFar mirror count b old now
+far_stops_asking laws mirror count mid_count b c old mid now far idle since = λ start notes lists opened sound from under sets.
+    let w = far start notes sound from under in
+    let s = w.sets opened sets in
+    at_moment laws start (notes ++ w.more) mid_count lists opened c mid now w.under_way.heard (back_since (KeepsRest mid) mid now since)
+    (record { told = told_on (KeepsRest mid) mid now since s.told; commits = s.commits; made = rests s.made idle since; each = s.each; groups = s.groups; order = s.order })
+
+-- ---- what is at rest
+
+after_all_of : (old mid : List State) (s : State) → Since old mid (KeepsRest old) → KeepsRest mid s → KeepsRest old s
+after_all_of [] mid s since keeps = tt
+after_all_of (o ∷ past) mid s since keeps = by since.states since.joined since.each
+  where
+    by : (states : List State) → mid ≡ states ++ o ∷ past → EachState (KeepsRest (o ∷ past)) states → KeepsRest (o ∷ past) s
+    by [] joined each = rw joined at keeps
+    by (t ∷ states) joined each =
+        let k = rw joined at keeps in
+        record { rest = λ idle folder at_rest. k.rest (each.0.idle idle) folder (each.0.rest idle folder at_rest); idle = λ idle. k.idle (each.0.idle idle) }
+
+each_state : (P Q : State → Type 0) (states : List State) → ((s : State) → P s → Q s) → EachState P states → EachState Q states
+each_state P Q [] f each = tt
+each_state P Q (s ∷ states) f each = (f s each.0, each_state P Q states f each.1)
+
+each_append : (P : State → Type 0) (later states : List State) → EachState P later → EachState P states → EachState P (later ++ states)
+each_append P [] states a b = b
+each_append P (s ∷ later) states a b = (a.0, each_append P later states a.1 b)
+
+-- what keeps what is at rest twice keeps it
+pub rest_more : (old mid now : List State) → Since old mid (KeepsRest old) → Since mid now (KeepsRest mid) → Since old now (KeepsRest old)
+rest_more old mid now one two = record {
+  states = two.states ++ one.states;
+  joined = two.joined ∙ (ap (λ (x : List State). two.states ++ x) one.joined ∙ sym (append_assoc two.states one.states old));
+  untold = λ none. two.untold (one.untold none);
+  each = each_append (KeepsRest old) two.states one.states (each_state (KeepsRest mid) (KeepsRest old) two.states (λ s keeps. after_all_of old mid s one keeps) two.each) one.each;
+}
+
+-- where nothing is committed, what is at rest stays so
+pub bare_round : (old begin mid now : List State) → Since old begin (KeepsRest old) → mid ≡ begin → Since mid now (KeepsRest mid) → Since old now (KeepsRest old)
+bare_round old begin mid now one same two = rest_more old begin now one (rw same at two)
+
+pub bare_aside : (old begin now : List State) → Since old begin (KeepsRest old) → now ≡ begin → Since old now (KeepsRest old)
+bare_aside old begin now one same = rw same one
+
+-- the journal stays open for commits
+pub idle_after : (old now : List State) → Stands IsIdle old → Since old now (KeepsRest old) → Stands IsIdle now
+idle_after old now idle since = idle_now old now since idle
+
+-- ---- how much is asked
+
+-- a log that has room for one more entry
+asks_few : AsksAreFew → (mirror : Option Mirror) (count : ℕ) (b : Board) (now : List State) → IsReady mirror count b now → length b.asks ≤ most_asks b.config
+asks_few law mirror count b now ready =
+    let heard = ready.under_way.heard in
+    rw heard.config (law ready.begun.config ready.begun.olds ready.notes b heard.reached)
+
+-- a log with one more entry, of which it has at most so many
+fewer : (most asks more : ℕ) → more ≡ asks + 1 → more ≤ most → most - more < most - asks
+fewer most asks more e le = omega arith
+
+-- each round leaves fewer entries that the log may get
+pub smaller : AsksAreFew → (mirror : Option Mirror) (count : ℕ) (b d e : Board) (now : List State) → IsReady mirror count e now → d.asks ≡ b.asks → d.config ≡ b.config → e.config ≡ d.config → length e.asks ≡ length d.asks + 1
+    → most_asks e.config - length e.asks < most_asks b.config - length b.asks
+smaller law mirror count b d e now ready asks config same more =
+    let few : length e.asks ≤ most_asks b.config = rw (same ∙ config) at (asks_few law mirror count e now ready) in
+    let grown : length e.asks ≡ length b.asks + 1 = rw asks at more in
+    rw (same ∙ config) (fewer (most_asks b.config) (length b.asks) (length e.asks) grown few)

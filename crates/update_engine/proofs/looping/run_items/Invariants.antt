@@ -1,0 +1,26 @@
+use Rattle.std.proofs.Common.{◌≡◌, true, ◌≤◌, ◌-◌, length}
+use Rattle.acq_outside.specs.Moments.{Since}
+use Rattle.board_model.specs.CountLaws.{most_asks}
+use Rattle.journal_model.specs.Rest.{KeepsRest}
+use Rattle.update_core.specs.Standing.{board_of}
+use Rattle.run_jobs.specs.Running.{IsReady}
+use Rattle.update_engine.specs.Session.{GoesFar}
+use Rattle.update_engine.proofs.looping.run_items.Given as goal
+
+abbrev pub invariant-asks : goal.invariant-asks
+invariant-asks g l = record {
+  goes : GoesFar (g.M.Method.world l.fn.method) (g.M.Method.faults l.fn.method) (g.M.Method.faults l.method) (board_of l.fn.board) (board_of l.board) (g.D.Disk.trace l.fn.disk) (g.D.Disk.trace l.disk);
+  ready : IsReady (g.M.Method.world l.method) (g.M.Method.faults l.method) (board_of l.board) (g.D.Disk.trace l.disk);
+  bare : l.together ≡ true → Since (g.D.Disk.trace l.fn.disk) (g.D.Disk.trace l.disk) (KeepsRest (g.D.Disk.trace l.fn.disk));
+  unsettled : l.together ≡ true → (board_of l.board).settled ≡ (board_of l.fn.board).settled;
+  config : (board_of l.board).config ≡ (board_of l.fn.board).config;
+  count : g.D.Disk.faults l.fn.disk ≤ g.D.Disk.faults l.disk;
+  quiet : g.D.Disk.faults l.disk ≡ g.D.Disk.faults l.fn.disk;
+  held : g.D.Disk.held l.disk ≡ g.D.Disk.held l.fn.disk;
+  telling : g.D.Disk.tells l.disk ≡ g.D.Disk.tells l.fn.disk;
+  method_count : g.M.Method.faults l.fn.method ≤ g.M.Method.faults l.method;
+  world : g.M.Method.world l.method ≡ g.M.Method.world l.fn.method;
+}
+
+abbrev pub decreases-asks : goal.decreases-asks
+decreases-asks g l = most_asks (board_of l.board).config - length (board_of l.board).asks

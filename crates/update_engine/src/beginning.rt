@@ -1,0 +1,44 @@
+//! The beginning of a run over an open journal.
+ghost use Rattle.std.specs.Prelude.{◌≡◌, ◌≤◌, Bool, IfOk, IsErrOf, OnOk};
+ghost use Rattle.acq_base.specs.Plan.{IsSound};
+ghost use Rattle.acq_outside.specs.Count.{Rose};
+ghost use Rattle.update_core.specs.Standing.{board_of};
+ghost use Rattle.update_engine.specs.Run.{run_of};
+ghost use Rattle.update_engine.specs.Session.{Starts};
+
+use crate::known::beginnings_are_known;
+use crate::reading::{read_installed, read_sizes};
+use acq_base::{Plan, Settings, sources_are_planned};
+use acq_outside::{Disk, OutError};
+use release_file::Change;
+use std::alloc::Global;
+use update_core::Board;
+
+/// A new board beside what is installed and what is on its way. Nothing is changed.
+///
+/// The plan is sound; `now` is the moment of the run in seconds since 1970-01-01 00:00:00 UTC. `Fault` only where the disk's
+/// count of faults rose.
+pub fn begin<D: Disk>(
+    alloc: Global,
+    disk: &mut D,
+    plan: Plan,
+    settings: Settings,
+    change: Change,
+    now: i64,
+) -> Result<Board, OutError>
+    requires { IsSound plan }
+    ensures count { D.faults disk.old ≤ D.faults disk.new }
+    ensures fault { IsErrOf result OutError.Fault → Rose (D.faults disk.old) (D.faults disk.new) }
+    ensures quiet { OnOk result (D.faults disk.new ≡ D.faults disk.old) }
+    ensures held { D.held disk.new ≡ D.held disk.old }
+    ensures telling { D.tells disk.new ≡ D.tells disk.old }
+    ensures same { D.files disk.new ≡ D.files disk.old }
+    ensures still { D.trace disk.new ≡ D.trace disk.old }
+    ensures starts { (together : Bool) → IfOk result (λ board. Starts (run_of plan settings change now together) (D.trace disk.old) (board_of board)) }
+{
+    beginnings_are_known();
+    sources_are_planned();
+    let olds = read_installed(alloc, disk, plan.sources.as_slice())?;
+    let sizes = read_sizes(alloc, disk, plan.sources.as_slice())?;
+    Ok(Board::new(alloc, plan, olds, sizes, settings, change, now, 1)?)
+}

@@ -1,0 +1,91 @@
+//! The loop of a run over one method.
+ghost use Rattle.std.specs.Prelude.{◌≡◌, ◌≢◌, ◌≤◌, ℕ, true, Err, OnErr, OnOk, IsErrOf};
+ghost use Rattle.acq_outside.specs.Count.{Rose};
+ghost use Rattle.acq_outside.specs.Moments.{Since, Stands};
+ghost use Rattle.board_model.specs.Jobs.{NoneAsks};
+ghost use Rattle.journal_model.specs.Rest.{IsIdle, KeepsRest};
+ghost use Rattle.update_core.specs.Standing.{board_of};
+ghost use Rattle.run_jobs.specs.Running.{IsReady};
+ghost use Rattle.update_engine.specs.Session.{GoesAside, GoesFar, IsStanding, OnlySettles, StopsAside, StopsFar};
+
+use crate::known::commits_are_known;
+use crate::settling::install_all;
+use acq_outside::{Disk, Method};
+use board_bounds::logs_are_short;
+use commit_journal::Journal;
+use kept_hooks::Judge;
+use run_jobs::{RunError, ask_one};
+use std::alloc::Global;
+use update_core::Board;
+
+/// Asks until nothing is asked any more. One by one each source is committed as soon as it is ready; together nothing is
+/// committed here, and no list and no journal is touched.
+///
+/// `DiskFault` only where the disk's count of faults rose, and never `BadJournal`.
+#[tactic(auto, using(crate::proofs::Stepping::far_nowhere))]
+pub fn run_items<D: Disk, M: Method>(
+    alloc: Global,
+    judge: &Judge,
+    together: bool,
+    disk: &mut D,
+    journal: &mut Journal,
+    method: &mut M,
+    board: &mut Board,
+) -> Result<(), RunError>
+    requires ready { IsReady (M.world method.old) (M.faults method.old) (board_of board.old) (D.trace disk.old) }
+    requires change { judge.now.change ≡ (board_of board.old).config.change }
+    ensures count { D.faults disk.old ≤ D.faults disk.new }
+    ensures fault { IsErrOf result RunError.DiskFault → Rose (D.faults disk.old) (D.faults disk.new) }
+    ensures quiet { OnOk result (D.faults disk.new ≡ D.faults disk.old) }
+    ensures undamaged { (at : ℕ) → result ≢ Err (RunError.BadJournal at) }
+    ensures held { D.held disk.new ≡ D.held disk.old }
+    ensures telling { D.tells disk.new ≡ D.tells disk.old }
+    ensures method_count { M.faults method.old ≤ M.faults method.new }
+    ensures world { M.world method.new ≡ M.world method.old }
+    ensures bare { together ≡ true → Since (D.trace disk.old) (D.trace disk.new) (KeepsRest (D.trace disk.old)) }
+    ensures unsettled { together ≡ true → OnOk result ((board_of board.new).settled ≡ (board_of board.old).settled) }
+    ensures none { OnOk result (NoneAsks (board_of board.new)) }
+    ensures config { OnOk result ((board_of board.new).config ≡ (board_of board.old).config) }
+    ensures idle { OnOk result (Stands IsIdle (D.trace disk.new)) }
+    ensures stops { OnErr result (StopsFar (M.world method.old) (M.faults method.old) (board_of board.old) (D.trace disk.old) (D.trace disk.new)) }
+    ensures goes { OnOk result (GoesFar (M.world method.old) (M.faults method.old) (M.faults method.new)
+        (board_of board.old) (board_of board.new) (D.trace disk.old) (D.trace disk.new)) }
+{
+    logs_are_short();
+    commits_are_known();
+    'asks: loop {
+        install_between(alloc, together, disk, journal, board)?;
+        if !ask_one(alloc, judge, disk, method, board)? {
+            return Ok(());
+        }
+    }
+}
+
+/// One by one, settles the sources that are ready and commits their new sets; together does nothing.
+fn install_between<D: Disk>(
+    alloc: Global,
+    together: bool,
+    disk: &mut D,
+    journal: &mut Journal,
+    board: &mut Board,
+) -> Result<(), RunError>
+    requires { IsStanding (board_of board.old) (D.trace disk.old) }
+    ensures count { D.faults disk.old ≤ D.faults disk.new }
+    ensures fault { IsErrOf result RunError.DiskFault → Rose (D.faults disk.old) (D.faults disk.new) }
+    ensures quiet { OnOk result (D.faults disk.new ≡ D.faults disk.old) }
+    ensures undamaged { (at : ℕ) → result ≢ Err (RunError.BadJournal at) }
+    ensures held { D.held disk.new ≡ D.held disk.old }
+    ensures telling { D.tells disk.new ≡ D.tells disk.old }
+    ensures bare { together ≡ true → D.trace disk.new ≡ D.trace disk.old }
+    ensures unsettled { together ≡ true → OnOk result ((board_of board.new).settled ≡ (board_of board.old).settled) }
+    ensures only { OnOk result (OnlySettles (board_of board.old) (board_of board.new)) }
+    ensures idle { OnOk result (Stands IsIdle (D.trace disk.new)) }
+    ensures goes { OnOk result (GoesAside (board_of board.old) (board_of board.new) (D.trace disk.old) (D.trace disk.new)) }
+    ensures stops { OnErr result (StopsAside (board_of board.old) (D.trace disk.old) (D.trace disk.new)) }
+{
+    if together {
+        return Ok(());
+    }
+    install_all(alloc, disk, journal, board)?;
+    Ok(())
+}

@@ -1,0 +1,135 @@
+//! What a run reads before it asks: what is installed, and from where lists on their way may be resumed.
+ghost use Rattle.std.specs.Prelude.{◌≡◌, ◌≤◌, ◌++◌, ◌∷◌, [], All, IfOk, IsErrOf, IsTrue, OnOk, length, map};
+ghost use Rattle.acq_base.specs.Plan.{IsPlanned};
+ghost use Rattle.acq_outside.specs.Count.{Rose};
+ghost use Rattle.acq_outside.specs.Moments.{IsTold};
+ghost use Rattle.journal_model.specs.Names.{IsPutName};
+ghost use Rattle.lists_dir.specs.Installed.{installed_of};
+ghost use Rattle.update_engine.specs.Reading.{size_of, sizes_in, sizes_of};
+
+use acq_base::{ListName, Old, Row, Source, Target, TryCopy};
+use acq_outside::{Disk, OutError};
+use board_bounds::planned_names_are_put_names;
+use lists_dir::installed;
+use partial_store::resume_from;
+use std::alloc::Global;
+
+/// What is installed of each of these sources, which are those of a sound plan.
+///
+/// `Fault` only where the disk's count of faults rose.
+pub fn read_installed<D: Disk>(
+    alloc: Global,
+    disk: &mut D,
+    sources: &[Source],
+) -> Result<Row<Old>, OutError>
+    requires { All IsPlanned sources.now }
+    ensures count { D.faults disk.old ≤ D.faults disk.new }
+    ensures fault { IsErrOf result OutError.Fault → Rose (D.faults disk.old) (D.faults disk.new) }
+    ensures quiet { OnOk result (D.faults disk.new ≡ D.faults disk.old) }
+    ensures held { D.held disk.new ≡ D.held disk.old }
+    ensures telling { D.tells disk.new ≡ D.tells disk.old }
+    ensures same { D.files disk.new ≡ D.files disk.old }
+    ensures still { D.trace disk.new ≡ D.trace disk.old }
+    ensures each { IfOk result (λ olds. length olds ≡ length sources.now) }
+    ensures told { IsTrue (D.tells disk.old) → IfOk result (λ olds. olds ≡ map (installed_of (D.files disk.old)) sources.now) }
+{
+    let mut olds = Row::new(alloc);
+    for source in sources {
+        let old = installed(alloc, disk, source)?;
+        olds.push(old)?;
+    }
+    Ok(olds)
+}
+
+/// Adds from which byte the list of a target may be resumed.
+fn read_size<D: Disk>(
+    alloc: Global,
+    disk: &mut D,
+    target: &Target,
+    sizes: &mut Row<(ListName, u64)>,
+) -> Result<(), OutError>
+    requires { IsPutName target.now.name.0 }
+    ensures count { D.faults disk.old ≤ D.faults disk.new }
+    ensures fault { IsErrOf result OutError.Fault → Rose (D.faults disk.old) (D.faults disk.new) }
+    ensures quiet { OnOk result (D.faults disk.new ≡ D.faults disk.old) }
+    ensures held { D.held disk.new ≡ D.held disk.old }
+    ensures telling { D.tells disk.new ≡ D.tells disk.old }
+    ensures same { D.files disk.new ≡ D.files disk.old }
+    ensures still { D.trace disk.new ≡ D.trace disk.old }
+    ensures told { IsTold (D.trace disk.old) → OnOk result (sizes.new ≡ sizes.old ++ size_of (D.trace disk.old) target.now ∷ []) }
+{
+    let size = resume_from(disk, &target.name, u64::MAX)?;
+    let name = target.name.copy(alloc)?;
+    sizes.push((name, size))?;
+    Ok(())
+}
+
+/// Adds from which bytes the lists of these targets may be resumed.
+fn read_targets<D: Disk>(
+    alloc: Global,
+    disk: &mut D,
+    targets: &[Target],
+    sizes: &mut Row<(ListName, u64)>,
+) -> Result<(), OutError>
+    requires { All (λ target. IsPutName target.name.0) targets.now }
+    ensures count { D.faults disk.old ≤ D.faults disk.new }
+    ensures fault { IsErrOf result OutError.Fault → Rose (D.faults disk.old) (D.faults disk.new) }
+    ensures quiet { OnOk result (D.faults disk.new ≡ D.faults disk.old) }
+    ensures held { D.held disk.new ≡ D.held disk.old }
+    ensures telling { D.tells disk.new ≡ D.tells disk.old }
+    ensures same { D.files disk.new ≡ D.files disk.old }
+    ensures still { D.trace disk.new ≡ D.trace disk.old }
+    ensures told { IsTold (D.trace disk.old) → OnOk result (sizes.new ≡ sizes.old ++ map (size_of (D.trace disk.old)) targets.now) }
+{
+    for target in targets {
+        read_size(alloc, disk, target, sizes)?;
+    }
+    Ok(())
+}
+
+/// Adds from which bytes the lists of a source may be resumed.
+fn read_source<D: Disk>(
+    alloc: Global,
+    disk: &mut D,
+    source: &Source,
+    sizes: &mut Row<(ListName, u64)>,
+) -> Result<(), OutError>
+    requires { IsPlanned source.now }
+    ensures count { D.faults disk.old ≤ D.faults disk.new }
+    ensures fault { IsErrOf result OutError.Fault → Rose (D.faults disk.old) (D.faults disk.new) }
+    ensures quiet { OnOk result (D.faults disk.new ≡ D.faults disk.old) }
+    ensures held { D.held disk.new ≡ D.held disk.old }
+    ensures telling { D.tells disk.new ≡ D.tells disk.old }
+    ensures same { D.files disk.new ≡ D.files disk.old }
+    ensures still { D.trace disk.new ≡ D.trace disk.old }
+    ensures told { IsTold (D.trace disk.old) → OnOk result (sizes.new ≡ sizes.old ++ sizes_in (D.trace disk.old) source.now) }
+{
+    planned_names_are_put_names();
+    read_targets(alloc, disk, source.targets.as_slice(), sizes)?;
+    Ok(())
+}
+
+/// From which bytes the lists of these sources, which are those of a sound plan, may be resumed.
+///
+/// `Fault` only where the disk's count of faults rose.
+pub fn read_sizes<D: Disk>(
+    alloc: Global,
+    disk: &mut D,
+    sources: &[Source],
+) -> Result<Row<(ListName, u64)>, OutError>
+    requires { All IsPlanned sources.now }
+    ensures count { D.faults disk.old ≤ D.faults disk.new }
+    ensures fault { IsErrOf result OutError.Fault → Rose (D.faults disk.old) (D.faults disk.new) }
+    ensures quiet { OnOk result (D.faults disk.new ≡ D.faults disk.old) }
+    ensures held { D.held disk.new ≡ D.held disk.old }
+    ensures telling { D.tells disk.new ≡ D.tells disk.old }
+    ensures same { D.files disk.new ≡ D.files disk.old }
+    ensures still { D.trace disk.new ≡ D.trace disk.old }
+    ensures told { IsTold (D.trace disk.old) → IfOk result (λ sizes. sizes ≡ sizes_of (D.trace disk.old) sources.now) }
+{
+    let mut sizes = Row::new(alloc);
+    for source in sources {
+        read_source(alloc, disk, source, &mut sizes)?;
+    }
+    Ok(sizes)
+}

@@ -1,0 +1,98 @@
+//! A run.
+ghost use Rattle.std.specs.Prelude.{◌≡◌, ◌≤◌, ◌∷◌, [], ℕ, Err, List, IfOk, IsErrOf, IsTrue, OnOk, length, vec_len};
+ghost use Rattle.acq_base.specs.Plan.{IsSound};
+ghost use Rattle.acq_outside.specs.Count.{Rose};
+ghost use Rattle.commit_journal.specs.Opening.{damage_of};
+ghost use Rattle.update_engine.specs.Run.{FindsDamage, KeepsMethods, Logged, StaysSafe, engine, run_of};
+
+use crate::beginning::begin;
+use crate::ending::finish;
+use crate::known::commits_are_known;
+use crate::looping::run_items;
+use acq_base::{Plan, Settings};
+use acq_outside::{Disk, Method};
+use commit_journal::open_journal;
+use kept_hooks::Judge;
+use run_jobs::RunError;
+use std::alloc::Global;
+use update_model::RunLog;
+
+/// Updates the lists of a plan over the first of these methods: opens the journal, reads what is installed, fetches what is
+/// asked, and commits each source's new set as it is ready, or all together at the end; the clean-up comes last.
+///
+/// The plan is sound, and there are 1 to 9 methods. `now` is the moment of the run in seconds since 1970-01-01 00:00:00 UTC.
+/// `DiskFault` only where the disk's count of faults rose; `BadJournal` just where an opening of the journal tells it, and
+/// then no file has changed.
+pub fn run_update<D: Disk, M: Method>(
+    alloc: Global,
+    plan: Plan,
+    settings: Settings,
+    now: i64,
+    together: bool,
+    disk: &mut D,
+    methods: &mut Vec<M>,
+    judge: &Judge,
+) -> Result<RunLog, RunError>
+    requires methods { (1 ≤ vec_len methods.old) × (vec_len methods.old ≤ 9) }
+    requires plan { IsSound plan }
+    ensures held { D.held disk.new ≡ D.held disk.old }
+    ensures telling { D.tells disk.new ≡ D.tells disk.old }
+    ensures disk_count { D.faults disk.old ≤ D.faults disk.new }
+    ensures fault { IsErrOf result RunError.DiskFault → Rose (D.faults disk.old) (D.faults disk.new) }
+    ensures quiet { OnOk result (D.faults disk.new ≡ D.faults disk.old) }
+    ensures methods { KeepsMethods (engine D.Disk M.Method disk.old methods.old.items) (engine D.Disk M.Method disk.new methods.new.items) }
+    ensures damage { IsTrue (D.tells disk.old) → FindsDamage (damage_of (D.files disk.old)) result }
+    ensures unchanged { (at : ℕ) → result ≡ Err (RunError.BadJournal at) → D.files disk.new ≡ D.files disk.old }
+    ensures verdicts { IfOk result (λ log. length log.verdicts ≡ length plan.sources) }
+    ensures crash { StaysSafe (run_of plan settings judge.now.change now together)
+        (engine D.Disk M.Method disk.old methods.old.items) (engine D.Disk M.Method disk.new methods.new.items) }
+    ensures log { IfOk result (Logged (run_of plan settings judge.now.change now together)
+        (engine D.Disk M.Method disk.old methods.old.items) (engine D.Disk M.Method disk.new methods.new.items)) }
+{
+    let method = &mut methods.as_mut_slice()[0];
+    run_over(alloc, plan, settings, now, together, disk, method, judge)
+}
+
+/// Does so over one method. Whatever other methods there are stay as they were.
+fn run_over<D: Disk, M: Method>(
+    alloc: Global,
+    plan: Plan,
+    settings: Settings,
+    now: i64,
+    together: bool,
+    disk: &mut D,
+    method: &mut M,
+    judge: &Judge,
+) -> Result<RunLog, RunError>
+    requires { IsSound plan }
+    ensures held { D.held disk.new ≡ D.held disk.old }
+    ensures telling { D.tells disk.new ≡ D.tells disk.old }
+    ensures disk_count { D.faults disk.old ≤ D.faults disk.new }
+    ensures fault { IsErrOf result RunError.DiskFault → Rose (D.faults disk.old) (D.faults disk.new) }
+    ensures quiet { OnOk result (D.faults disk.new ≡ D.faults disk.old) }
+    ensures method_count { M.faults method.old ≤ M.faults method.new }
+    ensures world { M.world method.new ≡ M.world method.old }
+    ensures damage { IsTrue (D.tells disk.old) → FindsDamage (damage_of (D.files disk.old)) result }
+    ensures unchanged { (at : ℕ) → result ≡ Err (RunError.BadJournal at) → D.files disk.new ≡ D.files disk.old }
+    ensures verdicts { IfOk result (λ log. length log.verdicts ≡ length plan.sources) }
+    ensures crash { (others : List M) → StaysSafe (run_of plan settings judge.now.change now together)
+        (engine D.Disk M.Method disk.old (method.old ∷ others)) (engine D.Disk M.Method disk.new (method.new ∷ others)) }
+    ensures log { (others : List M) → IfOk result (Logged (run_of plan settings judge.now.change now together)
+        (engine D.Disk M.Method disk.old (method.old ∷ others)) (engine D.Disk M.Method disk.new (method.new ∷ others))) }
+{
+    commits_are_known();
+    let cleanup = settings.cleanup;
+    let mut journal = open_journal(alloc, disk)?;
+    let mut board = begin(alloc, disk, plan, settings, judge.change, now)?;
+    run_items(
+        alloc,
+        judge,
+        together,
+        disk,
+        &mut journal,
+        method,
+        &mut board,
+    )?;
+    let log = finish(alloc, together, cleanup, disk, &mut journal, board)?;
+    Ok(log)
+}
