@@ -1,0 +1,15 @@
+mod board_row;
+mod cases;
+mod causes;
+mod driver;
+mod failing;
+mod files;
+mod lists;
+mod mirror;
+mod moving;
+mod patching;
+mod releases;
+mod resuming;
+mod sources;
+mod starting;
+mod telling;
