@@ -1,22 +1,85 @@
 //! The real objects of a run, made of what the program goes by.
-ghost use Rattle.std.specs.Prelude.{◌≡◌, IfOk, string_bytes};
+ghost use Rattle.std.specs.Prelude.{◌≡◌, IfOk, string_bytes, vec_len};
 ghost use Rattle.acq_real.specs.RealDisk as disk;
+ghost use Rattle.acq_real.specs.RealEtc as etc;
 
 use acq_base::NoMemory;
-use acq_real::RealDisk;
+use acq_net::TcpLink;
+use acq_real::{RealClock, RealDisk, RealEtc, RealTree};
+use both_method::BothMethod;
+use file_method::FileMethod;
+use http_method::HttpMethod;
 use start_values::Start;
 use std::alloc::Global;
 use std::fs::File;
-use std::rt::Files;
+use std::net::{Net, TcpStream};
+use std::rt::{Clock, Files};
 
-/// The lists folder.
-pub fn open_lists<R>(alloc: Global, rt: R, start: &Start) -> Result<RealDisk<R>, NoMemory>
+/// The method of the program: files of the system for `file` URIs, peers over TCP for `http` URIs.
+pub type RealMethod<R> = BothMethod<FileMethod<RealTree<R>>, HttpMethod<TcpLink<R>>>;
+
+/// The real objects of a run.
+#[derive(Drop)]
+pub struct Outside<R>
 where
-    R: Files<File = File> + AllocGlobal + Clone + Drop,
-    ensures { IfOk result (λ lists. disk.folder_of lists ≡ string_bytes start.now.lists) }
+    R: Files<File = File> + Clock + Net<Stream = TcpStream> + AllocGlobal + Copy,
+{
+    pub etc: RealEtc<R>,
+    pub lists: RealDisk<R>,
+    pub methods: Vec<RealMethod<R>>,
+    pub clock: RealClock<R>,
+}
+
+/// The configuration folder and the lists folder that a program goes by, one method, and the system's clock. It touches
+/// none of them.
+pub fn open<R>(rt: R, start: &Start) -> Result<Outside<R>, NoMemory>
+where
+    R: Files<File = File> + Clock + Net<Stream = TcpStream> + AllocGlobal + Copy,
+    ensures etc { IfOk result (λ outside. etc.folder_of outside.etc ≡ string_bytes start.now.etc) }
+    ensures lists { IfOk result (λ outside. disk.folder_of outside.lists ≡ string_bytes start.now.lists) }
+    ensures methods { IfOk result (λ outside. vec_len outside.methods ≡ 1) }
+{
+    let alloc = rt.alloc();
+    Ok(Outside {
+        etc: open_etc(alloc, rt, start)?,
+        lists: open_lists(alloc, rt, start)?,
+        methods: one_method(alloc, rt)?,
+        clock: RealClock::new(rt),
+    })
+}
+
+fn open_etc<R>(alloc: Global, rt: R, start: &Start) -> Result<RealEtc<R>, NoMemory>
+where
+    R: Files<File = File> + AllocGlobal + Copy,
+    ensures { IfOk result (λ folder. etc.folder_of folder ≡ string_bytes start.now.etc) }
+{
+    match RealEtc::new(alloc, rt, start.etc.as_str()) {
+        Ok(folder) => Ok(folder),
+        Err(_) => Err(NoMemory),
+    }
+}
+
+fn open_lists<R>(alloc: Global, rt: R, start: &Start) -> Result<RealDisk<R>, NoMemory>
+where
+    R: Files<File = File> + AllocGlobal + Copy,
+    ensures { IfOk result (λ folder. disk.folder_of folder ≡ string_bytes start.now.lists) }
 {
     match RealDisk::new(alloc, rt, start.lists.as_str()) {
-        Ok(lists) => Ok(lists),
+        Ok(folder) => Ok(folder),
+        Err(_) => Err(NoMemory),
+    }
+}
+
+fn one_method<R>(alloc: Global, rt: R) -> Result<Vec<RealMethod<R>>, NoMemory>
+where
+    R: Files<File = File> + Net<Stream = TcpStream> + AllocGlobal + Copy,
+    ensures { IfOk result (λ methods. vec_len methods ≡ 1) }
+{
+    let files = FileMethod::new(RealTree::new(rt));
+    let peers = HttpMethod::new(TcpLink::new(rt));
+    let mut methods = Vec::new(alloc);
+    match methods.push(BothMethod::new(files, peers)) {
+        Ok(()) => Ok(methods),
         Err(_) => Err(NoMemory),
     }
 }

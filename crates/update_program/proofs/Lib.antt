@@ -1,8 +1,7 @@
-pub mod HeardLemmas
-pub mod WholeLemmas
-pub mod MirrorLemmas
-pub mod UpdateLemmas
-pub mod WordLemmas
-pub mod RequestLemmas
-pub mod ServedLemmas
-pub mod EndLemmas
+mod Asking
+mod Counts
+mod Damage
+mod Endings
+mod Lines
+mod Promised
+mod Serving

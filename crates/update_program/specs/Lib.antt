@@ -1,10 +1,10 @@
--- What the clauses of the top call cite, from the words to what is printed and left in the folder:
-pub mod Words
-pub mod Request
-pub mod Outcome
-pub mod Heard
-pub mod Lines
-pub mod Files
-pub mod Run
--- and above them the promise in the mirror's own words.
-pub mod Served
+-- What public clauses cite: the objects at one moment, what is asked of a run, what is written, how a call ends,
+pub mod Objects
+pub mod Asked
+pub mod Said
+pub mod Ending
+-- and what it promises.
+pub mod Promise
+pub mod Headline
+-- What `generate` writes.
+pub mod Generated

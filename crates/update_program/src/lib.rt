@@ -1,19 +1,20 @@
-//! The top call: what `acquire` does with its words, the disk, the methods, the clock and the output.
+//! The top call: what the words of a command line ask for, from the configuration to the report.
+//!
+//! `update_call` reads the words, then the configuration, takes the hold on the lists folder, reads the moment, runs the
+//! update and writes the report; the first refusal or fault ends it, by one line in place of the report. It touches nothing
+//! but the objects that it is handed.
 #![tactic(auto)]
 
-pub use cause::{Cause, End, Outcome, Stage, Verdict};
-pub use status::Status;
+pub use ran::{Ran, Status};
 pub use top::update_call;
 
-mod ask;
-mod cause;
-mod install;
-mod judge;
-mod lines;
+mod generate;
+mod held;
+mod options;
+mod promise;
+mod ran;
 mod run;
-mod status;
+mod say;
 #[cfg(test)]
 mod tests;
 mod top;
-mod update;
-mod words;

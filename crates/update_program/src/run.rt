@@ -1,109 +1,72 @@
-//! One source, asked, judged and installed.
+//! The run of what is configured, and its report.
 
-ghost use Rattle.std.specs.Prelude.{OnOk, ◌≡◌, ◌≤◌, IsTrue, IfOk, IsErrOf};
-ghost use Rattle.acq_base.specs.Uri.{IsSound};
+ghost use Rattle.std.specs.Prelude.{◌≡◌, ◌≢◌, ◌≤◌, vec_len, IsSome};
+ghost use Rattle.acq_base.specs.Plan.{IsSound};
 ghost use Rattle.acq_outside.specs.Count.{Rose};
-ghost use Rattle.acq_outside.specs.Disk.{IsName};
-ghost use Rattle.update_program.specs.Files.{files_after, ChangesOnlyNames};
-ghost use Rattle.update_program.specs.Run.{LeftByFault, Ran};
+ghost use Rattle.update_engine.specs.Run.{KeepsMethods, engine};
+ghost use Rattle.update_program.specs.Ending.{EndsNow};
+ghost use Rattle.update_program.specs.Objects.{objects};
 
-use crate::Outcome;
-use crate::ask::obtain;
-use crate::install::install;
-use crate::judge::installed_date;
-use acq_base::{NoMemory, Source, Target};
-use acq_outside::{Disk, Fault, Method, OutError, read_whole};
+use crate::Ran;
+use crate::say::{say_fault, say_fixed, tell};
+use acq_base::TryCopy;
+use acq_outside::{Disk, Method, Sink};
+use configuration::Configured;
+use kept_hooks::Judge;
+use release_file::{Head, is_allowed};
+use report_text::FaultLine;
+use run_jobs::RunError;
 use std::alloc::Global;
-use std::error::Error;
-use std::fmt;
+use update_engine::run_update;
 
-/// Why a run was given up.
-#[derive(Clone, Copy, Debug, PartialEq, Eq)]
-pub enum RunError {
-    /// The disk failed, and its count of faults rose.
-    DiskFault,
-    NoMemory,
-}
-
-impl fmt::Display for RunError {
-    fn fmt<W: fmt::Write>(&self, f: &mut fmt::Formatter<W>) -> fmt::Result {
-        f.write_str(match self {
-            RunError::DiskFault => "the lists folder failed",
-            RunError::NoMemory => "out of memory",
-        })
-    }
-}
-
-impl Error for RunError {}
-
-impl From<NoMemory> for RunError {
-    ghost use Rattle.std.specs.Prelude.{OnOk, ◌≡◌};
-    ghost use Rattle.update_program.specs.declared.run.RunError.TheVariants.{NoMemory};
-
-    ghost from_gives = { λ _ error. error ≡ NoMemory };
-
-    fn from(_want: NoMemory) -> RunError {
-        RunError::NoMemory
-    }
-}
-
-impl From<Fault> for RunError {
-    ghost use Rattle.std.specs.Prelude.{OnOk, ◌≡◌};
-    ghost use Rattle.update_program.specs.declared.run.RunError.TheVariants.{DiskFault};
-
-    ghost from_gives = { λ _ error. error ≡ DiskFault };
-
-    fn from(_fault: Fault) -> RunError {
-        RunError::DiskFault
-    }
-}
-
-impl From<OutError> for RunError {
-    ghost use Rattle.update_program.specs.Files.{run_error};
-    ghost use Rattle.std.specs.Prelude.{OnOk, ◌≡◌};
-
-    ghost from_gives = { λ given error. error ≡ run_error given };
-
-    fn from(error: OutError) -> RunError {
-        match error {
-            OutError::Fault => RunError::DiskFault,
-            OutError::NoMemory => RunError::NoMemory,
-        }
-    }
-}
-
-/// Fetches a source's set and puts it in place, where there is a new one.
+/// Runs what is configured and tells what became of it.
 ///
-/// `now` is the moment, in seconds since 1970. After a fault of the disk all files are as they were, unless a new set
-/// was being put in place: then the source's two names may hold anything. Where memory runs out, nothing was put in
-/// place.
-pub fn run<D: Disk, M: Method>(
+/// `now` is the moment of the run in seconds since 1970-01-01 00:00:00 UTC.
+#[tactic(auto, using(crate::proofs::Counts::none_fell, crate::proofs::Damage::told_at, crate::proofs::Damage::none_told))]
+pub fn run_plan<D: Disk, M: Method, S: Sink>(
     alloc: Global,
-    source: &Source,
-    target: &Target,
-    disk: &mut D,
-    method: &mut M,
+    it: Configured,
+    together: bool,
     now: i64,
-) -> Result<Outcome, RunError>
-    requires release { IsSound source.now.release }
-    requires list { IsSound target.now.uri }
-    requires release_name { IsName source.now.release_name.0 }
-    requires list_name { IsName target.now.name.0 }
-    ensures disk_count { D.faults disk.old ≤ D.faults disk.new }
-    ensures disk_fault { IsErrOf result RunError.DiskFault → Rose (D.faults disk.old) (D.faults disk.new) }
-    ensures disk_quiet { OnOk result (D.faults disk.new ≡ D.faults disk.old) }
-    ensures dry { IsErrOf result RunError.NoMemory → D.faults disk.new ≡ D.faults disk.old }
-    ensures left { IsErrOf result RunError.DiskFault → LeftByFault (M.faults method.old) (M.faults method.new) (M.world method.old) (D.tells disk.old) (D.files disk.old) (D.files disk.new) source.now target.now now }
-    ensures memory { IsErrOf result RunError.NoMemory → D.files disk.new ≡ D.files disk.old }
-    ensures telling { D.tells disk.new ≡ D.tells disk.old }
-    ensures method_count { M.faults method.old ≤ M.faults method.new }
-    ensures world { M.world method.new ≡ M.world method.old }
-    ensures ran { IfOk result (Ran (M.faults method.old) (M.faults method.new) (M.world method.old) (D.tells disk.old) (D.files disk.old) (D.files disk.new) source.now target.now now) }
-    ensures others { IsTrue (D.tells disk.old) → ChangesOnlyNames source.now target.now (D.files disk.old) (D.files disk.new) }
+    disk: &mut D,
+    methods: &mut Vec<M>,
+    out: &mut S,
+) -> Ran
+    requires methods { (1 ≤ vec_len methods.old) × (vec_len methods.old ≤ 9) }
+    requires plan { IsSound it.plan }
+    ensures methods { KeepsMethods (engine D.Disk M.Method disk.old methods.old.items) (engine D.Disk M.Method disk.new methods.new.items) }
+    ensures held { D.held disk.new ≡ D.held disk.old }
+    ensures disk_fault { result.status.0 ≡ 102 → Rose (D.faults disk.old) (D.faults disk.new) }
+    ensures quiet_disk { IsSome result.log → D.faults disk.new ≡ D.faults disk.old }
+    ensures sink_fault { result.status.0 ≡ 105 → Rose (S.faults out.old) (S.faults out.new) }
+    ensures quiet_sink { result.status.0 ≢ 105 → S.faults out.new ≡ S.faults out.old }
+    ensures not_held { result.status.0 ≢ 104 }
+    ensures no_etc_fault { result.status.0 ≢ 106 }
+    ensures ended { EndsNow it together now (objects D.Disk M.Method S.Sink disk.old methods.old.items out.old)
+        (objects D.Disk M.Method S.Sink disk.new methods.new.items out.new) result.log result.status.0 }
 {
-    let installed = read_whole(alloc, disk, source.release_name.0.as_bytes())?;
-    let date = installed_date(alloc, &installed)?;
-    let outcome = obtain(alloc, source, target, method, date, now)?;
-    install(disk, source, target, &outcome)?;
-    Ok(outcome)
+    let Configured {
+        plan,
+        settings,
+        change,
+    } = it;
+    let Ok(kept) = plan.copy(alloc) else {
+        return Ran::without_log(say_fixed(out, &FaultLine::Memory));
+    };
+    let may_follow = move |old: &Head, new: &Head| is_allowed(&change, old, new);
+    let Ok(test) = Box::new(alloc, may_follow) else {
+        return Ran::without_log(say_fixed(out, &FaultLine::Memory));
+    };
+    let judge = Judge::new(test, change);
+    match run_update(alloc, plan, settings, now, together, disk, methods, &judge) {
+        Ok(log) => Ran {
+            status: tell(alloc, &kept, &log, out),
+            log: Some(log),
+        },
+        Err(RunError::DiskFault) => Ran::without_log(say_fixed(out, &FaultLine::Disk)),
+        Err(RunError::BadJournal(at)) => {
+            Ran::without_log(say_fault(alloc, out, &FaultLine::Journal(at)))
+        }
+        Err(RunError::NoMemory) => Ran::without_log(say_fixed(out, &FaultLine::Memory)),
+    }
 }

@@ -1,6 +1,6 @@
 mod cases;
-mod failing;
-mod installing;
-mod keeping;
+mod debian;
+mod generated;
 mod objects;
+mod rows;
 mod running;

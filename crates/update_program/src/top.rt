@@ -1,139 +1,45 @@
 //! The top call.
 
-ghost use Rattle.std.specs.Prelude.{◌≡◌, ◌≢◌, ◌≤◌, ◌⊎◌, None, Some, drop, map, vec_len, string_bytes, IsTrue, IfSome, IfNone};
-ghost use Rattle.acq_base.specs.Uri.{IsSound};
+ghost use Rattle.std.specs.Prelude.{◌≡◌, ◌≢◌, ◌≤◌, vec_len, IfNone, IsSome};
 ghost use Rattle.acq_outside.specs.Count.{Rose};
-ghost use Rattle.acq_outside.specs.Disk.{IsName};
-ghost use Rattle.update_program.specs.Words.{source_of_words};
-ghost use Rattle.update_program.specs.Request.{IsRequest};
-ghost use Rattle.update_program.specs.Files.{ChangesOnlyNames};
-ghost use Rattle.update_program.specs.Run.{ForRun, ForFirst, IsUpdateBy, seen_with, FollowsMirror, LeavesWholeSet, ReadsMoment, IsRefused, SaidBy, seen, is_status, memory_line};
-ghost use Rattle.update_program.specs.Served.{EndsAsServed};
+ghost use Rattle.update_engine.specs.Run.{KeepsMethods, engine};
+ghost use Rattle.update_program.specs.Asked.{IfGenerate, IfNoUpdate, IfUpdate, asked};
+ghost use Rattle.update_program.specs.Ending.{EndsByWords, EndsUpdate, MakesNoRun};
+ghost use Rattle.update_program.specs.Generated.{IsGenerated};
+ghost use Rattle.update_program.specs.Headline.{Headline};
+ghost use Rattle.update_program.specs.Objects.{output, span};
+ghost use Rattle.update_program.specs.Said.{IsStatus, ReadsOnce};
 
-use crate::Status;
-use crate::update::{say, update_source};
-use crate::words::read_words;
-use acq_base::{NoMemory, Source, Target};
+use crate::Ran;
+use crate::generate::generate;
+use crate::options::run_options;
+use crate::say::say_fixed;
+use acq_base::NoMemory;
 use acq_outside::{Clock, Disk, Etc, Method, Sink};
-use release_file::judged_is_admissible;
-use std::alloc::Global;
+use command_words::{Request, read_words};
+use report_text::FaultLine;
+use std::sync::Wait;
+use std::thread::Threads;
 
-/// Updates a source that the words name from the first method's mirror, and tells what became of it.
-fn update_request<D: Disk, M: Method, C: Clock, S: Sink>(
-    alloc: Global,
-    source: &Source,
-    disk: &mut D,
-    methods: &mut Vec<M>,
-    clock: &mut C,
-    out: &mut S,
-) -> Status
-    requires request { IsRequest source.now }
-    requires methods { 1 ≤ vec_len methods.old }
-    ensures disk_count { D.faults disk.old ≤ D.faults disk.new }
-    ensures sink_count { S.faults out.old ≤ S.faults out.new }
-    ensures methods_kept { vec_len methods.new ≡ vec_len methods.old }
-    ensures later_methods { drop 1 methods.new.items ≡ drop 1 methods.old.items }
-    ensures moment { ReadsMoment (C.given clock.old) (C.given clock.new) (C.last clock.new) }
-    ensures status { IsTrue (is_status result.0) }
-    ensures disk_fault { result.0 ≡ 102 → Rose (D.faults disk.old) (D.faults disk.new) }
-    ensures sink_fault { result.0 ≡ 105 → Rose (S.faults out.old) (S.faults out.new) }
-    ensures disk_quiet { result.0 ≢ 102 → result.0 ≢ 105 → D.faults disk.new ≡ D.faults disk.old }
-    ensures sink_quiet { result.0 ≢ 105 → S.faults out.new ≡ S.faults out.old }
-    ensures ended { ForRun (Some source.now) (C.last clock.new) (λ source target now. IsUpdateBy M.faults M.world
-        (seen_with (D.faults disk.old) (D.tells disk.old) (D.files disk.old) (S.faults out.old) (S.written out.old))
-        (seen_with (D.faults disk.new) (D.tells disk.new) (D.files disk.new) (S.faults out.new) (S.written out.new))
-        methods.old.items methods.new.items source target now result.0) }
-    ensures whole { ForRun (Some source.now) (C.last clock.new) (λ source target now. IsTrue (D.tells disk.old) →
-        Rose (D.faults disk.old) (D.faults disk.new) ⊎ LeavesWholeSet (D.files disk.old) (D.files disk.new) source target now) }
-    ensures others { ForRun (Some source.now) (C.last clock.new) (λ source target now. IsTrue (D.tells disk.old) → ChangesOnlyNames source target (D.files disk.old) (D.files disk.new)) }
-{
-    let now = clock.moment();
-    let target = &source.targets.as_slice()[0];
-    update_by_first(alloc, source, target, disk, methods, now, out)
-}
-
-/// Updates a source by the first method.
-fn update_by_first<D: Disk, M: Method, S: Sink>(
-    alloc: Global,
-    source: &Source,
-    target: &Target,
-    disk: &mut D,
-    methods: &mut Vec<M>,
-    now: i64,
-    out: &mut S,
-) -> Status
-    requires methods { 1 ≤ vec_len methods.old }
-    requires release { IsSound source.now.release }
-    requires list { IsSound target.now.uri }
-    requires release_name { IsName source.now.release_name.0 }
-    requires list_name { IsName target.now.name.0 }
-    requires distinct { target.now.name.0 ≢ source.now.release_name.0 }
-    ensures disk_count { D.faults disk.old ≤ D.faults disk.new }
-    ensures sink_count { S.faults out.old ≤ S.faults out.new }
-    ensures methods_kept { vec_len methods.new ≡ vec_len methods.old }
-    ensures later_methods { drop 1 methods.new.items ≡ drop 1 methods.old.items }
-    ensures status { IsTrue (is_status result.0) }
-    ensures disk_fault { result.0 ≡ 102 → Rose (D.faults disk.old) (D.faults disk.new) }
-    ensures sink_fault { result.0 ≡ 105 → Rose (S.faults out.old) (S.faults out.new) }
-    ensures disk_quiet { result.0 ≢ 102 → result.0 ≢ 105 → D.faults disk.new ≡ D.faults disk.old }
-    ensures sink_quiet { result.0 ≢ 105 → S.faults out.new ≡ S.faults out.old }
-    ensures ended { IsUpdateBy M.faults M.world
-        (seen_with (D.faults disk.old) (D.tells disk.old) (D.files disk.old) (S.faults out.old) (S.written out.old))
-        (seen_with (D.faults disk.new) (D.tells disk.new) (D.files disk.new) (S.faults out.new) (S.written out.new))
-        methods.old.items methods.new.items source.now target.now now result.0 }
-    ensures whole { IsTrue (D.tells disk.old) → Rose (D.faults disk.old) (D.faults disk.new) ⊎ LeavesWholeSet (D.files disk.old) (D.files disk.new) source.now target.now now }
-    ensures others { IsTrue (D.tells disk.old) → ChangesOnlyNames source.now target.now (D.files disk.old) (D.files disk.new) }
-{
-    let method = &mut methods[0];
-    update_source(alloc, source, target, disk, method, now, out)
-}
-
-/// Reads the words and updates the source that they name.
-fn attempt<D: Disk, M: Method, C: Clock, S: Sink>(
-    alloc: Global,
-    words: &[String],
-    disk: &mut D,
-    methods: &mut Vec<M>,
-    clock: &mut C,
-    out: &mut S,
-) -> Status
-    requires { 1 ≤ vec_len methods.old }
-    ensures methods_kept { vec_len methods.new ≡ vec_len methods.old }
-    ensures later_methods { drop 1 methods.new.items ≡ drop 1 methods.old.items }
-    ensures moment { IfSome (source_of_words (map string_bytes words.now)) (λ _. ReadsMoment (C.given clock.old) (C.given clock.new) (C.last clock.new)
-        ⊎ ((disk.new ≡ disk.old) × (methods.new.items ≡ methods.old.items) × (clock.new ≡ clock.old)
-        × SaidBy (S.faults out.old) (S.faults out.new) (S.written out.old) (S.written out.new) memory_line 103 result.0)) }
-    ensures status { IsTrue (is_status result.0) }
-    ensures disk_fault { result.0 ≡ 102 → Rose (D.faults disk.old) (D.faults disk.new) }
-    ensures sink_fault { result.0 ≡ 105 → Rose (S.faults out.old) (S.faults out.new) }
-    ensures disk_quiet { result.0 ≢ 102 → result.0 ≢ 105 → D.faults disk.new ≡ D.faults disk.old }
-    ensures sink_quiet { result.0 ≢ 105 → S.faults out.new ≡ S.faults out.old }
-    ensures words_refused { IfNone (source_of_words (map string_bytes words.now))
-        ((disk.new ≡ disk.old) × (methods.new.items ≡ methods.old.items) × (clock.new ≡ clock.old)
-        × IsRefused (S.faults out.old) (S.faults out.new) (S.written out.old) (S.written out.new) result.0) }
-    ensures ended { ForRun (source_of_words (map string_bytes words.now)) (C.last clock.new) (λ source target now. IsUpdateBy M.faults M.world
-        (seen_with (D.faults disk.old) (D.tells disk.old) (D.files disk.old) (S.faults out.old) (S.written out.old))
-        (seen_with (D.faults disk.new) (D.tells disk.new) (D.files disk.new) (S.faults out.new) (S.written out.new))
-        methods.old.items methods.new.items source target now result.0) }
-    ensures whole { ForRun (source_of_words (map string_bytes words.now)) (C.last clock.new) (λ source target now. IsTrue (D.tells disk.old) →
-        Rose (D.faults disk.old) (D.faults disk.new) ⊎ LeavesWholeSet (D.files disk.old) (D.files disk.new) source target now) }
-    ensures others { ForRun (source_of_words (map string_bytes words.now)) (C.last clock.new) (λ source target now. IsTrue (D.tells disk.old) → ChangesOnlyNames source target (D.files disk.old) (D.files disk.new)) }
-{
-    match read_words(alloc, words) {
-        Ok(Some(source)) => update_request(alloc, &source, disk, methods, clock, out),
-        Ok(None) => say(out, b"E words\n", 100),
-        Err(NoMemory) => say(out, b"E memory\n", 103),
-    }
-}
-
-/// What `update URI SUITE COMPONENT ARCH` does: it asks the mirror for the suite's Release and for the list that this
-/// names, installs both where they are new, admissible and fit, and tells in one line what became of the source.
+/// Carries out what the words of a command line ask for, the program's own name left out.
 ///
-/// The status is 0 for a new set or for a mirror that is older than what is installed, 100 for refused words or a kept
-/// source, 102 where the disk failed, 103 where memory ran out, and 105 where the output failed. After a fault of the
-/// disk (102, or 105 in its place) all files are as they were, unless a new set was being put in place: then the source's
-/// two names may hold anything. Methods beyond the first aren't used.
-pub fn update_call<R: AllocGlobal, E: Etc, D: Disk, M: Method + Send + 'static, C: Clock, S: Sink>(
+/// `update` reads the configuration, takes the hold on the lists folder, reads the moment, fetches over the methods and
+/// commits what was fetched, and writes the report; the first refusal or fault ends it, by one line in place of the report.
+/// There are 1 to 9 methods.
+///
+/// The status is 0 where each source has its new set or keeps a newer one, and 100 where one keeps its set for a cause, both
+/// beside a report. Without one it is 100 where words, configuration or journal are refused, 102 where the lists folder
+/// failed, 103 where memory ran out, 104 where another process holds the lists folder, 105 where the output failed, and 106
+/// where the configuration folder failed. The log is that of the run, where it came to its end.
+#[tactic(auto, using(crate::proofs::Asking::for_any, crate::proofs::Asking::for_any_number, crate::proofs::Asking::for_no_update, crate::proofs::Counts::none_fell))]
+pub fn update_call<
+    R: AllocGlobal + Threads + Wait + Copy + Send + 'static,
+    E: Etc,
+    D: Disk,
+    M: Method + Send + 'static,
+    C: Clock,
+    S: Sink,
+>(
     rt: &R,
     words: &[String],
     etc: &mut E,
@@ -141,59 +47,39 @@ pub fn update_call<R: AllocGlobal, E: Etc, D: Disk, M: Method + Send + 'static, 
     methods: &mut Vec<M>,
     clock: &mut C,
     out: &mut S,
-) -> Status
+) -> Ran
     requires { (1 ≤ vec_len methods.old) × (vec_len methods.old ≤ 9) }
-    ensures configuration { etc.new ≡ etc.old }
-    ensures methods_kept { vec_len methods.new ≡ vec_len methods.old }
-    ensures later_methods { drop 1 methods.new.items ≡ drop 1 methods.old.items }
+    ensures configuration { E.files etc.new ≡ E.files etc.old }
+    ensures methods { KeepsMethods (engine D.Disk M.Method disk.old methods.old.items) (engine D.Disk M.Method disk.new methods.new.items) }
+    ensures moment { ReadsOnce (C.given clock.old) (C.given clock.new) result.log }
+    ensures disk_fault { result.status.0 ≡ 102 → Rose (D.faults disk.old) (D.faults disk.new) }
+    ensures sink_fault { result.status.0 ≡ 105 → Rose (S.faults out.old) (S.faults out.new) }
+    ensures held_fault { result.status.0 ≡ 104 → Rose (D.held disk.old) (D.held disk.new) }
+    ensures etc_fault { result.status.0 ≡ 106 → Rose (E.faults etc.old) (E.faults etc.new) }
 
-    // Accepted words read the moment once, unless memory runs out before that.
-    ensures moment { IfSome (source_of_words (map string_bytes words.now)) (λ _. ReadsMoment (C.given clock.old) (C.given clock.new) (C.last clock.new)
-        ⊎ ((disk.new ≡ disk.old) × (methods.new.items ≡ methods.old.items) × (clock.new ≡ clock.old)
-        × SaidBy (S.faults out.old) (S.faults out.new) (S.written out.old) (S.written out.new) memory_line 103 result.0)) }
+    // No fault is swallowed: beside a log no folder failed, and beside each status but 105 the output didn't.
+    ensures quiet_disk { IsSome result.log → D.faults disk.new ≡ D.faults disk.old }
+    ensures quiet_etc { IsSome result.log → E.faults etc.new ≡ E.faults etc.old }
+    ensures quiet_sink { result.status.0 ≢ 105 → S.faults out.new ≡ S.faults out.old }
+    ensures status { IfUpdate (asked words.now) (λ options. IsStatus result.log result.status.0) }
+    ensures refused { IfNone (asked words.now) (EndsByWords (span D.Disk M.Method S.Sink disk.old disk.new methods.old methods.new out.old out.new) result) }
+    ensures no_run { IfNoUpdate (asked words.now) (MakesNoRun (span D.Disk M.Method S.Sink disk.old disk.new methods.old methods.new out.old out.new) result) }
+    ensures untouched { IfNoUpdate (asked words.now) ((D.faults disk.new ≡ D.faults disk.old) × (D.held disk.new ≡ D.held disk.old)) }
+    ensures unread { IfNoUpdate (asked words.now) ((E.faults etc.new ≡ E.faults etc.old) × (C.given clock.new ≡ C.given clock.old)) }
+    ensures generated { IfGenerate (asked words.now) (λ number. IsGenerated number (output S.Sink out.old) (output S.Sink out.new) result.status.0) }
+    ensures ended { IfUpdate (asked words.now) (EndsUpdate (E.files etc.old) (C.last clock.new) (span D.Disk M.Method S.Sink disk.old disk.new methods.old methods.new out.old out.new) result) }
 
-    // Each status has its cause, which is 103's want of memory, and no fault of the disk or the output goes untold.
-    ensures status { IsTrue (is_status result.0) }
-    ensures disk_fault { result.0 ≡ 102 → Rose (D.faults disk.old) (D.faults disk.new) }
-    ensures sink_fault { result.0 ≡ 105 → Rose (S.faults out.old) (S.faults out.new) }
-    ensures disk_quiet { result.0 ≢ 102 → result.0 ≢ 105 → D.faults disk.new ≡ D.faults disk.old }
-    ensures sink_quiet { result.0 ≢ 105 → S.faults out.new ≡ S.faults out.old }
-
-    // Refused words touch nothing but the output.
-    ensures words_refused { IfNone (source_of_words (map string_bytes words.now))
-        ((disk.new ≡ disk.old) × (methods.new.items ≡ methods.old.items) × (clock.new ≡ clock.old)
-        × IsRefused (S.faults out.old) (S.faults out.new) (S.written out.old) (S.written out.new) result.0) }
-
-    // Accepted words end in one of three ways, whatever the outside tells.
-    ensures ended { ForRun (source_of_words (map string_bytes words.now)) (C.last clock.new) (λ source target now. IsUpdateBy M.faults M.world
-        (seen_with (D.faults disk.old) (D.tells disk.old) (D.files disk.old) (S.faults out.old) (S.written out.old))
-        (seen_with (D.faults disk.new) (D.tells disk.new) (D.files disk.new) (S.faults out.new) (S.written out.new))
-        methods.old.items methods.new.items source target now result.0) }
-
-    // Where the mirror and the disk tell, and neither disk, output nor memory failed, the line, the status and the
-    // files are those that the mirror's answers define, or the method failed within this call.
-    ensures mirror { ForRun (source_of_words (map string_bytes words.now)) (C.last clock.new) (λ source target now. ForFirst methods.old.items methods.new.items (λ before after. IfSome (M.world before) (λ world.
-        IsTrue (D.tells disk.old) → result.0 ≢ 102 → result.0 ≢ 103 → result.0 ≢ 105 → FollowsMirror
-        (seen (D.faults disk.old) (D.tells disk.old) (D.files disk.old) (M.faults before) (M.world before) (S.faults out.old) (S.written out.old))
-        (seen (D.faults disk.new) (D.tells disk.new) (D.files disk.new) (M.faults after) (M.world after) (S.faults out.new) (S.written out.new))
-        world source target now result.0))) }
-
-    // The same in the mirror's words: exactly where it serves an admissible Release, and whole the list that this wants,
-    // the source ends with these bytes and the line is Get, unless it tells a fault of the method within this call; else
-    // the source keeps its former set.
-    ensures serves { ForRun (source_of_words (map string_bytes words.now)) (C.last clock.new) (λ source target now. ForFirst methods.old.items methods.new.items (λ before after. IfSome (M.world before) (λ world.
-        IsTrue (D.tells disk.old) → result.0 ≢ 102 → result.0 ≢ 103 → result.0 ≢ 105 → EndsAsServed
-        (seen (D.faults disk.old) (D.tells disk.old) (D.files disk.old) (M.faults before) (M.world before) (S.faults out.old) (S.written out.old))
-        (seen (D.faults disk.new) (D.tells disk.new) (D.files disk.new) (M.faults after) (M.world after) (S.faults out.new) (S.written out.new))
-        world source target now result.0))) }
-
-    // Over a disk that tells, and whatever the mirror serves: unless the disk failed, the source's files are as they
-    // were or a whole set; and no other file ever changes.
-    ensures whole { ForRun (source_of_words (map string_bytes words.now)) (C.last clock.new) (λ source target now. IsTrue (D.tells disk.old) →
-        Rose (D.faults disk.old) (D.faults disk.new) ⊎ LeavesWholeSet (D.files disk.old) (D.files disk.new) source target now) }
-    ensures others { ForRun (source_of_words (map string_bytes words.now)) (C.last clock.new) (λ source target now. IsTrue (D.tells disk.old) → ChangesOnlyNames source target (D.files disk.old) (D.files disk.new)) }
+    // A stop leaves whole sets, the lists are as a log tells, and over a mirror lists and log are what its answers define,
+    // unless a method failed.
+    ensures headline { IfUpdate (asked words.now) (Headline (E.files etc.old) (C.last clock.new) (span D.Disk M.Method S.Sink disk.old disk.new methods.old methods.new out.old out.new) result) }
 {
-    let _ = etc;
-    judged_is_admissible();
-    attempt(rt.alloc(), words, disk, methods, clock, out)
+    let alloc = rt.alloc();
+    match read_words(alloc, words) {
+        Ok(Some(Request::Update(options))) => {
+            run_options(alloc, &options, etc, disk, methods, clock, out)
+        }
+        Ok(Some(Request::Generate(number))) => Ran::without_log(generate(alloc, number, out)),
+        Ok(None) => Ran::without_log(say_fixed(out, &FaultLine::Words)),
+        Err(NoMemory) => Ran::without_log(say_fixed(out, &FaultLine::Memory)),
+    }
 }

@@ -1,108 +1,81 @@
-//! Runs a case and compares all that it leaves.
+//! Runs a case and compares what it gives.
 
-use crate::tests::cases::{Case, LIST_NAME, RELEASE_NAME, SUMS, Served};
-use crate::tests::objects::{bytes, disk_of, lines, method_of, only, words};
-use crate::{Status, update_call};
-use acq_base::{Bytes, NoMemory, Row};
-use acq_outside::{FixedClock, MapMethod, MemDisk, MemEtc, MemSink, Method, read_whole};
+use crate::tests::cases::{Case, Named};
+use crate::tests::objects::{bytes, disk_of, etc_of, method_of, only, words};
+use crate::{Ran, Status, update_call};
+use acq_outside::{FixedClock, MemDisk, MemSink, is_name, read_whole};
 use std::alloc::Global;
 use std::process::Abort;
+use std::sync::Wait;
 use std::test::Fail;
+use std::thread::Threads;
 
-/// Runs a case and compares the status, the line, how often the method failed, and the two files.
-pub fn run<R: AllocGlobal + Abort>(rt: &R, label: &str, case: Case) -> Result<(), Fail> {
+/// Runs a case and compares the status, what was written, and the files that it must leave.
+pub fn run<R>(rt: &R, label: &str, case: Case) -> Result<(), Fail>
+where
+    R: AllocGlobal + Threads + Wait + Abort + Copy + Send + 'static,
+{
     let alloc = rt.alloc();
-    let mut disk = disk_of(rt, &case)?;
-    let mut methods = vec![in alloc; method_of(alloc, &case)?]?;
-    let mut etc = MemEtc::new(Row::new(alloc), Row::new(alloc));
-    let mut clock = FixedClock::new(case.moment);
-    let mut out = MemSink::new(alloc, only(alloc, case.failing.2)?);
-    let words = words(alloc, "update http://m.example/d/ s main amd64")?;
-    let status = update_call(
-        rt,
-        words.as_slice(),
-        &mut etc,
-        &mut disk,
-        &mut methods,
-        &mut clock,
-        &mut out,
-    );
-    assert_eq!(rt; status, Status(case.status), "{label}");
+    let mut disk = disk_of(alloc, &case)?;
+    let mut out = MemSink::new(alloc, only(alloc, case.failing.sink)?);
+    let ran = carried_out(rt, &case, &mut disk, &mut out)?;
+    assert_eq!(rt; ran.status, Status(case.status), "{label}");
     assert_eq!(rt;
         out.written().as_slice(),
         case.written.as_bytes(),
         "{label}"
     );
-    compare_faults(rt, label, &case, &methods);
-    compare_files(rt, label, &case, &mut disk)
+    compare_files(rt, label, case.left, &mut disk)
 }
 
-/// The only method failed once where the case says so, and else never.
-fn compare_faults<R: Abort>(rt: &R, label: &str, case: &Case, methods: &Vec<MapMethod>) {
-    let faults = if case.failing.0 == 1 || case.failing.0 == 2 {
-        1
-    } else {
-        0
-    };
-    assert_eq!(rt; methods.len(), 1);
-    assert_eq!(rt; methods[0].faults(), faults, "{label}");
+/// Carries a case's words out over its folder and output.
+pub fn carried_out<R>(
+    rt: &R,
+    case: &Case,
+    disk: &mut MemDisk,
+    out: &mut MemSink,
+) -> Result<Ran, Fail>
+where
+    R: AllocGlobal + Threads + Wait + Copy + Send + 'static,
+{
+    let alloc = rt.alloc();
+    let mut etc = etc_of(alloc, case)?;
+    let mut methods = vec![in alloc; method_of(alloc, case)?]?;
+    let mut clock = FixedClock::new(case.moment);
+    let words = words(alloc, case.words)?;
+    Ok(update_call(
+        rt,
+        words.as_slice(),
+        &mut etc,
+        disk,
+        &mut methods,
+        &mut clock,
+        out,
+    ))
 }
 
 fn compare_files<R: AllocGlobal + Abort>(
     rt: &R,
     label: &str,
-    case: &Case,
+    left: &[Named],
     disk: &mut MemDisk,
 ) -> Result<(), Fail> {
-    if case.failing.1 == 3 || case.failing.1 == 6 {
-        // A write failed: that file stands empty, and only the status and the line are compared.
-        return Ok(());
+    for one in left {
+        assert_eq!(rt;
+            content(rt.alloc(), disk, one.0)?,
+            Some(bytes(rt.alloc(), one.1)?),
+            "{label}"
+        );
     }
-    let (release, list) = wanted(rt.alloc(), case)?;
-    assert_eq!(rt; file(rt, disk, RELEASE_NAME)?, release, "{label}");
-    assert_eq!(rt; file(rt, disk, LIST_NAME)?, list, "{label}");
     Ok(())
 }
 
-/// The bytes under a name after a run, where there are any.
-fn file<R: AllocGlobal + Abort>(
-    rt: &R,
-    disk: &mut MemDisk,
-    name: &str,
-) -> Result<Option<Bytes>, Fail> {
-    assert!(rt; acq_outside::is_name(name.as_bytes()));
-    Ok(read_whole(rt.alloc(), disk, name.as_bytes())?)
-}
-
-/// The Release and the list that must stand after a run.
-fn wanted(alloc: Global, case: &Case) -> Result<(Option<Bytes>, Option<Bytes>), NoMemory> {
-    let release = if case.installs.0 {
-        served_bytes(alloc, case.release)?
-    } else {
-        installed_bytes(alloc, case, SUMS)?
-    };
-    let list = if case.installs.1 {
-        served_bytes(alloc, case.list)?
-    } else {
-        match case.installed {
-            Some(_) => Some(bytes(alloc, ("old", ""))?),
-            None => None,
-        }
-    };
-    Ok((release, list))
-}
-
-fn installed_bytes(alloc: Global, case: &Case, sums: &str) -> Result<Option<Bytes>, NoMemory> {
-    match case.installed {
-        Some(date) => Ok(Some(bytes(alloc, (date, sums))?)),
-        None => Ok(None),
+fn content(alloc: Global, disk: &mut MemDisk, name: &str) -> Result<Option<acq_base::Bytes>, Fail> {
+    if !is_name(name.as_bytes()) {
+        return Err(Fail::from("no name of a list"));
     }
-}
-
-fn served_bytes(alloc: Global, served: Served) -> Result<Option<Bytes>, NoMemory> {
-    match served {
-        Served::Text(first, second) => Ok(Some(bytes(alloc, (first, second))?)),
-        Served::Lines(count) => Ok(Some(lines(alloc, count)?)),
-        Served::Absent(_) | Served::Moved => Ok(None),
+    match read_whole(alloc, disk, name.as_bytes()) {
+        Ok(content) => Ok(content),
+        Err(_) => Err(Fail::from("the folder failed")),
     }
 }

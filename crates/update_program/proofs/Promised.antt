@@ -1,0 +1,181 @@
+-- The ways in which an update ends keep its promise, and have its statuses.
+use Rattle.std.proofs.Common.{◌≡◌, ◌⊎◌, ◌<◌, ◌+◌, ℕ, ℤ, Bool, true, false, if◌then◌else◌, List, Option, Some, None, Ok, IfSome, inl, inr, refl, arith, IfNone}
+use Rattle.std.specs.List.{list_any}
+use Rattle.acq_base.specs.declared.plan.Plan.{Plan}
+use Rattle.acq_outside.specs.Etc.{EtcFiles}
+use Rattle.command_words.specs.declared.request.Options.{Options}
+use Rattle.configuration.specs.declared.configuring.Configured.{Configured}
+use Rattle.report_text.specs.declared.fault.FaultLine.{FaultLine}
+use Rattle.report_text.specs.declared.fault.FaultLine.TheVariants.{Words, Conf, Clash, TooMany, LongName, Journal, Disk, Memory, Held, Etc}
+use Rattle.update_program.specs.Promise.{EndsAsTold, EndsOverMirror, RunsEndAsServed, RunsEndAsTold, RunsStopWithSets, WasSettled}
+use Rattle.update_engine.specs.Run.{KeepsMethods, Run}
+use Rattle.update_model.specs.declared.log.RunLog.{RunLog}
+use Rattle.update_model.specs.declared.settled.Verdict2.{Verdict2}
+use Rattle.update_program.specs.Asked.{AskFor, Give, run_for}
+use Rattle.update_program.specs.Ending.{EndsByOptions, EndsWith, IsBarred, IsNoRun, IsRun, IsUnread, SaysWhy}
+use Rattle.update_program.specs.Headline.{IsRefused, Promises}
+use Rattle.update_program.specs.Objects.{Objects, Output}
+use Rattle.update_program.specs.Said.{IsStatus, Reports, SaidBy, Says, SaysFault, fault_status, is_kept, status_of_verdicts}
+
+-- the line of a failure was written, so the status is none of a refusal
+is_failure : (before after : Output) (fault : FaultLine) (status : ℕ) → 100 < fault_status fault → Says before after fault status → status ≡ 100 → ⊥
+is_failure before after fault status above (inl said) is = omega (arith, above, said.0, is)
+is_failure before after fault status above (inr said) is = omega (arith, said.0, is)
+
+above : (code : ℕ) → 100 < 101 + code
+above code = omega arith
+
+disk_failed : (before after : Output) (status : ℕ) → Says before after Disk status → status ≡ 100 → ⊥
+disk_failed before after status said = is_failure before after Disk status (above 1) said
+
+memory_failed : (before after : Output) (status : ℕ) → Says before after Memory status → status ≡ 100 → ⊥
+memory_failed before after status said = is_failure before after Memory status (above 2) said
+
+held_failed : (before after : Output) (status : ℕ) → Says before after Held status → status ≡ 100 → ⊥
+held_failed before after status said = is_failure before after Held status (above 3) said
+
+etc_failed : (before after : Output) (status : ℕ) → Says before after Etc status → status ≡ 100 → ⊥
+etc_failed before after status said = is_failure before after Etc status (above 5) said
+
+-- what is said of a status without a log
+without_log : {X : Type 0} (log : Option RunLog) → X → IfNone log X
+without_log None is = is
+without_log (Some log) is = tt
+
+module _
+    (serves : RunsEndAsServed) (tells : RunsEndAsTold) (stops : RunsStopWithSets) (told : Option EtcFiles) (options : Options) (moment : Option ℤ) (before after : Objects)
+    (status : ℕ) (keeps : KeepsMethods before.engine after.engine) where
+  by_why : SaysWhy before after status → status ≡ 100 → IsRefused told options before
+  by_why (inl said) is = absurd (disk_failed before.out after.out status said is)
+  by_why (inr (inl damaged)) is = inr (damaged.0, damaged.1)
+  by_why (inr (inr said)) is = absurd (memory_failed before.out after.out status said is)
+
+  by_bar : IsBarred before after status → status ≡ 100 → ⊥
+  by_bar (inl said) = disk_failed before.out after.out status said
+  by_bar (inr (inl said)) = held_failed before.out after.out status said
+  by_bar (inr (inr said)) = memory_failed before.out after.out status said
+
+  by_unread : IsUnread told options.pairs before after status → status ≡ 100 → IsRefused told options before
+  by_unread (inl refused) is = inl (refused.0, refused.1)
+  by_unread (inr (inl said)) is = absurd (etc_failed before.out after.out status said is)
+  by_unread (inr (inr said)) is = absurd (memory_failed before.out after.out status said is)
+
+  -- a run that is asked for keeps the promise
+  tells_run : (run : Run) (log : Option RunLog) → IsRun run before after log status
+      → IfSome log (λ known. WasSettled before.engine → EndsAsTold run before.engine.trace after.engine.trace known)
+  tells_run run None ran = tt
+  tells_run run (Some log) ran = λ settled. tells run before.engine after.engine log ran.log settled
+
+  ends_run : (run : Run) (log : Option RunLog) → IsRun run before after log status → IfSome log (EndsOverMirror run before.engine after.engine)
+  ends_run run None ran = tt
+  ends_run run (Some log) ran = serves run before.engine after.engine log keeps ran.log
+
+  refused_run : (run : Run) (log : Option RunLog) → IsRun run before after log status → IfNone log (status ≡ 100 → IsRefused told options before)
+  refused_run run None ran = by_why ran.why
+  refused_run run (Some log) ran = tt
+
+  asked : (it : Configured) (time : ℤ) → Give told options.pairs (Ok it) → moment ≡ Some time → AskFor told options moment (run_for it time options.together)
+  asked it time given at = record { it = it; given = given; time = time; at = at; is = refl }
+
+  promised_by : (it : Configured) (log : Option RunLog) → Give told options.pairs (Ok it) → EndsWith it options.together moment before after log status
+      → Promises told options moment before after log status
+  promised_by it log given (inl ran) = record {
+    way = inr (record {
+      run = run_for it ran.0 options.together;
+      asks = asked it ran.0 given ran.1;
+      stops = λ settled. stops (run_for it ran.0 options.together) before.engine after.engine ran.2.crash settled;
+      tells = tells_run (run_for it ran.0 options.together) log ran.2;
+      ends = ends_run (run_for it ran.0 options.together) log ran.2;
+    });
+    refused = refused_run (run_for it ran.0 options.together) log ran.2;
+  }
+  promised_by it log given (inr none) = record { way = inl none.0; refused = without_log log (λ is. absurd (by_bar none.1 is)) }
+
+  pub promised : (log : Option RunLog) → EndsByOptions told options moment before after log status → Promises told options moment before after log status
+  promised log ends = by_way ends.way
+    where
+      by_way : ((it : Configured) × Give told options.pairs (Ok it) × EndsWith it options.together moment before after log status) ⊎ (IsNoRun before after log × IsUnread told options.pairs before after status)
+          → Promises told options moment before after log status
+      by_way (inl ran) = promised_by ran.0 log ran.1 ran.2
+      by_way (inr none) = record { way = inl none.0; refused = without_log log (by_unread none.1) }
+
+-- ---- statuses
+
+abbrev NoLog : ℕ → Type 0
+NoLog status = (status ≡ 100) ⊎ ((status ≡ 102) ⊎ ((status ≡ 103) ⊎ ((status ≡ 104) ⊎ ((status ≡ 105) ⊎ (status ≡ 106)))))
+
+output_failed : (status : ℕ) → status ≡ 105 → NoLog status
+output_failed status is = inr (inr (inr (inr (inl is))))
+
+by_line : (before after : Output) (fault : FaultLine) (status : ℕ) → Says before after fault status → NoLog status
+by_line before after fault status (inr said) = output_failed status said.0
+by_line before after Words status (inl said) = inl said.0
+by_line before after (Conf file number line) status (inl said) = inl said.0
+by_line before after (Clash first first_line second second_line) status (inl said) = inl said.0
+by_line before after TooMany status (inl said) = inl said.0
+by_line before after (LongName name) status (inl said) = inl said.0
+by_line before after (Journal at) status (inl said) = inl said.0
+by_line before after Disk status (inl said) = inr (inl said.0)
+by_line before after Memory status (inl said) = inr (inr (inl said.0))
+by_line before after Held status (inl said) = inr (inr (inr (inl said.0)))
+by_line before after Etc status (inl said) = inr (inr (inr (inr (inr said.0))))
+
+by_fault : (before after : Output) (fault : FaultLine) (status : ℕ) → SaysFault before after fault status → NoLog status
+by_fault before after fault status (inl said) = by_line before after fault status said
+by_fault before after fault status (inr said) = by_line before after Memory status said
+
+by_reason : (before after : Objects) (status : ℕ) → SaysWhy before after status → NoLog status
+by_reason before after status (inl said) = by_line before.out after.out Disk status said
+by_reason before after status (inr (inl damaged)) = by_fault before.out after.out (Journal damaged.0) status damaged.3
+by_reason before after status (inr (inr said)) = by_line before.out after.out Memory status said
+
+verdict_status : (verdicts : List Verdict2) (status : ℕ) → status ≡ status_of_verdicts verdicts → (status ≡ 0) ⊎ (status ≡ 100)
+verdict_status verdicts status is = by (list_any is_kept verdicts) is
+  where
+    by : (kept : Bool) → status ≡ (if kept then 100 else 0) → (status ≡ 0) ⊎ (status ≡ 100)
+    by true e = inr e
+    by false e = inl e
+
+by_report : (before after : Output) (plan : Plan) (log : RunLog) (status : ℕ) → Reports before after plan log status → IsStatus (Some log) status
+by_report before after plan log status (inl report) = by report.said
+  where
+    known : (status ≡ 0) ⊎ (status ≡ 100) → IsStatus (Some log) status
+    known (inl e) = inl e
+    known (inr e) = inr (inl e)
+
+    by : SaidBy before after report.text (status_of_verdicts log.verdicts) status → IsStatus (Some log) status
+    by (inl said) = known (verdict_status log.verdicts status said.0)
+    by (inr said) = inr (inr (inr said.0))
+by_report before after plan log status (inr (inl said)) = inr (inr (inl said.0))
+by_report before after plan log status (inr (inr said)) = inr (inr (inr said.0))
+
+by_run : (run : Run) (before after : Objects) (log : Option RunLog) (status : ℕ) → IsRun run before after log status → IsStatus log status
+by_run run before after None status ran = by_reason before after status ran.why
+by_run run before after (Some log) status ran = by_report before.out after.out run.plan log status ran.said
+
+by_none : (log : Option RunLog) (status : ℕ) → log ≡ None → NoLog status → IsStatus log status
+by_none None status is told = told
+by_none (Some log) status is told = absurd cc
+
+-- an update has one of its statuses
+pub has_status : (told : Option EtcFiles) (options : Options) (moment : Option ℤ) (before after : Objects) (log : Option RunLog) (status : ℕ)
+    → EndsByOptions told options moment before after log status → IsStatus log status
+has_status told options moment before after log status ends = by ends.way
+  where
+    barred : IsBarred before after status → NoLog status
+    barred (inl said) = by_line before.out after.out Disk status said
+    barred (inr (inl said)) = by_line before.out after.out Held status said
+    barred (inr (inr said)) = by_line before.out after.out Memory status said
+
+    unread : IsUnread told options.pairs before after status → NoLog status
+    unread (inl refused) = by_fault before.out after.out _ status refused.2
+    unread (inr (inl said)) = by_line before.out after.out Etc status said
+    unread (inr (inr said)) = by_line before.out after.out Memory status said
+
+    with_it : (it : Configured) → EndsWith it options.together moment before after log status → IsStatus log status
+    with_it it (inl ran) = by_run (run_for it ran.0 options.together) before after log status ran.2
+    with_it it (inr none) = by_none log status none.0.no_log (barred none.1)
+
+    by : ((it : Configured) × Give told options.pairs (Ok it) × EndsWith it options.together moment before after log status) ⊎ (IsNoRun before after log × IsUnread told options.pairs before after status) → IsStatus log status
+    by (inl ran) = with_it ran.0 ran.2
+    by (inr none) = by_none log status none.0.no_log (unread none.1)

@@ -1,0 +1,22 @@
+use Rattle.std.proofs.Common.{ap, refl, inr, Err}
+use Rattle.update_program.proofs.Counts.{none_fell}
+use Rattle.update_program.proofs.Endings.{refusal_ends}
+use Rattle.update_program.proofs.options.run_configured.Goals as goal
+
+pub returns-in-Err : goal.returns-in-Err
+returns-in-Err g c =
+    let by = c.refuse.ensures in
+    let read = c.in-Err.ensures in
+    record {
+      configuration = read.same;
+      methods = record { mirrors = refl; counts = none_fell _ };
+      moment = inr (rw by.log refl, refl);
+      disk_fault = λ e. absurd (by.no_disk_fault e);
+      quiet_disk = λ some. let never = rw by.log at some in absurd cc;
+      sink_fault = by.fault;
+      quiet_sink = by.quiet;
+      held_fault = λ e. absurd (by.not_held e);
+      etc_fault = λ e. read.fault (ap Err (by.etc_fault e));
+      quiet_etc = λ some. let never = rw by.log at some in absurd cc;
+      ended = refusal_ends _ _ _ c.in-Err.refusal _ _ _ _ read.answer by.said (record { no_log = by.log; still = refl; files = refl; mirrors = refl; methods = refl });
+    }

@@ -1,0 +1,32 @@
+use Rattle.std.proofs.Common.{inl, refl, w64}
+use Rattle.std.proofs.lemmas.Int.{to_z-of_z}
+use Rattle.update_program.proofs.Damage.{none_told}
+use Rattle.update_program.proofs.Endings.{says_damage}
+use Rattle.update_program.specs.Objects.{objects}
+use Rattle.update_program.proofs.run.run_plan.Goals as goal
+
+pub returns-in-Ok-run_update-clause-ended : goal.returns-in-Ok-run_update-clause-ended
+returns-in-Ok-run_update-clause-ended g c =
+    let by = c.in-Ok-run_update.ensures in
+    inl (record {
+      crash = rw (c.new-judge.ensures, to_z-of_z w64 c.args.now c.ranges.now) at by.crash;
+      log = rw (c.new-judge.ensures, to_z-of_z w64 c.args.now c.ranges.now) at by.log;
+      said = rw c.in-Ok.ensures at c.tell.ensures.told;
+      why = tt;
+      undamaged = λ tells some. none_told _ c.in-Ok-run_update.log (by.damage tells);
+    })
+
+pub returns-in-Err-BadJournal-clause-ended : goal.returns-in-Err-BadJournal-clause-ended
+returns-in-Err-BadJournal-clause-ended g c =
+    let finds = rw c.in-Err-BadJournal.field-0-is at c.in-Err-BadJournal.ensures.damage in
+    let keeps = rw c.in-Err-BadJournal.field-0-is at c.in-Err-BadJournal.ensures.unchanged in
+    let left = c.without_log-in-Err-BadJournal.ensures in
+    let was = objects g.D.Disk g.M.Method g.S.Sink c.args.disk.now c.args.methods.now.items c.args.out.now in
+    let is = objects g.D.Disk g.M.Method g.S.Sink c.run_update.new.disk c.run_update.new.methods.items c.say_fault.new.out in
+    inl (record {
+      crash = rw (c.new-judge.ensures, to_z-of_z w64 c.args.now c.ranges.now) at c.in-Err-BadJournal.ensures.crash;
+      log = rw left.log tt;
+      said = rw left.log tt;
+      why = rw (left.log, left.status) (says_damage was is c.in-Err-BadJournal.at c.say_fault.result.0 finds (keeps c.in-Err-BadJournal.at refl) c.say_fault.ensures.said);
+      undamaged = λ tells some. let never = rw left.log at some in absurd cc;
+    })

@@ -1,0 +1,101 @@
+//! The configuration of an update.
+
+ghost use Rattle.std.specs.Prelude.{◌≡◌, ◌≢◌, ◌≤◌, vec_len, IsSome, None};
+ghost use Rattle.acq_outside.specs.Count.{Rose};
+ghost use Rattle.report_text.specs.Refused.{line_of};
+ghost use Rattle.update_engine.specs.Run.{KeepsMethods, engine};
+ghost use Rattle.update_program.specs.Ending.{EndsByOptions};
+ghost use Rattle.update_program.specs.Headline.{Promises};
+ghost use Rattle.update_program.specs.Objects.{objects, output};
+ghost use Rattle.update_program.specs.Said.{ReadsOnce, SaysFault};
+
+use crate::Ran;
+use crate::held::run_held;
+use crate::promise::{runs_end_as_served, runs_end_as_told, runs_stop_with_sets};
+use crate::say::{say_fault, say_fixed};
+use acq_outside::{Clock, Disk, Etc, Method, Sink};
+use command_words::Options;
+use configuration::{ConfigurationError, configure};
+use report_text::FaultLine;
+use std::alloc::Global;
+
+/// Reads the configuration, and runs what it plans.
+pub fn run_options<E: Etc, D: Disk, M: Method, C: Clock, S: Sink>(
+    alloc: Global,
+    options: &Options,
+    etc: &mut E,
+    disk: &mut D,
+    methods: &mut Vec<M>,
+    clock: &mut C,
+    out: &mut S,
+) -> Ran
+    requires { (1 ≤ vec_len methods.old) × (vec_len methods.old ≤ 9) }
+    ensures configuration { E.files etc.new ≡ E.files etc.old }
+    ensures methods { KeepsMethods (engine D.Disk M.Method disk.old methods.old.items) (engine D.Disk M.Method disk.new methods.new.items) }
+    ensures moment { ReadsOnce (C.given clock.old) (C.given clock.new) result.log }
+    ensures disk_fault { result.status.0 ≡ 102 → Rose (D.faults disk.old) (D.faults disk.new) }
+    ensures quiet_disk { IsSome result.log → D.faults disk.new ≡ D.faults disk.old }
+    ensures sink_fault { result.status.0 ≡ 105 → Rose (S.faults out.old) (S.faults out.new) }
+    ensures quiet_sink { result.status.0 ≢ 105 → S.faults out.new ≡ S.faults out.old }
+    ensures held_fault { result.status.0 ≡ 104 → Rose (D.held disk.old) (D.held disk.new) }
+    ensures etc_fault { result.status.0 ≡ 106 → Rose (E.faults etc.old) (E.faults etc.new) }
+    ensures quiet_etc { IsSome result.log → E.faults etc.new ≡ E.faults etc.old }
+    ensures ended { EndsByOptions (E.files etc.old) options.now (C.last clock.new)
+        (objects D.Disk M.Method S.Sink disk.old methods.old.items out.old)
+        (objects D.Disk M.Method S.Sink disk.new methods.new.items out.new) result.log result.status.0 }
+    ensures headline { Promises (E.files etc.old) options.now (C.last clock.new)
+        (objects D.Disk M.Method S.Sink disk.old methods.old.items out.old)
+        (objects D.Disk M.Method S.Sink disk.new methods.new.items out.new) result.log result.status.0 }
+{
+    runs_end_as_served();
+    runs_end_as_told();
+    runs_stop_with_sets();
+    run_configured(alloc, options, etc, disk, methods, clock, out)
+}
+
+/// The same, of which the headline follows.
+#[tactic(auto, using(crate::proofs::Counts::none_fell, crate::proofs::Endings::configured_ends, crate::proofs::Endings::refusal_ends))]
+fn run_configured<E: Etc, D: Disk, M: Method, C: Clock, S: Sink>(
+    alloc: Global,
+    options: &Options,
+    etc: &mut E,
+    disk: &mut D,
+    methods: &mut Vec<M>,
+    clock: &mut C,
+    out: &mut S,
+) -> Ran
+    requires { (1 ≤ vec_len methods.old) × (vec_len methods.old ≤ 9) }
+    ensures configuration { E.files etc.new ≡ E.files etc.old }
+    ensures methods { KeepsMethods (engine D.Disk M.Method disk.old methods.old.items) (engine D.Disk M.Method disk.new methods.new.items) }
+    ensures moment { ReadsOnce (C.given clock.old) (C.given clock.new) result.log }
+    ensures disk_fault { result.status.0 ≡ 102 → Rose (D.faults disk.old) (D.faults disk.new) }
+    ensures quiet_disk { IsSome result.log → D.faults disk.new ≡ D.faults disk.old }
+    ensures sink_fault { result.status.0 ≡ 105 → Rose (S.faults out.old) (S.faults out.new) }
+    ensures quiet_sink { result.status.0 ≢ 105 → S.faults out.new ≡ S.faults out.old }
+    ensures held_fault { result.status.0 ≡ 104 → Rose (D.held disk.old) (D.held disk.new) }
+    ensures etc_fault { result.status.0 ≡ 106 → Rose (E.faults etc.old) (E.faults etc.new) }
+    ensures quiet_etc { IsSome result.log → E.faults etc.new ≡ E.faults etc.old }
+    ensures ended { EndsByOptions (E.files etc.old) options.now (C.last clock.new)
+        (objects D.Disk M.Method S.Sink disk.old methods.old.items out.old)
+        (objects D.Disk M.Method S.Sink disk.new methods.new.items out.new) result.log result.status.0 }
+{
+    match configure(alloc, etc, &options.pairs) {
+        Ok(it) => run_held(alloc, it, options.together, disk, methods, clock, out),
+        Err(ConfigurationError::Fault) => Ran::without_log(say_fixed(out, &FaultLine::Etc)),
+        Err(ConfigurationError::NoMemory) => Ran::without_log(say_fixed(out, &FaultLine::Memory)),
+        Err(refusal) => refuse(alloc, refusal, out),
+    }
+}
+
+/// Writes the line of a configuration that is refused.
+fn refuse<S: Sink>(alloc: Global, refusal: ConfigurationError, out: &mut S) -> Ran
+    ensures fault { result.status.0 ≡ 105 → Rose (S.faults out.old) (S.faults out.new) }
+    ensures quiet { result.status.0 ≢ 105 → S.faults out.new ≡ S.faults out.old }
+    ensures no_disk_fault { result.status.0 ≢ 102 }
+    ensures not_held { result.status.0 ≢ 104 }
+    ensures etc_fault { result.status.0 ≡ 106 → refusal ≡ ConfigurationError.Fault }
+    ensures log { result.log ≡ None }
+    ensures said { SaysFault (output S.Sink out.old) (output S.Sink out.new) (line_of refusal) result.status.0 }
+{
+    Ran::without_log(say_fault(alloc, out, &FaultLine::from(refusal)))
+}
