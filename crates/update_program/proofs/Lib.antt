@@ -4,4 +4,3 @@ mod Damage
 mod Endings
 mod Lines
 mod Promised
-mod Serving

@@ -7,7 +7,7 @@ use Rattle.command_words.specs.declared.request.Options.{Options}
 use Rattle.configuration.specs.declared.configuring.Configured.{Configured}
 use Rattle.report_text.specs.declared.fault.FaultLine.{FaultLine}
 use Rattle.report_text.specs.declared.fault.FaultLine.TheVariants.{Words, Conf, Clash, TooMany, LongName, Journal, Disk, Memory, Held, Etc}
-use Rattle.update_program.specs.Promise.{EndsAsTold, EndsOverMirror, RunsEndAsServed, RunsEndAsTold, RunsStopWithSets, WasSettled}
+use Rattle.run_promises.specs.Promise.{EndsAsTold, EndsOverMirror, RunsEndAsServed, RunsEndAsTold, RunsStopWithSets, WasSettled}
 use Rattle.update_engine.specs.Run.{KeepsMethods, Run}
 use Rattle.update_model.specs.declared.log.RunLog.{RunLog}
 use Rattle.update_model.specs.declared.settled.Verdict2.{Verdict2}

@@ -1,10 +1,11 @@
 -- What `generate N` writes: how an update went over the mirror of a number on its first day, and then on its second.
 use Rattle.std.specs.Prelude.{◌⊎◌, ℕ, ◌==◌, ◌&&◌, if◌then◌else◌, List, [], ◌∷◌, ◌++◌, codes}
 use Rattle.std.specs.Fmt.{decimal}
+use Rattle.generated_days.specs.Days.{AreDaysOf}
+use Rattle.generated_days.specs.declared.days.Day.{Day}
 use Rattle.report_text.specs.declared.fault.FaultLine.TheVariants.{Memory}
 use Rattle.update_program.specs.Objects.{Output}
 use Rattle.update_program.specs.Said.{SaidBy, Says}
-use Rattle.update_program.specs.declared.generate.Day.{Day}
 
 -- the sources that got a new set, the asks, and the bytes of the lists behind them
 abbrev pub day_text : Day → List ℕ
@@ -17,10 +18,11 @@ days_line number first second = codes "Generate " ++ decimal number ++ codes " f
 abbrev pub days_status : Day → Day → ℕ
 days_status first second = if (first.installed == 4) && (second.installed == 4) then 0 else 100
 
--- the line of two days, beside its status
+-- the line of the number's two days, beside its status
 pub record SaysDays (number : ℕ) (before after : Output) (status : ℕ) : Type 0 where
   pub first : Day
   pub second : Day
+  pub are : AreDaysOf number first second
   pub said : SaidBy before after (days_line number first second) (days_status first second) status
 
 -- or memory ran out

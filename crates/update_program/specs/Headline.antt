@@ -4,7 +4,7 @@ use Rattle.acq_outside.specs.Etc.{EtcFiles}
 use Rattle.command_words.specs.declared.request.Options.{Options}
 use Rattle.commit_journal.specs.Opening.{damage_of}
 use Rattle.configuration.specs.declared.error.ConfigurationError.{ConfigurationError}
-use Rattle.update_program.specs.Promise.{EndsAsTold, EndsOverMirror, StopsWithSets, WasSettled}
+use Rattle.run_promises.specs.Promise.{EndsAsTold, EndsOverMirror, StopsWithSets, WasSettled}
 use Rattle.update_engine.specs.Run.{Run}
 use Rattle.update_model.specs.declared.log.RunLog.{RunLog}
 use Rattle.update_program.specs.Asked.{AskFor, Give}

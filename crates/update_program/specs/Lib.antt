@@ -4,7 +4,6 @@ pub mod Asked
 pub mod Said
 pub mod Ending
 -- and what it promises.
-pub mod Promise
 pub mod Headline
 -- What `generate` writes.
 pub mod Generated

@@ -11,10 +11,7 @@ pub use top::update_call;
 mod generate;
 mod held;
 mod options;
-mod promise;
 mod ran;
 mod run;
 mod say;
-#[cfg(test)]
-mod tests;
 mod top;

@@ -11,12 +11,12 @@ ghost use Rattle.update_program.specs.Said.{ReadsOnce, SaysFault};
 
 use crate::Ran;
 use crate::held::run_held;
-use crate::promise::{runs_end_as_served, runs_end_as_told, runs_stop_with_sets};
 use crate::say::{say_fault, say_fixed};
 use acq_outside::{Clock, Disk, Etc, Method, Sink};
 use command_words::Options;
 use configuration::{ConfigurationError, configure};
 use report_text::FaultLine;
+use run_promises::{runs_end_as_served, runs_end_as_told, runs_stop_with_sets};
 use std::alloc::Global;
 
 /// Reads the configuration, and runs what it plans.

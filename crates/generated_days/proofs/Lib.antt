@@ -1,0 +1,14 @@
+mod Along
+mod Answers
+mod Both
+mod Clearing
+mod Folders
+mod Items
+mod Keys
+mod Parts
+mod Quiet
+mod Rest
+mod Running
+mod Sources
+mod Telling
+mod Verdicts

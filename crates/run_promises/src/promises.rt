@@ -1,0 +1,29 @@
+//! What runs promise, in the words of those who keep lists: laws, each a function without a body of its own.
+
+ghost use Rattle.run_promises.specs.Promise as law;
+
+use board_model::boards_walk_routes;
+use run_model::{commits_leave_whole, runs_lead_to_next, runs_leave_outcomes};
+
+/// Over a mirror, a run that answers a log leaves the lists that the mirror's answers define, unless a method failed.
+pub fn runs_end_as_served()
+    ensures { law.RunsEndAsServed }
+{
+    boards_walk_routes();
+    runs_lead_to_next();
+}
+
+/// A source that a log tells to have a set has just that, and each other one its former files.
+#[tactic(auto, using(crate::proofs::Serving::ends_as_told))]
+pub fn runs_end_as_told()
+    ensures { law.RunsEndAsTold }
+{
+    runs_leave_outcomes();
+}
+
+/// Whatever a run answers, each source has at each moment, in whatever a crash leaves, its former set or its new one, whole.
+pub fn runs_stop_with_sets()
+    ensures { law.RunsStopWithSets }
+{
+    commits_leave_whole();
+}

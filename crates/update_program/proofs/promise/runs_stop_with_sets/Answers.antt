@@ -1,5 +1,0 @@
-use Rattle.update_program.proofs.Serving.{stops_with_sets}
-use Rattle.update_program.proofs.promise.runs_stop_with_sets.Goals as goal
-
-pub returns : goal.returns
-returns c = stops_with_sets c.commits_leave_whole.ensures.crashes c.commits_leave_whole.ensures.mirrors

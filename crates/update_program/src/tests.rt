@@ -1,6 +1,0 @@
-mod cases;
-mod debian;
-mod generated;
-mod objects;
-mod rows;
-mod running;
