@@ -4,6 +4,7 @@ mod causes;
 mod driver;
 mod failing;
 mod files;
+mod items;
 mod lists;
 mod mirror;
 mod moving;

@@ -17,6 +17,8 @@ pub enum Has {
     /// A move to no URI of this profile.
     MovedNowhere,
     Absent(u16),
+    /// A file of more bytes than any ask allows.
+    TooBig,
     /// An answer that breaks the protocol at this byte.
     Garbled(u64),
 }

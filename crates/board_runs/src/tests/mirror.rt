@@ -109,6 +109,7 @@ pub fn answer(
         Has::Moved(place) => Ok(Closed::Moved(Some(read_uri(alloc, place.as_bytes())?))),
         Has::MovedNowhere => Ok(Closed::Moved(None)),
         Has::Absent(status) => Ok(Closed::Absent(status)),
+        Has::TooBig => Ok(Closed::TooBig),
         Has::Garbled(at) => Ok(Closed::Garbled(at)),
     }
 }

@@ -8,9 +8,9 @@ use std::test::Fail;
 /// The wanted list.
 const WANTED: &[u8] = b"hello\nworld\n";
 
-const FIRST: &[u8] = b"1a\nx\n.\n";
+pub const FIRST: &[u8] = b"1a\nx\n.\n";
 
-const SECOND: &[u8] = b"2c\nworld\n.\n";
+pub const SECOND: &[u8] = b"2c\nworld\n.\n";
 
 const BOTH: &[u8] = b"1a\nworld\n.\n";
 
@@ -18,7 +18,7 @@ const BOTH: &[u8] = b"1a\nworld\n.\n";
 const HISTORY: &[(&str, &[u8])] = &[("p1", b"hello\n"), ("p2", b"hello\nx\n")];
 
 /// An Index of two patches, one after the other.
-const INDEX: Patches = Patches {
+pub const INDEX: Patches = Patches {
     last: WANTED,
     history: HISTORY,
     patches: &[("p1", FIRST), ("p2", SECOND)],
@@ -33,7 +33,7 @@ const MERGED: Patches = Patches {
     merged: true,
 };
 
-const OF_INDEX: Listing = Listing {
+pub const OF_INDEX: Listing = Listing {
     fields: DATE,
     files: &[("main/binary-amd64/Packages", WANTED)],
     index: Some(INDEX),
@@ -46,7 +46,7 @@ const OF_MERGED: Listing = Listing {
 };
 
 /// Options under which both patches together are small enough.
-const LARGE: &str = "Acquire::Languages=none\nAcquire::PDiffs::SizeLimit=200";
+pub const LARGE: &str = "Acquire::Languages=none\nAcquire::PDiffs::SizeLimit=200";
 
 /// Mirrors of patches that are good, wrong, missing and merged.
 const PATCHES: [Case; 10] = [

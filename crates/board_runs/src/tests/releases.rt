@@ -34,7 +34,7 @@ const AHEAD: Listing = Listing {
 };
 
 /// Mirrors of Releases by their dates, heads and frames.
-const RELEASES: [Case; 10] = [
+const RELEASES: [Case; 12] = [
     Case {
         mirror: &[
             ("Release", Has::Release(BEFORE)),
@@ -90,6 +90,20 @@ const RELEASES: [Case; 10] = [
     Case {
         mirror: &[("Release", Has::Garbled(7))],
         told: "Keep garbled Release 7 :\nInRelease Release\n",
+        ..PLAIN
+    },
+    Case {
+        mirror: &[("Release", Has::TooBig)],
+        told: "Keep too big 16777216 :\nInRelease Release\n",
+        ..PLAIN
+    },
+    Case {
+        mirror: &[
+            ("InRelease", Has::TooBig),
+            ("Release", Has::Release(OF_ABC)),
+            ("main/binary-amd64/Packages", Has::File(b"abc")),
+        ],
+        told: "Get : 3\nInRelease Release Packages\n",
         ..PLAIN
     },
     Case {

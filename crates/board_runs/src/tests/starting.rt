@@ -49,7 +49,7 @@ pub fn configured(alloc: Global, case: &Case) -> Result<Configured, Fail>
     }
 }
 
-fn bytes(alloc: Global, text: &[u8]) -> Result<Bytes, NoMemory> {
+pub fn bytes(alloc: Global, text: &[u8]) -> Result<Bytes, NoMemory> {
     Ok(Bytes::from(Vec::from_slice(alloc, text)?))
 }
 
@@ -62,7 +62,7 @@ fn options(alloc: Global, lines: &str) -> Result<Row<Text>, NoMemory> {
     Ok(row)
 }
 
-fn name(alloc: Global, text: &str) -> Result<ListName, NoMemory> {
+pub fn name(alloc: Global, text: &str) -> Result<ListName, NoMemory> {
     Ok(ListName(Text::from_bytes(alloc, text.as_bytes())?))
 }
 

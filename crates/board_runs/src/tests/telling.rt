@@ -4,7 +4,7 @@ use super::cases::Case;
 use super::causes::append_cause;
 use super::driver::{Finished, Schedule, finish};
 use super::mirror::below;
-use acq_base::Text;
+use acq_base::{Text, Uri};
 use std::alloc::Global;
 use std::test::Fail;
 use update_model::{Asked, Body, Settled, Verdict2};
@@ -53,7 +53,7 @@ fn append_changes(alloc: Global, text: &mut Text, settled: Option<&Settled>) -> 
 }
 
 /// Appends the size of a list, and whether it lies in memory and not in a partial file.
-fn append_body(alloc: Global, text: &mut Text, body: &Body) -> Result<(), Fail> {
+pub fn append_body(alloc: Global, text: &mut Text, body: &Body) -> Result<(), Fail> {
     let words = match body {
         Body::Bytes(bytes) => {
             let size = bytes.len();
@@ -76,7 +76,7 @@ fn append_asks(alloc: Global, text: &mut Text, asks: &[Asked], source: u32) -> R
             if !first {
                 text.push(b' ')?;
             }
-            append_ask(alloc, text, ask)?;
+            append_ask(alloc, text, &ask.uri, ask.from)?;
             first = false;
         }
     }
@@ -85,16 +85,15 @@ fn append_asks(alloc: Global, text: &mut Text, asks: &[Asked], source: u32) -> R
 }
 
 /// Appends the URI of an ask in short, and from which byte on it asks where that isn't the first.
-fn append_ask(alloc: Global, text: &mut Text, ask: &Asked) -> Result<(), Fail> {
-    let uri = uri_text(alloc, &ask.uri)?;
+pub fn append_ask(alloc: Global, text: &mut Text, uri: &Uri, from: u64) -> Result<(), Fail> {
+    let uri = uri_text(alloc, uri)?;
     let short = below(str::from_utf8(uri.as_bytes())?);
     let short = match short.strip_prefix("main/binary-amd64/") {
         Some(rest) => rest,
         None => short,
     };
     text.append(short.as_bytes())?;
-    if ask.from > 0 {
-        let from = ask.from;
+    if from > 0 {
         text.append(format!(in alloc; "@{from}")?.as_bytes())?;
     }
     Ok(())
