@@ -49,6 +49,7 @@ pub fn configured(alloc: Global, case: &Case) -> Result<Configured, Fail>
     }
 }
 
+/// A text as bytes.
 pub fn bytes(alloc: Global, text: &[u8]) -> Result<Bytes, NoMemory> {
     Ok(Bytes::from(Vec::from_slice(alloc, text)?))
 }
@@ -62,6 +63,7 @@ fn options(alloc: Global, lines: &str) -> Result<Row<Text>, NoMemory> {
     Ok(row)
 }
 
+/// The name of a list.
 pub fn name(alloc: Global, text: &str) -> Result<ListName, NoMemory> {
     Ok(ListName(Text::from_bytes(alloc, text.as_bytes())?))
 }
