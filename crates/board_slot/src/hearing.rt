@@ -4,6 +4,7 @@ ghost use Rattle.std.specs.Prelude.{◌≡◌, ◌<◌, IfOk, OnOk, Ok};
 ghost use Rattle.update_model.specs.Outcomes.{admitted};
 ghost use Rattle.board_model.specs.Slots as model;
 ghost use Rattle.board_source.specs.Listed.{standing_of};
+ghost use Rattle.board_source.specs.Names.{NamesDiffer};
 ghost use Rattle.board_source.specs.Parts.{config_of, found_of};
 ghost use Rattle.acq_base.specs.declared.plan.Source.{Source as AnySource};
 ghost use Rattle.board_slot.specs.Parts.{slot_of};
@@ -27,7 +28,8 @@ pub fn hear_release(
     lane: u32,
     closed: Closed,
 ) -> Result<Slot, NoMemory>
-    requires { judge.now.change ≡ setup.now.change }
+    requires named { NamesDiffer source.now }
+    requires change { judge.now.change ≡ setup.now.change }
     ensures { IfOk result (λ slot. slot_of slot
         ≡ model.heard_at (config_of setup.now) source.now place (record { lane = lane; closed = closed }) (slot_of (slots.Asking asking))) }
 {
@@ -48,7 +50,8 @@ fn after_release(
     source: &Source,
     asking: Asking,
 ) -> Result<Slot, NoMemory>
-    requires { judge.now.change ≡ setup.now.change }
+    requires named { NamesDiffer source.now }
+    requires change { judge.now.change ≡ setup.now.change }
     ensures { IfOk result (λ slot. slot_of slot ≡ model.released (config_of setup.now) source.now asking.old (standing_of asking.release)) }
 {
     if asking.release.ask().is_some() {
@@ -67,7 +70,8 @@ fn listed(
     old: Old,
     end: End,
 ) -> Result<Slot, NoMemory>
-    requires { judge.now.change ≡ setup.now.change }
+    requires named { NamesDiffer source.now }
+    requires change { judge.now.change ≡ setup.now.change }
     ensures { IfOk result (λ slot. slot_of slot ≡ model.listed (config_of setup.now) source.now old
         (admitted end old.release setup.now.settings setup.now.change setup.now.moment)) }
 {
@@ -85,6 +89,7 @@ fn listing(
     old: Old,
     found: Found,
 ) -> Result<Slot, NoMemory>
+    requires { NamesDiffer source.now }
     ensures { IfOk result (λ slot. slot_of slot ≡ model.listed (config_of setup.now) source.now old (Ok (found_of found))) }
 {
     let Begun { lists, there } = begin_lists(alloc, setup, source, old, &found)?;

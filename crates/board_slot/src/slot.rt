@@ -5,6 +5,7 @@ ghost use Rattle.board_model.specs.Boards.{first_release};
 ghost use Rattle.board_model.specs.Settling.{settled_in};
 ghost use Rattle.board_model.specs.Slots as model;
 ghost use Rattle.board_source.specs.Listed.{standing_of, standings};
+ghost use Rattle.board_source.specs.Names.{NamesDiffer};
 ghost use Rattle.board_source.specs.Parts.{config_of};
 ghost use Rattle.board_slot.specs.Parts.{slot_of};
 
@@ -101,7 +102,8 @@ impl Slot {
         lane: u32,
         closed: Closed,
     ) -> Result<Slot, NoMemory>
-        requires { judge.now.change ≡ setup.now.change }
+        requires named { NamesDiffer source.now }
+        requires change { judge.now.change ≡ setup.now.change }
         ensures { IfOk result (λ slot. slot_of slot
             ≡ model.heard_at (config_of setup.now) source.now place (record { lane = lane; closed = closed }) (slot_of self)) }
     {

@@ -2,3 +2,4 @@ pub mod Changes
 pub mod Heads
 pub mod Reasons
 pub mod Rows
+pub mod Taken

@@ -1,7 +1,7 @@
 //! What a run was begun with.
 
-ghost use Rattle.std.specs.Prelude.{◌≡◌};
-ghost use Rattle.board_source.specs.Parts.{config_of};
+ghost use Rattle.std.specs.Prelude.{All};
+ghost use Rattle.board_source.specs.Names.{NamesDiffer};
 
 use acq_base::{ListName, Row, Settings, Source, Text};
 use release_file::Change;
@@ -18,9 +18,13 @@ pub struct Setup {
     pub change: Change,
     /// The moment of the run, in seconds since 1970-01-01 00:00:00 UTC.
     pub moment: i64,
+    ghost named: { All NamesDiffer sources },
 }
 
 impl Setup {
+    ghost use Rattle.std.specs.Prelude.{◌≡◌};
+    ghost use Rattle.board_source.specs.Parts.{config_of};
+
     /// The size of a list's partial file, 0 where there is none.
     pub fn size(&self, name: &ListName) -> u64
         ensures { result ≡ (config_of self.now).sizes name.now.0 }

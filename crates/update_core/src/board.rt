@@ -11,7 +11,9 @@ use crate::beginning::{Beginning, begin, no_verdicts, none_out};
 use crate::jobs::{lane_with, put_out, take_back};
 use crate::sources::Sources;
 use crate::telling::{log, tell};
-use acq_base::{Job, ListName, NoMemory, Old, Plan, Row, Settings, Source, TryCopy};
+use acq_base::{
+    Job, ListName, NoMemory, Old, Plan, Row, Settings, Source, TryCopy, sources_are_planned,
+};
 use board_model::Key;
 use board_slot::list_name;
 use board_source::{Setup, by_name};
@@ -68,6 +70,7 @@ impl Board {
         requires lanes { 1 ≤ lanes }
         ensures { IfOk result (λ board. board_of board ≡ model.first_board (config_for plan parts settings change now) old lanes) }
     {
+        sources_are_planned();
         let setup = Setup {
             sources: plan.sources,
             sizes: by_name(alloc, parts)?,

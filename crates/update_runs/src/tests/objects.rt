@@ -96,7 +96,8 @@ pub fn words(alloc: Global, line: &str) -> Result<Vec<String>, Fail> {
     Ok(words)
 }
 
-fn files(alloc: Global, files: &[File]) -> Result<Row<(Text, Bytes)>, NoMemory> {
+/// Files as objects take them: the name or path of each, and its bytes.
+pub fn files(alloc: Global, files: &[File]) -> Result<Row<(Text, Bytes)>, NoMemory> {
     let mut rows = Row::new(alloc);
     for file in files {
         let name = Text::from_bytes(alloc, file.0.as_bytes())?;
