@@ -1,17 +1,16 @@
 //! A folder of the operating system as a disk.
-ghost use Rattle.std.specs.Prelude.{◌≡◌, ◌≤◌, ◌<◌, ◌^◌, [], length, All, AllPairs, None, true, false, string_bytes, IfOk, IsErr, OnOk, OnErr, IsErrOf, MatchResult};
+ghost use Rattle.std.specs.Prelude.{◌≡◌, ◌≤◌, ◌<◌, ◌^◌, [], length, All, AllPairs, None, false, IfOk, IsErr, OnOk, OnErr, IsErrOf, MatchResult};
 ghost use Rattle.std.proofs.Common.{refl};
 ghost use Rattle.std.specs.Ordering.{nat_cmp};
 ghost use Rattle.std.specs.declared.cmp.Ordering.TheVariants.{Less};
 ghost use Rattle.std.specs.Cmp.Lexicographic.{slice_cmp};
 ghost use Rattle.acq_outside.specs.Count.{Rose};
 ghost use Rattle.acq_outside.specs.Disk.{IsName};
-ghost use Rattle.acq_real.specs.Folder.{IsInside, IsPathInside};
-ghost use Rattle.acq_real.specs.RealDisk.{IsSame, faults_of, folder_of};
+ghost use Rattle.acq_real.specs.Folder.{IsInside};
+ghost use Rattle.acq_real.specs.RealDisk.{faults_of, folder_of};
 
-use crate::folder;
-use crate::listing::{Entry, list};
-use crate::path::{PARTIAL, path_of};
+use crate::listing::list;
+use crate::opened::Kept;
 use acq_base::{Row, Text};
 use acq_outside::{Disk, Fault, HoldError, OutError};
 use std::alloc::{AllocError, Global};
@@ -20,15 +19,15 @@ use std::io;
 use std::io::ErrorKind;
 use std::rt::Files;
 
-/// The file whose lock holds the folder. It is made where it is missing, and never removed.
-const LOCK: &[u8] = b"lock";
+mod calls;
 
 /// A folder of the operating system. It works below that folder alone, and on plain files alone: any other name is a
 /// fault, and so is a folder or a link in place of a file, or in place of `partial` anything but a folder.
 ///
 /// What stands at a path is looked up first and used by a further call of the system. Another process that puts a link
 /// in its place between the two is found out where the file is opened, but not where `partial` is replaced: so nobody
-/// else may be allowed to change the folder.
+/// else may be allowed to change the folder. The file of the last call, in `partial` and beside it, stays open, and is
+/// used again where a path leads to it.
 #[derive(Drop)]
 pub struct RealDisk<R: Drop> {
     rt: R,
@@ -37,6 +36,7 @@ pub struct RealDisk<R: Drop> {
     faults: u64,
     times_held: u64,
     lock: Option<File>,
+    kept: Kept,
 }
 
 impl<R: Files<File = File> + AllocGlobal + Clone + Drop> RealDisk<R> {
@@ -53,6 +53,7 @@ impl<R: Files<File = File> + AllocGlobal + Clone + Drop> RealDisk<R> {
             faults: 0,
             times_held: 0,
             lock: None,
+            kept: Kept::nothing(),
         })
     }
 
@@ -79,114 +80,6 @@ impl<R: Files<File = File> + AllocGlobal + Clone + Drop> RealDisk<R> {
                 Err(Fault)
             }
         }
-    }
-
-    /// The path of a file, once the folders are made.
-    fn path(&mut self, name: &[u8]) -> io::Result<String>
-        ensures same { IsSame self.old self.new }
-        ensures inside { IfOk result (λ path. IsPathInside (folder_of self.old) name.now (string_bytes path)) }
-    {
-        self.make()?;
-        if name.starts_with(PARTIAL) {
-            folder::check_partial(&self.rt, self.rt.alloc(), self.folder.as_str())?;
-        }
-        path_of(self.rt.alloc(), self.folder.as_str(), name)
-    }
-
-    /// Makes the folders, unless that is done. After an error it is still to be done.
-    fn make(&mut self) -> io::Result<()>
-        ensures same { IsSame self.old self.new }
-        ensures made { MatchResult result (λ _. self.new.is_made ≡ true) (λ _. self.new.is_made ≡ self.old.is_made) }
-    {
-        if !self.is_made {
-            folder::make_folders(&self.rt, self.rt.alloc(), self.folder.as_str())?;
-            self.is_made = true;
-        }
-        Ok(())
-    }
-
-    /// Locks the file `lock`, and answers whether no other process has it locked.
-    fn lock_folder(&mut self) -> io::Result<bool>
-        ensures { IsSame self.old self.new }
-    {
-        if self.lock.is_some() {
-            return Ok(true);
-        }
-        let path = self.path(LOCK)?;
-        self.lock = folder::lock(&self.rt, path.as_str())?;
-        Ok(self.lock.is_some())
-    }
-
-    fn entries(&mut self, alloc: Global) -> io::Result<Vec<Entry>>
-        ensures { IsSame self.old self.new }
-    {
-        self.make()?;
-        folder::entries(&self.rt, alloc, self.folder.as_str())
-    }
-
-    fn size_of(&mut self, name: &[u8]) -> io::Result<Option<u64>>
-        ensures same { IsSame self.old self.new }
-        ensures inside { OnOk result (IsInside name.now) }
-    {
-        let path = self.path(name)?;
-        folder::length(&self.rt, path.as_str())
-    }
-
-    fn read(&mut self, name: &[u8], at: u64, out: &mut [u8]) -> io::Result<usize>
-        ensures same { IsSame self.old self.new }
-        ensures inside { OnOk result (IsInside name.now) }
-        ensures within { IfOk result (λ n. n ≤ length out.old) }
-    {
-        let path = self.path(name)?;
-        folder::read_at(&self.rt, path.as_str(), at, out)
-    }
-
-    fn write(&mut self, name: &[u8], at: u64, bytes: &[u8]) -> io::Result<()>
-        ensures same { IsSame self.old self.new }
-        ensures inside { OnOk result (IsInside name.now) }
-    {
-        let path = self.path(name)?;
-        folder::write_at(&self.rt, path.as_str(), at, bytes)
-    }
-
-    fn shorten(&mut self, name: &[u8], len: u64) -> io::Result<()>
-        ensures same { IsSame self.old self.new }
-        ensures inside { OnOk result (IsInside name.now) }
-    {
-        let path = self.path(name)?;
-        folder::cut(&self.rt, path.as_str(), len)
-    }
-
-    fn sync_one(&mut self, name: &[u8]) -> io::Result<()>
-        ensures same { IsSame self.old self.new }
-        ensures inside { OnOk result (IsInside name.now) }
-    {
-        let path = self.path(name)?;
-        folder::sync(&self.rt, path.as_str())
-    }
-
-    fn sync_all(&mut self) -> io::Result<()>
-        ensures { IsSame self.old self.new }
-    {
-        self.make()?;
-        folder::sync_names(&self.rt, self.rt.alloc(), self.folder.as_str())
-    }
-
-    fn move_one(&mut self, from: &[u8], to: &[u8]) -> io::Result<()>
-        ensures same { IsSame self.old self.new }
-        ensures inside { OnOk result (IsInside from.now × IsInside to.now) }
-    {
-        let from = self.path(from)?;
-        let to = self.path(to)?;
-        folder::rename(&self.rt, from.as_str(), to.as_str())
-    }
-
-    fn remove_one(&mut self, name: &[u8]) -> io::Result<()>
-        ensures same { IsSame self.old self.new }
-        ensures inside { OnOk result (IsInside name.now) }
-    {
-        let path = self.path(name)?;
-        folder::remove(&self.rt, path.as_str())
     }
 }
 

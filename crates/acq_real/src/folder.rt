@@ -3,12 +3,12 @@ ghost use Rattle.std.specs.Prelude.{◌≤◌, length, IfOk};
 
 use crate::answer::{check_folder, plain_length, unless};
 use crate::listing::Entry;
-use crate::path::PARTIAL;
+use crate::opened::{Kept, Node, Opened, node_of, open, serving};
 use acq_base::Text;
 use std::alloc::Global;
-use std::fs::{File, Metadata, OpenOptions, TryLockError};
+use std::fs::{File, Metadata, TryLockError};
 use std::io::ErrorKind;
-use std::os::unix::fs::{FileExt, MetadataExt};
+use std::os::unix::fs::FileExt;
 use std::rt::Files;
 use std::{fs, io};
 
@@ -44,10 +44,34 @@ pub fn check_partial(rt: &impl Files, alloc: Global, folder: &str) -> io::Result
 
 /// Makes the changes of names in the folder and in `partial` lasting: the folder's first, so that a crash between the two
 /// never takes a file that moved out of `partial` from both.
-pub fn sync_names(rt: &impl Files<File = File>, alloc: Global, folder: &str) -> io::Result<()> {
-    check_partial(rt, alloc, folder)?;
-    sync_folder(rt, folder)?;
-    sync_folder(rt, partial_path(alloc, folder)?.as_str())
+pub fn sync_names(
+    rt: &impl Files<File = File>,
+    alloc: Global,
+    kept: &mut Kept,
+    folder: &str,
+) -> io::Result<()> {
+    let partial = partial_path(alloc, folder)?;
+    let found = fs::symlink_metadata(rt, partial.as_str())?;
+    check_folder(&found)?;
+    let is = node_of(&fs::metadata(rt, folder)?);
+    sync_found(rt, &mut kept.folder, folder, is)?;
+    sync_found(rt, &mut kept.partial, partial.as_str(), node_of(&found))
+}
+
+/// Makes the changes of names in the folder that was found at a path lasting.
+fn sync_found(
+    rt: &impl Files<File = File>,
+    kept: &mut Option<Opened>,
+    path: &str,
+    found: Node,
+) -> io::Result<()> {
+    let opened = match serving(kept.take(), found, false) {
+        Some(opened) => opened,
+        None => open(rt, path, found, false)?,
+    };
+    let done = opened.file.sync_all();
+    *kept = Some(opened);
+    done
 }
 
 /// What is at a path, `None` where nothing is. No link is followed.
@@ -56,7 +80,7 @@ fn find(rt: &impl Files, path: &str) -> io::Result<Option<Metadata>> {
 }
 
 /// The plain file at a path, `None` where nothing is. Anything else there is an error.
-fn find_plain(rt: &impl Files, path: &str) -> io::Result<Option<Metadata>> {
+pub fn find_plain(rt: &impl Files, path: &str) -> io::Result<Option<Metadata>> {
     let found = find(rt, path)?;
     if let Some(found) = &found {
         plain_length(found)?;
@@ -72,83 +96,19 @@ pub fn length(rt: &impl Files, path: &str) -> io::Result<Option<u64>> {
     }
 }
 
-/// Opens the file that was found at a path. Where the path leads to another one by now, as by a link, it is an error.
-fn open_found(
-    rt: &impl Files<File = File>,
-    how: &OpenOptions,
-    path: &str,
-    found: &Metadata,
-) -> io::Result<File> {
-    let file = how.open(rt, path)?;
-    let opened = file.metadata()?;
-    if opened.dev() == found.dev() && opened.ino() == found.ino() {
-        Ok(file)
-    } else {
-        Err(io::Error::from(ErrorKind::InvalidFilename))
-    }
-}
-
-fn open_to_read(rt: &impl Files<File = File>, path: &str, found: &Metadata) -> io::Result<File> {
-    let mut how = OpenOptions::new();
-    how.read(true);
-    open_found(rt, &how, path, found)
-}
-
-fn open_to_write(rt: &impl Files<File = File>, path: &str, found: &Metadata) -> io::Result<File> {
-    let mut how = OpenOptions::new();
-    how.write(true);
-    open_found(rt, &how, path, found)
-}
-
-/// Reads bytes of a file into the front of `out` and answers how many.
-pub fn read_at(
-    rt: &impl Files<File = File>,
-    path: &str,
-    at: u64,
-    out: &mut [u8],
-) -> io::Result<usize>
-    ensures { IfOk result (λ n. n ≤ length out.old) }
-{
-    match find_plain(rt, path)? {
-        Some(found) if at < found.len() => read_some(&open_to_read(rt, path, &found)?, at, out),
-        _ => Ok(0),
-    }
-}
-
-/// One read that a signal doesn't end.
+/// One read that a signal doesn't end. No file has a byte from 2^63 on.
 pub fn read_some(file: &File, at: u64, out: &mut [u8]) -> io::Result<usize>
     ensures { IfOk result (λ n. n ≤ length out.old) }
 {
+    if i64::try_from(at).is_err() {
+        return Ok(0);
+    }
     for _ in 0..u64::MAX {
         if let Some(n) = unless(ErrorKind::Interrupted, file.read_at(out, at))? {
             return Ok(n);
         }
     }
     Err(io::Error::from(ErrorKind::Interrupted))
-}
-
-/// Writes bytes within a file or at its end.
-pub fn write_at(rt: &impl Files<File = File>, path: &str, at: u64, bytes: &[u8]) -> io::Result<()> {
-    match find_plain(rt, path)? {
-        Some(found) => open_to_write(rt, path, &found)?.write_all_at(bytes, at),
-        None => Err(io::Error::from(ErrorKind::NotFound)),
-    }
-}
-
-/// Cuts a file to a length, an absent one being made first.
-pub fn cut(rt: &impl Files<File = File>, path: &str, len: u64) -> io::Result<()> {
-    match find_plain(rt, path)? {
-        Some(found) => open_to_write(rt, path, &found)?.set_len(len),
-        None => File::create_new(rt, path)?.set_len(len),
-    }
-}
-
-/// Makes a file's bytes lasting.
-pub fn sync(rt: &impl Files<File = File>, path: &str) -> io::Result<()> {
-    match find_plain(rt, path)? {
-        Some(found) => open_to_read(rt, path, &found)?.sync_all(),
-        None => Ok(()),
-    }
 }
 
 /// Moves a file to another path, in place of what is there.
@@ -174,7 +134,7 @@ fn open_or_make(rt: &impl Files<File = File>, path: &str) -> io::Result<File> {
         return Ok(made);
     }
     match find_plain(rt, path)? {
-        Some(found) => open_to_write(rt, path, &found),
+        Some(found) => Ok(open(rt, path, node_of(&found), true)?.file),
         None => Err(io::Error::from(ErrorKind::NotFound)),
     }
 }

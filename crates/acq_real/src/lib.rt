@@ -21,6 +21,7 @@ mod etc_folder;
 mod etc_tests;
 mod folder;
 mod listing;
+mod opened;
 mod path;
 mod sink;
 #[cfg(test)]

@@ -12,6 +12,11 @@ use std::io::ErrorKind;
 /// The folder of lists on their way, as it stands before their names.
 pub const PARTIAL: &[u8] = b"partial/";
 
+/// Whether a file of this name lies in `partial`.
+pub fn is_partial(name: &[u8]) -> bool {
+    name.starts_with(PARTIAL)
+}
+
 /// The path of a file of this name. A name that may lead out of the folder is refused, and one that isn't UTF-8.
 pub fn path_of(alloc: Global, folder: &str, name: &[u8]) -> io::Result<String>
     ensures inside { IfOk result (λ path. IsPathInside folder.now name.now (string_bytes path)) }

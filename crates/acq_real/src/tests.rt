@@ -51,10 +51,10 @@ fn own_path(rt: &HostRuntime, name: &str) -> Result<String, Fail> {
 }
 
 #[test]
-fn a_real_disk_writes_reads_moves_and_removes(rt: HostRuntime) -> Result<(), Fail> {
+fn a_real_disk_writes_reads_and_moves(rt: HostRuntime) -> Result<(), Fail> {
     let alloc = rt.alloc();
-    assert!(rt; is_name(LIST) && is_name(OTHER) && is_name(PARTIAL));
-    let folder = own_path(&rt, "disk")?;
+    assert!(rt; is_name(LIST) && is_name(PARTIAL));
+    let folder = own_path(&rt, "moves")?;
     let mut disk = RealDisk::new(alloc, rt.clone()?, folder.as_str())?;
     assert_eq!(rt; disk.size(LIST), Ok(None));
     write_whole(&mut disk, PARTIAL, b"abcde")?;
@@ -63,9 +63,24 @@ fn a_real_disk_writes_reads_moves_and_removes(rt: HostRuntime) -> Result<(), Fai
     assert_eq!(rt; piece, *b"de\0");
     disk.rename(PARTIAL, LIST)?;
     disk.sync_names()?;
-    assert_eq!(rt; disk.size(PARTIAL), Ok(None));
+    assert_eq!(rt;
+        (disk.size(PARTIAL), disk.size(LIST)),
+        (Ok(None), Ok(Some(5)))
+    );
+    assert_eq!(rt; disk.faults(), 0);
+    fs::remove_dir_all(&rt, folder.as_str())?;
+    Ok(())
+}
+
+#[test]
+fn a_real_disk_lists_changes_and_removes(rt: HostRuntime) -> Result<(), Fail> {
+    let alloc = rt.alloc();
+    assert!(rt; is_name(LIST) && is_name(OTHER) && is_name(PARTIAL));
+    let folder = own_path(&rt, "changes")?;
+    let mut disk = RealDisk::new(alloc, rt.clone()?, folder.as_str())?;
     write_whole(&mut disk, PARTIAL, b"")?;
     write_whole(&mut disk, OTHER, b"")?;
+    write_whole(&mut disk, LIST, b"abcde")?;
     assert_eq!(rt;
         disk.names(alloc)?,
         names_of(alloc, &[OTHER, LIST, PARTIAL])?
@@ -136,6 +151,44 @@ fn what_is_no_plain_file_and_a_name_outside_are_faults(rt: HostRuntime) -> Resul
     assert_eq!(rt; disk.names(alloc)?, names_of(alloc, &[OTHER])?);
     let outside = fs::read(&rt, format!(in alloc; "{own}/outside")?.as_str())?;
     assert_eq!(rt; outside.as_slice(), b"old".as_slice());
+    fs::remove_dir_all(&rt, own.as_str())?;
+    Ok(())
+}
+
+#[test]
+fn what_stays_open_serves_the_paths_that_lead_to_it(rt: HostRuntime) -> Result<(), Fail> {
+    let alloc = rt.alloc();
+    assert!(rt; is_name(LIST) && is_name(OTHER));
+    let (own, folder) = disk_beside_a_list(&rt, "open")?;
+    let outside = format!(in alloc; "{own}/outside")?;
+    let list = format!(in alloc; "{folder}/a_list")?;
+    let mut disk = RealDisk::new(alloc, rt.clone()?, folder.as_str())?;
+    let mut piece = [0u8; 3];
+    write_whole(&mut disk, LIST, b"new")?;
+    // Another file in its place.
+    fs::rename(&rt, outside.as_str(), list.as_str())?;
+    assert_eq!(rt; disk.read_at(LIST, 0, &mut piece), Ok(3));
+    assert_eq!(rt; piece, *b"old");
+    // A link to the file that is open, and nothing.
+    fs::rename(&rt, list.as_str(), outside.as_str())?;
+    symlink(&rt, outside.as_str(), list.as_str())?;
+    assert_eq!(rt; disk.read_at(LIST, 0, &mut piece), Err(Fault));
+    assert_eq!(rt; disk.cut(LIST, 0), Err(Fault));
+    fs::remove_file(&rt, list.as_str())?;
+    assert_eq!(rt; disk.write_at(LIST, 0, b"new"), Err(Fault));
+    assert_eq!(rt;
+        (disk.faults(), disk.read_at(LIST, 0, &mut piece)),
+        (3, Ok(0))
+    );
+    // A folder that was made anew.
+    let partial = format!(in alloc; "{folder}/partial")?;
+    disk.sync_names()?;
+    fs::remove_dir(&rt, partial.as_str())?;
+    assert_eq!(rt; disk.sync_names(), Err(Fault));
+    fs::create_dir(&rt, partial.as_str())?;
+    assert_eq!(rt; (disk.sync_names(), disk.faults()), (Ok(()), 4));
+    let left = fs::read(&rt, outside.as_str())?;
+    assert_eq!(rt; left.as_slice(), b"old".as_slice());
     fs::remove_dir_all(&rt, own.as_str())?;
     Ok(())
 }
