@@ -3,7 +3,7 @@ ghost use Rattle.std.specs.Prelude.{◌≤◌, length, IfOk};
 
 use crate::answer::{check_folder, plain_length, unless};
 use crate::listing::Entry;
-use crate::opened::{Kept, Node, Opened, node_of, open, serving};
+use crate::opened::{Kept, Node, OpenFolder, node_of, open_folder, open_found, still};
 use acq_base::Text;
 use std::alloc::Global;
 use std::fs::{File, Metadata, TryLockError};
@@ -61,16 +61,16 @@ pub fn sync_names(
 /// Makes the changes of names in the folder that was found at a path lasting.
 fn sync_found(
     rt: &impl Files<File = File>,
-    kept: &mut Option<Opened>,
+    kept: &mut Option<OpenFolder>,
     path: &str,
     found: Node,
 ) -> io::Result<()> {
-    let opened = match serving(kept.take(), found, false) {
-        Some(opened) => opened,
-        None => open(rt, path, found, false)?,
+    let open = match still(kept.take(), found) {
+        Some(open) => open,
+        None => open_folder(rt, path, found)?,
     };
-    let done = opened.file.sync_all();
-    *kept = Some(opened);
+    let done = open.folder.sync_all();
+    *kept = Some(open);
     done
 }
 
@@ -96,11 +96,11 @@ pub fn length(rt: &impl Files, path: &str) -> io::Result<Option<u64>> {
     }
 }
 
-/// One read that a signal doesn't end. No file has a byte from 2^63 on.
+/// One read that a signal doesn't end. The system takes no place from 2^63 on, and no file has a byte there.
 pub fn read_some(file: &File, at: u64, out: &mut [u8]) -> io::Result<usize>
     ensures { IfOk result (λ n. n ≤ length out.old) }
 {
-    if i64::try_from(at).is_err() {
+    if i64::try_from(at.saturating_add(out.len() as u64)).is_err() {
         return Ok(0);
     }
     for _ in 0..u64::MAX {
@@ -134,7 +134,7 @@ fn open_or_make(rt: &impl Files<File = File>, path: &str) -> io::Result<File> {
         return Ok(made);
     }
     match find_plain(rt, path)? {
-        Some(found) => Ok(open(rt, path, node_of(&found), true)?.file),
+        Some(found) => open_found(rt, path, node_of(&found), true),
         None => Err(io::Error::from(ErrorKind::NotFound)),
     }
 }

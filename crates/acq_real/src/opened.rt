@@ -1,5 +1,5 @@
-//! Files and folders that stay open from one call to the next. What is open serves a path only where the path leads to it.
-ghost use Rattle.std.specs.Prelude.{◌≡◌, true, IfOk, IfSome};
+//! Files and folders that stay open from one call to the next.
+ghost use Rattle.std.specs.Prelude.{◌≡◌, string_bytes, true, IfOk, IfSome};
 
 use std::fs::{File, Metadata, OpenOptions};
 use std::io;
@@ -14,22 +14,29 @@ pub struct Node {
     number: u64,
 }
 
-/// What is open.
+/// A file that is open, and the path by which it was opened.
 #[derive(Drop)]
-pub struct Opened {
+pub struct OpenFile {
     pub file: File,
-    node: Node,
+    path: String,
     is_to_write: bool,
+}
+
+/// A folder that is open.
+#[derive(Drop)]
+pub struct OpenFolder {
+    pub folder: File,
+    node: Node,
 }
 
 /// What a disk has open: the last file in `partial` that a call used and the last one beside it, and, once its names were
 /// synced, its two folders.
 #[derive(Drop)]
 pub struct Kept {
-    in_partial: Option<Opened>,
-    beside: Option<Opened>,
-    pub folder: Option<Opened>,
-    pub partial: Option<Opened>,
+    in_partial: Option<OpenFile>,
+    beside: Option<OpenFile>,
+    pub folder: Option<OpenFolder>,
+    pub partial: Option<OpenFolder>,
 }
 
 impl Kept {
@@ -44,7 +51,7 @@ impl Kept {
     }
 
     /// Takes the last file in `partial`, or the last one beside it.
-    pub fn take(&mut self, in_partial: bool) -> Option<Opened> {
+    pub fn take(&mut self, in_partial: bool) -> Option<OpenFile> {
         if in_partial {
             self.in_partial.take()
         } else {
@@ -53,11 +60,19 @@ impl Kept {
     }
 
     /// Keeps a file open until another one in `partial`, or beside it, takes its place.
-    pub fn keep(&mut self, in_partial: bool, file: Opened) {
+    pub fn keep(&mut self, in_partial: bool, file: OpenFile) {
         if in_partial {
             self.in_partial = Some(file);
         } else {
             self.beside = Some(file);
+        }
+    }
+
+    /// Closes the file of a path, if it is open, since the path is about to lead to another one or to none.
+    pub fn forget(&mut self, in_partial: bool, path: &str) {
+        match self.take(in_partial) {
+            Some(open) if open.path.as_str() != path => self.keep(in_partial, open),
+            _ => {}
         }
     }
 }
@@ -70,53 +85,83 @@ pub fn node_of(found: &Metadata) -> Node {
     }
 }
 
-/// What is open, if it is what was found and may be used so.
-pub fn serving(kept: Option<Opened>, found: Node, to_write: bool) -> Option<Opened>
-    ensures found { IfSome result (λ opened. opened.node ≡ found) }
+/// The file that is open, if it was opened by this path and may be used so.
+pub fn serving(kept: Option<OpenFile>, path: &str, to_write: bool) -> Option<OpenFile>
+    ensures path { IfSome result (λ opened. string_bytes opened.path ≡ path.now) }
     ensures to_write { to_write ≡ true → IfSome result (λ opened. opened.is_to_write ≡ true) }
 {
     match kept {
-        Some(kept) if kept.node == found && (kept.is_to_write || !to_write) => Some(kept),
+        Some(open) if open.path.as_str() == path && (open.is_to_write || !to_write) => Some(open),
         _ => None,
     }
 }
 
-/// Opens what was found at a path, to be read, and to be written where `to_write` says so. Where the path leads to
-/// something else by now, as by a link, it is an error.
-pub fn open(
+/// The folder that is open, if it is the one that was found.
+pub fn still(kept: Option<OpenFolder>, found: Node) -> Option<OpenFolder>
+    ensures found { IfSome result (λ opened. opened.node ≡ found) }
+{
+    match kept {
+        Some(open) if open.node == found => Some(open),
+        _ => None,
+    }
+}
+
+/// Opens the file that was found at a path, to be read, and to be written where `to_write` says so.
+pub fn open_file(
+    rt: &impl Files<File = File>,
+    path: String,
+    found: Node,
+    to_write: bool,
+) -> io::Result<OpenFile>
+    ensures path { IfOk result (λ opened. opened.path ≡ path) }
+    ensures to_write { IfOk result (λ opened. opened.is_to_write ≡ to_write) }
+{
+    let file = open_found(rt, path.as_str(), found, to_write)?;
+    Ok(OpenFile {
+        file,
+        path,
+        is_to_write: to_write,
+    })
+}
+
+/// Makes a file where nothing has the path, and opens it to be read and written.
+pub fn create(rt: &impl Files<File = File>, path: String) -> io::Result<OpenFile>
+    ensures path { IfOk result (λ opened. opened.path ≡ path) }
+    ensures to_write { IfOk result (λ opened. opened.is_to_write ≡ true) }
+{
+    let file = File::create_new(rt, path.as_str())?;
+    Ok(OpenFile {
+        file,
+        path,
+        is_to_write: true,
+    })
+}
+
+/// Opens the folder that was found at a path.
+pub fn open_folder(rt: &impl Files<File = File>, path: &str, found: Node) -> io::Result<OpenFolder>
+    ensures { IfOk result (λ opened. opened.node ≡ found) }
+{
+    let folder = open_found(rt, path, found, false)?;
+    Ok(OpenFolder {
+        folder,
+        node: found,
+    })
+}
+
+/// Opens what was found at a path. Where the path leads to something else by now, as by a link, it is an error.
+pub fn open_found(
     rt: &impl Files<File = File>,
     path: &str,
     found: Node,
     to_write: bool,
-) -> io::Result<Opened>
-    ensures found { IfOk result (λ opened. opened.node ≡ found) }
-    ensures to_write { IfOk result (λ opened. opened.is_to_write ≡ to_write) }
-{
+) -> io::Result<File> {
     let mut how = OpenOptions::new();
     how.read(true);
     how.write(to_write);
-    let opened = opened_as(how.open(rt, path)?, to_write)?;
-    if opened.node == found {
-        Ok(opened)
+    let file = how.open(rt, path)?;
+    if node_of(&file.metadata()?) == found {
+        Ok(file)
     } else {
         Err(io::Error::from(ErrorKind::InvalidFilename))
     }
-}
-
-/// Makes a file where nothing has the path, and opens it to be read and written.
-pub fn create(rt: &impl Files<File = File>, path: &str) -> io::Result<Opened>
-    ensures { IfOk result (λ opened. opened.is_to_write ≡ true) }
-{
-    opened_as(File::create_new(rt, path)?, true)
-}
-
-fn opened_as(file: File, is_to_write: bool) -> io::Result<Opened>
-    ensures { IfOk result (λ opened. opened.is_to_write ≡ is_to_write) }
-{
-    let node = node_of(&file.metadata()?);
-    Ok(Opened {
-        file,
-        node,
-        is_to_write,
-    })
 }

@@ -156,40 +156,57 @@ fn what_is_no_plain_file_and_a_name_outside_are_faults(rt: HostRuntime) -> Resul
 }
 
 #[test]
-fn what_stays_open_serves_the_paths_that_lead_to_it(rt: HostRuntime) -> Result<(), Fail> {
+fn a_file_stays_open_until_it_is_moved_replaced_or_removed(rt: HostRuntime) -> Result<(), Fail> {
     let alloc = rt.alloc();
     assert!(rt; is_name(LIST) && is_name(OTHER));
     let (own, folder) = disk_beside_a_list(&rt, "open")?;
-    let outside = format!(in alloc; "{own}/outside")?;
-    let list = format!(in alloc; "{folder}/a_list")?;
     let mut disk = RealDisk::new(alloc, rt.clone()?, folder.as_str())?;
     let mut piece = [0u8; 3];
-    write_whole(&mut disk, LIST, b"new")?;
+    write_whole(&mut disk, OTHER, b"two")?;
+    write_whole(&mut disk, LIST, b"one")?;
     // Another file in its place.
-    fs::rename(&rt, outside.as_str(), list.as_str())?;
+    disk.rename(OTHER, LIST)?;
     assert_eq!(rt; disk.read_at(LIST, 0, &mut piece), Ok(3));
-    assert_eq!(rt; piece, *b"old");
-    // A link to the file that is open, and nothing.
-    fs::rename(&rt, list.as_str(), outside.as_str())?;
-    symlink(&rt, outside.as_str(), list.as_str())?;
-    assert_eq!(rt; disk.read_at(LIST, 0, &mut piece), Err(Fault));
-    assert_eq!(rt; disk.cut(LIST, 0), Err(Fault));
-    fs::remove_file(&rt, list.as_str())?;
+    assert_eq!(rt; piece, *b"two");
+    // Moved, and removed and made anew.
+    disk.rename(LIST, OTHER)?;
+    assert_eq!(rt; disk.read_at(LIST, 0, &mut piece), Ok(0));
     assert_eq!(rt; disk.write_at(LIST, 0, b"new"), Err(Fault));
-    assert_eq!(rt;
-        (disk.faults(), disk.read_at(LIST, 0, &mut piece)),
-        (3, Ok(0))
-    );
-    // A folder that was made anew.
+    disk.cut(OTHER, 1)?;
+    disk.remove(OTHER)?;
+    disk.cut(OTHER, 2)?;
+    assert_eq!(rt; disk.read_at(OTHER, 0, &mut piece), Ok(2));
+    assert_eq!(rt; piece, *b"\0\0o");
+    // A link that somebody put in its place, once another file was opened.
+    write_whole(&mut disk, LIST, b"new")?;
+    let link = format!(in alloc; "{folder}/Another")?;
+    fs::remove_file(&rt, link.as_str())?;
+    symlink(
+        &rt,
+        format!(in alloc; "{own}/outside")?.as_str(),
+        link.as_str(),
+    )?;
+    assert_eq!(rt; disk.read_at(OTHER, 0, &mut piece), Err(Fault));
+    assert_eq!(rt; (disk.cut(OTHER, 0), disk.faults()), (Err(Fault), 3));
+    let outside = fs::read(&rt, format!(in alloc; "{own}/outside")?.as_str())?;
+    assert_eq!(rt; outside.as_slice(), b"old".as_slice());
+    fs::remove_dir_all(&rt, own.as_str())?;
+    Ok(())
+}
+
+#[test]
+fn names_are_synced_in_the_folders_that_stand(rt: HostRuntime) -> Result<(), Fail> {
+    let alloc = rt.alloc();
+    let folder = own_path(&rt, "folders")?;
+    let mut disk = RealDisk::new(alloc, rt.clone()?, folder.as_str())?;
     let partial = format!(in alloc; "{folder}/partial")?;
     disk.sync_names()?;
     fs::remove_dir(&rt, partial.as_str())?;
     assert_eq!(rt; disk.sync_names(), Err(Fault));
+    // A folder that was made anew.
     fs::create_dir(&rt, partial.as_str())?;
-    assert_eq!(rt; (disk.sync_names(), disk.faults()), (Ok(()), 4));
-    let left = fs::read(&rt, outside.as_str())?;
-    assert_eq!(rt; left.as_slice(), b"old".as_slice());
-    fs::remove_dir_all(&rt, own.as_str())?;
+    assert_eq!(rt; (disk.sync_names(), disk.faults()), (Ok(()), 1));
+    fs::remove_dir_all(&rt, folder.as_str())?;
     Ok(())
 }
 

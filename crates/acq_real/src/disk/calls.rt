@@ -6,7 +6,7 @@ ghost use Rattle.acq_real.specs.RealDisk.{IsSame, folder_of};
 use super::RealDisk;
 use crate::folder;
 use crate::listing::Entry;
-use crate::opened::{Opened, create, node_of, open, serving};
+use crate::opened::{OpenFile, create, node_of, open_file, serving};
 use crate::path::{is_partial, path_of};
 use std::alloc::Global;
 use std::fs::File;
@@ -47,21 +47,20 @@ impl<R: Files<File = File> + AllocGlobal + Clone + Drop> RealDisk<R> {
     }
 
     /// Opens a file, unless it is open already. Where nothing has the name it is `None`.
-    fn open(&mut self, name: &[u8], to_write: bool) -> io::Result<Option<Opened>>
+    fn open(&mut self, name: &[u8], to_write: bool) -> io::Result<Option<OpenFile>>
         ensures same { IsSame self.old self.new }
         ensures inside { OnOk result (IsInside name.now) }
     {
         let path = self.path(name)?;
-        let Some(found) = folder::find_plain(&self.rt, path.as_str())? else {
-            self.check(name)?;
-            return Ok(None);
-        };
-        let found = node_of(&found);
-        if let Some(kept) = serving(self.kept.take(is_partial(name)), found, to_write) {
-            return Ok(Some(kept));
+        let kept = self.kept.take(is_partial(name));
+        if let Some(open) = serving(kept, path.as_str(), to_write) {
+            return Ok(Some(open));
         }
         self.check(name)?;
-        Ok(Some(open(&self.rt, path.as_str(), found, to_write)?))
+        match folder::find_plain(&self.rt, path.as_str())? {
+            Some(found) => Ok(Some(open_file(&self.rt, path, node_of(&found), to_write)?)),
+            None => Ok(None),
+        }
     }
 
     /// Makes the folders, unless that is done. After an error it is still to be done.
@@ -108,11 +107,11 @@ impl<R: Files<File = File> + AllocGlobal + Clone + Drop> RealDisk<R> {
         ensures inside { OnOk result (IsInside name.now) }
         ensures within { IfOk result (λ n. n ≤ length out.old) }
     {
-        let Some(opened) = self.open(name, false)? else {
+        let Some(open) = self.open(name, false)? else {
             return Ok(0);
         };
-        let done = folder::read_some(&opened.file, at, out);
-        self.kept.keep(is_partial(name), opened);
+        let done = folder::read_some(&open.file, at, out);
+        self.kept.keep(is_partial(name), open);
         done
     }
 
@@ -120,11 +119,11 @@ impl<R: Files<File = File> + AllocGlobal + Clone + Drop> RealDisk<R> {
         ensures same { IsSame self.old self.new }
         ensures inside { OnOk result (IsInside name.now) }
     {
-        let Some(opened) = self.open(name, true)? else {
+        let Some(open) = self.open(name, true)? else {
             return Err(io::Error::from(ErrorKind::NotFound));
         };
-        let done = opened.file.write_all_at(bytes, at);
-        self.kept.keep(is_partial(name), opened);
+        let done = open.file.write_all_at(bytes, at);
+        self.kept.keep(is_partial(name), open);
         done
     }
 
@@ -133,15 +132,15 @@ impl<R: Files<File = File> + AllocGlobal + Clone + Drop> RealDisk<R> {
         ensures same { IsSame self.old self.new }
         ensures inside { OnOk result (IsInside name.now) }
     {
-        let opened = match self.open(name, true)? {
-            Some(opened) => opened,
+        let open = match self.open(name, true)? {
+            Some(open) => open,
             None => {
                 let path = self.path(name)?;
-                create(&self.rt, path.as_str())?
+                create(&self.rt, path)?
             }
         };
-        let done = opened.file.set_len(len);
-        self.kept.keep(is_partial(name), opened);
+        let done = open.file.set_len(len);
+        self.kept.keep(is_partial(name), open);
         done
     }
 
@@ -149,11 +148,11 @@ impl<R: Files<File = File> + AllocGlobal + Clone + Drop> RealDisk<R> {
         ensures same { IsSame self.old self.new }
         ensures inside { OnOk result (IsInside name.now) }
     {
-        let Some(opened) = self.open(name, false)? else {
+        let Some(open) = self.open(name, false)? else {
             return Ok(());
         };
-        let done = opened.file.sync_all();
-        self.kept.keep(is_partial(name), opened);
+        let done = open.file.sync_all();
+        self.kept.keep(is_partial(name), open);
         done
     }
 
@@ -173,9 +172,12 @@ impl<R: Files<File = File> + AllocGlobal + Clone + Drop> RealDisk<R> {
         ensures same { IsSame self.old self.new }
         ensures inside { OnOk result (IsInside from.now × IsInside to.now) }
     {
-        drop(self.kept.take(is_partial(from)));
+        let from_partial = is_partial(from);
+        let to_partial = is_partial(to);
         let from = self.checked_path(from)?;
         let to = self.checked_path(to)?;
+        self.kept.forget(from_partial, from.as_str());
+        self.kept.forget(to_partial, to.as_str());
         folder::rename(&self.rt, from.as_str(), to.as_str())
     }
 
@@ -183,8 +185,8 @@ impl<R: Files<File = File> + AllocGlobal + Clone + Drop> RealDisk<R> {
         ensures same { IsSame self.old self.new }
         ensures inside { OnOk result (IsInside name.now) }
     {
-        drop(self.kept.take(is_partial(name)));
         let path = self.checked_path(name)?;
+        self.kept.forget(is_partial(name), path.as_str());
         folder::remove(&self.rt, path.as_str())
     }
 }
