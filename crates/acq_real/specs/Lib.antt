@@ -7,4 +7,5 @@ pub mod RealEtc
 pub mod RealTree
 -- Cited by this crate's own functions alone, but for what RealSink shows.
 pub mod Answer
+pub mod Opened
 pub mod RealSink

@@ -26,9 +26,9 @@ mod calls;
 ///
 /// What stands at a path is looked up first and used by a further call of the system. Another process that puts a link
 /// in its place between the two is found out where the file is opened, but not where `partial` is replaced: so nobody
-/// else may be allowed to change the folder. The file of the last call, in `partial` and beside it, stays open and serves
-/// the calls with its name, until one with another name opens a file or the disk moves it, puts one in its place or removes
-/// it.
+/// else may be allowed to change the folder. The file in `partial` that was last read, written, cut or synced, and the last
+/// one beside it, stay open and serve the next such calls with their names, until such a call has another name or fails, or
+/// the disk moves the file, puts one in its place or removes it.
 #[derive(Drop)]
 pub struct RealDisk<R: Drop> {
     rt: R,

@@ -53,8 +53,8 @@ pub fn sync_names(
     let partial = partial_path(alloc, folder)?;
     let found = fs::symlink_metadata(rt, partial.as_str())?;
     check_folder(&found)?;
-    let is = node_of(&fs::metadata(rt, folder)?);
-    sync_found(rt, &mut kept.folder, folder, is)?;
+    let node = node_of(&fs::metadata(rt, folder)?);
+    sync_found(rt, &mut kept.folder, folder, node)?;
     sync_found(rt, &mut kept.partial, partial.as_str(), node_of(&found))
 }
 
@@ -69,9 +69,9 @@ fn sync_found(
         Some(open) => open,
         None => open_folder(rt, path, found)?,
     };
-    let done = open.folder.sync_all();
+    open.folder.sync_all()?;
     *kept = Some(open);
-    done
+    Ok(())
 }
 
 /// What is at a path, `None` where nothing is. No link is followed.

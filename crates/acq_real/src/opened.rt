@@ -1,5 +1,6 @@
 //! Files and folders that stay open from one call to the next.
-ghost use Rattle.std.specs.Prelude.{◌≡◌, string_bytes, true, IfOk, IfSome};
+ghost use Rattle.std.specs.Prelude.{◌≡◌, ◌≢◌, string_bytes, true, IfOk, IfSome, Some};
+ghost use Rattle.acq_real.specs.Opened.{IsClosed, StaysClosed, opened_by};
 
 use std::fs::{File, Metadata, OpenOptions};
 use std::io;
@@ -29,8 +30,8 @@ pub struct OpenFolder {
     node: Node,
 }
 
-/// What a disk has open: the last file in `partial` that a call used and the last one beside it, and, once its names were
-/// synced, its two folders.
+/// What a disk keeps open: the file in `partial` that was last read, written, cut or synced and the last one beside it, and,
+/// once its names were synced, its two folders.
 #[derive(Drop)]
 pub struct Kept {
     in_partial: Option<OpenFile>,
@@ -69,11 +70,23 @@ impl Kept {
     }
 
     /// Closes the file of a path, if it is open, since the path is about to lead to another one or to none.
-    pub fn forget(&mut self, in_partial: bool, path: &str) {
-        match self.take(in_partial) {
-            Some(open) if open.path.as_str() != path => self.keep(in_partial, open),
-            _ => {}
-        }
+    pub fn forget(&mut self, path: &str)
+        ensures closed { IsClosed self.new path.now }
+        ensures stays { StaysClosed self.old self.new }
+    {
+        self.in_partial = elsewhere(self.in_partial.take(), path);
+        self.beside = elsewhere(self.beside.take(), path);
+    }
+}
+
+/// The file that is open, unless it was opened by this path.
+fn elsewhere(kept: Option<OpenFile>, path: &str) -> Option<OpenFile>
+    ensures other { IfSome result (λ opened. opened_by opened ≢ path.now) }
+    ensures same { IfSome result (λ opened. kept ≡ Some opened) }
+{
+    match kept {
+        Some(open) if open.path.as_str() != path => Some(open),
+        _ => None,
     }
 }
 
@@ -87,7 +100,7 @@ pub fn node_of(found: &Metadata) -> Node {
 
 /// The file that is open, if it was opened by this path and may be used so.
 pub fn serving(kept: Option<OpenFile>, path: &str, to_write: bool) -> Option<OpenFile>
-    ensures path { IfSome result (λ opened. string_bytes opened.path ≡ path.now) }
+    ensures path { IfSome result (λ opened. opened_by opened ≡ path.now) }
     ensures to_write { to_write ≡ true → IfSome result (λ opened. opened.is_to_write ≡ true) }
 {
     match kept {
@@ -113,7 +126,7 @@ pub fn open_file(
     found: Node,
     to_write: bool,
 ) -> io::Result<OpenFile>
-    ensures path { IfOk result (λ opened. opened.path ≡ path) }
+    ensures path { IfOk result (λ opened. opened_by opened ≡ string_bytes path) }
     ensures to_write { IfOk result (λ opened. opened.is_to_write ≡ to_write) }
 {
     let file = open_found(rt, path.as_str(), found, to_write)?;
@@ -126,7 +139,7 @@ pub fn open_file(
 
 /// Makes a file where nothing has the path, and opens it to be read and written.
 pub fn create(rt: &impl Files<File = File>, path: String) -> io::Result<OpenFile>
-    ensures path { IfOk result (λ opened. opened.path ≡ path) }
+    ensures path { IfOk result (λ opened. opened_by opened ≡ string_bytes path) }
     ensures to_write { IfOk result (λ opened. opened.is_to_write ≡ true) }
 {
     let file = File::create_new(rt, path.as_str())?;

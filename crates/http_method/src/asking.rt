@@ -146,7 +146,7 @@ fn ask_again<L: Link>(alloc: Global, link: &mut L, text: &Bytes, job: &Job) -> R
         link.close();
         return Ok(starved());
     };
-    let Ok(mut room) = new_room(alloc) else {
+    let Ok(mut room) = new_room(alloc, &reading.fetch) else {
         link.close();
         return Ok(starved());
     };

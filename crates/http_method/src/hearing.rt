@@ -9,18 +9,40 @@ ghost use Rattle.http_method.specs.Reading.{Goes, IsReading, Received, StaysSmal
 use crate::reading::{Behind, Reading};
 use acq_base::{Bytes, NoMemory};
 use acq_net::Link;
-use acq_outside::OutError;
+use acq_outside::{Fetch, OutError};
 use http_wire::{State, Wire, bodies_grow, wires_tell};
 use std::alloc::Global;
 
 /// How many bytes are received at once, at most.
 const ROOM: usize = 65_536;
 
-/// Room for bytes that are received at once.
-pub fn new_room(alloc: Global) -> Result<Vec<u8>, NoMemory>
-    ensures { IfOk result (λ room. vec_len room ≡ 65536) }
+/// How many bytes are received at once while no piece of the file was said, at most: a head and many a small file are no
+/// longer, and more room takes time to lay out.
+const FIRST_ROOM: usize = 16_384;
+
+/// Room for bytes that are received at once, of the response to a fetch.
+pub fn new_room(alloc: Global, fetch: &Fetch) -> Result<Vec<u8>, NoMemory>
+    ensures some { IfOk result (λ room. 0 < vec_len room) }
+    ensures few { IfOk result (λ room. vec_len room ≤ 65536) }
 {
-    Ok(vec![in alloc; 0u8; ROOM]?)
+    let size = if fetch.at == fetch.job.from {
+        FIRST_ROOM
+    } else {
+        ROOM
+    };
+    Ok(vec![in alloc; 0u8; size]?)
+}
+
+/// The room, laid out where there is none.
+fn laid_out(alloc: Global, room: Vec<u8>, fetch: &Fetch) -> Result<Vec<u8>, NoMemory>
+    requires few { vec_len room ≤ 65536 }
+    ensures some { IfOk result (λ laid. 0 < vec_len laid) }
+    ensures few { IfOk result (λ laid. vec_len laid ≤ 65536) }
+{
+    if room.is_empty() {
+        return new_room(alloc, fetch);
+    }
+    Ok(room)
 }
 
 /// What stands behind so many taken bytes of a piece.
@@ -127,15 +149,12 @@ fn is_going(wire: &Wire) -> bool
     }
 }
 
-/// Receives into the room until bytes of the body have come, which it gives out, or the reading has ended.
+/// Receives until bytes of the body have come, which it gives out, or the reading has ended.
 pub fn listen<L: Link>(
     alloc: Global,
     link: &mut L,
     reading: &mut Reading,
-    room: &mut [u8],
 ) -> Result<Bytes, OutError>
-    requires some { 0 < length room.old }
-    requires few { length room.old ≤ 65536 }
     requires is { IsReading (line_of L.Link link.old) reading.old [] }
     ensures count { L.faults link.old ≤ L.faults link.new }
     ensures fault { IsErrOf result OutError.Fault → Rose (L.faults link.old) (L.faults link.new) }
@@ -153,6 +172,7 @@ pub fn listen<L: Link>(
     ensures all { IfOk result (λ bytes. bytes ≡ [] → IsDone (wire_state reading.new.wire) → held reading.new.wire ≡ []) }
     ensures goes { IfOk result (Goes (line_of L.Link link.old) reading.old (line_of L.Link link.new) reading.new) }
 {
+    let mut room = Vec::new(alloc);
     for _ in 0..u64::MAX {
         if is_refused(&reading.wire) {
             return Ok(Bytes::new(alloc));
@@ -161,7 +181,8 @@ pub fn listen<L: Link>(
         if !bytes.is_empty() || !is_going(&reading.wire) {
             return Ok(bytes);
         }
-        receive_once(alloc, link, reading, room)?;
+        room = laid_out(alloc, room, &reading.fetch)?;
+        receive_once(alloc, link, reading, room.as_mut_slice())?;
     }
     Err(OutError::NoMemory)
 }

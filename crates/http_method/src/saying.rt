@@ -6,7 +6,7 @@ ghost use Rattle.http_wire.specs.Wire.{IsDone, held, wire_state};
 ghost use Rattle.http_method.specs.Line.{line_of};
 ghost use Rattle.http_method.specs.Reading.{GivesOn, IsKeptBehind, IsReading, IsTold, Keeps, SaysOn, is_file, is_kept, kept_if, part_of, word_of};
 
-use crate::hearing::{listen, new_room};
+use crate::hearing::listen;
 use crate::reading::{Behind, Place, Reading, Said};
 use acq_base::{Bytes, Reply, Uri};
 use acq_net::Link;
@@ -46,12 +46,8 @@ pub fn next_word<L: Link>(alloc: Global, link: &mut L, reading: Reading) -> Resu
     ensures behind { IfOk result (λ said. IsKeptBehind said.word said.kept) }
     ensures says { IfOk result (SaysOn (line_of L.Link link.old) reading (line_of L.Link link.new)) }
 {
-    let Ok(mut room) = new_room(alloc) else {
-        link.close();
-        return Ok(starved());
-    };
     let mut reading = reading;
-    match listen(alloc, link, &mut reading, room.as_mut_slice()) {
+    match listen(alloc, link, &mut reading) {
         Ok(bytes) => Ok(say(alloc, link, reading, bytes)),
         Err(OutError::Fault) => {
             link.close();

@@ -1,5 +1,6 @@
 -- What each function of a wire does, from what the functions that it calls do.
 use Rattle.std.proofs.Common.{◌≡◌, ◌≢◌, ℕ, ◌<◌, Bool, true, false, List, [], ◌∷◌, ◌++◌, length, take, drop, get_or, arith, sym, ap, ◌∙◌, refl, subst, None}
+use Rattle.httparse.specs.Grammar.{ResponseHead}
 use Rattle.httparse.specs.declared.spans.HeaderSpan.{HeaderSpan}
 use Rattle.http_wire.specs.declared.ending.Ending.TheVariants.{Served}
 use Rattle.http_wire.specs.declared.ending.State.TheVariants as states
@@ -11,10 +12,11 @@ use Rattle.http_wire.specs.declared.reading.SizeRead.{SizeRead}
 use Rattle.http_wire.specs.declared.reading.SizeRead.TheVariants as sizes
 use Rattle.http_wire.specs.declared.reading.TrailersRead.{TrailersRead}
 use Rattle.http_wire.specs.declared.reading.TrailersRead.TheVariants as trails
+use Rattle.http_wire.specs.Forms.{Whole, head_form}
 use Rattle.http_wire.specs.State.{WireState}
 use Rattle.http_wire.specs.Wire.{Follows, wire_state}
 use Rattle.http_wire.specs.Steps.{Moves, Closes, IsFront, IsEmptyLine, blank_passed, IsHeadAt, IsHeadRead, IsSizeRead, AreTrailersRead, stopped, cut_off, joined, in_line, head_read, size_read, trailers_read, head_closed, size_closed, trailers_closed, return_taken, feed_taken}
-use Rattle.http_wire.proofs.HeadMoves.{head_line_read, head_line_part, head_line_blank}
+use Rattle.http_wire.proofs.HeadMoves.{head_front_read, head_line_read, head_line_part, head_line_blank}
 use Rattle.http_wire.proofs.LineMoves.{size_line_read, size_line_part, trailers_line_read, trailers_line_part}
 use Rattle.http_wire.proofs.BodyMoves.{return_moves, feed_moves}
 use Rattle.http_wire.proofs.EndMoves.{head_cut, head_broken, no_whole_head, size_cut, size_broken, no_whole_size, trailers_cut, trailers_broken, no_whole_trailers}
@@ -31,12 +33,24 @@ front_is ends t front line is = subst (λ z. IsFront z front) is line
 
 -- ---- lines
 
+pub nothing_in : (l : List ℕ) → length l ≡ 0 → l ≡ []
+nothing_in [] none = refl
+nothing_in (byte ∷ l) none = absurd (omega (arith, none))
+
 pub head_takes : (passed : ℕ) (w u v : WireState) (front piece : List ℕ) (ends : Bool) → w.phase ≡ phases.Heads passed → w.ending ≡ None → IsFront ends front → ends ≡ true → piece ≡ front → u ≡ joined piece w
     → (read : HeadRead) × IsHeadRead u.from u.part read × (v ≡ head_read passed read u) → Moves w v front
 head_takes passed w u v front piece ends is none line end same joins r =
     let u_is : u ≡ joined front w = joins ∙ ap (λ z. joined z w) same in
     let read : IsHeadRead w.from (w.part ++ front) r.0 = subst (λ (z : WireState). IsHeadRead z.from z.part r.0) u_is r.1 in
     moves_to w v (head_read passed r.0 (joined front w)) front (r.2 ∙ ap (head_read passed r.0) u_is) (head_line_read passed front r.0 w is none (front_is ends true front line end) read)
+
+pub head_ends : (passed : ℕ) (w u v : WireState) (front piece : List ℕ) → w.phase ≡ phases.Heads passed → w.ending ≡ None → w.part ≡ [] → piece ≡ front → u ≡ joined piece w → (h : ResponseHead) × Whole head_form front h []
+    → (read : HeadRead) × IsHeadRead u.from u.part read × (v ≡ head_read passed read u) → Moves w v front
+head_ends passed w u v front piece is none nothing same joins whole r =
+    let u_is : u ≡ joined front w = joins ∙ ap (λ z. joined z w) same in
+    let read : IsHeadRead w.from (w.part ++ front) r.0 = subst (λ (z : WireState). IsHeadRead z.from z.part r.0) u_is r.1 in
+    let here : Whole head_form (w.part ++ front) whole.0 [] = subst (λ z. Whole head_form (z ++ front) whole.0 []) (sym nothing) whole.1 in
+    moves_to w v (head_read passed r.0 (joined front w)) front (r.2 ∙ ap (head_read passed r.0) u_is) (head_front_read passed front whole.0 r.0 w is none here read)
 
 pub head_grows : (passed : ℕ) (w u v : WireState) (front piece : List ℕ) (ends : Bool) → w.phase ≡ phases.Heads passed → w.ending ≡ None → IsFront ends front → ends ≡ false → piece ≡ front → u ≡ joined piece w → v ≡ in_line 65536 u → Moves w v front
 head_grows passed w u v front piece ends is none line end same joins limits =

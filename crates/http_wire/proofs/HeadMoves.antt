@@ -19,7 +19,7 @@ use Rattle.http_wire.specs.State.{WireState}
 use Rattle.http_wire.specs.Wire.{Stands, GoesOn, Follows}
 use Rattle.http_wire.specs.Steps.{Moves, IsHeadRead, IsFront, IsEmptyLine, stopped, garbled, marked, joined, blank_passed, in_line, body_framed, final_head, head_whole, head_read}
 use Rattle.http_wire.proofs.Decided.{leads_more, leads_on}
-use Rattle.http_wire.proofs.FormLemmas.{part_line, bad_line, part_judged, bad_judged, whole_here}
+use Rattle.http_wire.proofs.FormLemmas.{one_whole, part_line, bad_line, part_judged, bad_judged, whole_here}
 use Rattle.http_wire.proofs.FormFacts.{head_facts}
 use Rattle.http_wire.proofs.LineCounts.{same_lines}
 use Rattle.http_wire.proofs.Begins.{no_head_yet, no_size_yet}
@@ -195,6 +195,36 @@ after_whole v given bytes passed status (meanings.Moved place) i none max from m
 after_whole v given bytes passed status meanings.Wrong i none max from m f = breaks v given bytes passed status meanings.Wrong i refl max from m f
 after_whole v given bytes passed status (meanings.Body how keep) i none max from m f = begun v given bytes passed status how keep i none max from m f (nat_lt v.max (start_of v.from status + announced how)) refl
 
+-- a whole head ends with these bytes
+ends_whole : (passed : ℕ) (front : List ℕ) (status : ℕ) (says : Meaning) (h : ResponseHead) (w : WireState) → w.phase ≡ phases.Heads passed → w.ending ≡ None → Whole head_form (w.part ++ front) h [] → status ≡ status_code h
+    → says ≡ meaning w.from (status_code h) h.minor (map name_and_value h.fields) → Moves w (head_whole passed status says (joined front w)) front
+ends_whole passed front status says h w is none whole status_is says_is max from given bytes f =
+    let g = going w max from given bytes none f in
+    let s = stands_at w given bytes (phases.Heads passed) is g in
+    let i = grown head_form w given bytes w.part front (head_in w given bytes passed is g) in
+    let here : Leads w.max w.from g.parts (Heads 0) bytes (Heads passed) w.part = subst (λ z. Leads w.max w.from g.parts (Heads 0) bytes z w.part) s.0 (subst (λ z. Leads w.max w.from g.parts (Heads 0) bytes g.stage z) s.1 g.leads) in
+    after_whole (joined front w) given (bytes ++ front) passed status says (record {
+      parts = g.parts;
+      leads = leads_more w.max w.from g.parts (Heads 0) bytes (Heads passed) w.part front here;
+      h = h;
+      whole = whole;
+      status_is = status_is;
+      says_is = says_is;
+      nothing = s.2;
+      start = s.3;
+      count = i.count;
+      place = i.place;
+    }) none max from f.max_is f.from_is
+
+-- what is read where a whole head ends
+pub head_front_read : (passed : ℕ) (front : List ℕ) (h : ResponseHead) (read : HeadRead) (w : WireState) → w.phase ≡ phases.Heads passed → w.ending ≡ None → Whole head_form (w.part ++ front) h [] → IsHeadRead w.from (w.part ++ front) read
+    → Moves w (head_read passed read (joined front w)) front
+head_front_read passed front h heads.More w is none whole unfinished = absurd (unfinished.none h [] whole)
+head_front_read passed front h heads.Bad w is none whole bad = absurd (bad.none h [] whole)
+head_front_read passed front h (heads.Whole status says) w is none whole found =
+    let last : found.1 ≡ [] = (one_whole head_form head_facts (w.part ++ front) found.0 h found.1 [] found.2 whole).1 in
+    ends_whole passed front status says found.0 w is none (subst (λ z. Whole head_form (w.part ++ front) found.0 z) last found.2) found.3 found.4
+
 -- ---- the line of a head ends
 
 pub head_line_read : (passed : ℕ) (front : List ℕ) (read : HeadRead) (w : WireState) → w.phase ≡ phases.Heads passed → w.ending ≡ None → IsFront true front → IsHeadRead w.from (w.part ++ front) read → Moves w (head_read passed read (joined front w)) front
@@ -219,23 +249,10 @@ head_line_read passed front heads.Bad w is none line bad max from given bytes h 
 head_line_read passed front (heads.Whole status says) w is none line whole max from given bytes h =
     let g = going w max from given bytes none h in
     let s = stands_at w given bytes (phases.Heads passed) is g in
-    let i = grown head_form w given bytes w.part front (head_in w given bytes passed is g) in
     let at_end : Whole head_form (w.part ++ (line.0 ++ 10 ∷ [])) whole.0 whole.1 = subst (λ z. Whole head_form (w.part ++ z) whole.0 whole.1) line.1 whole.2 in
     let unfinished : Unfinished head_form false w.part = subst (λ z. Unfinished head_form false z) s.1 s.4 in
     let last : whole.1 ≡ [] = whole_here head_form head_facts w.part line.0 whole.0 whole.1 line.2 unfinished.none at_end in
-    let here : Leads w.max w.from g.parts (Heads 0) bytes (Heads passed) w.part = subst (λ z. Leads w.max w.from g.parts (Heads 0) bytes z w.part) s.0 (subst (λ z. Leads w.max w.from g.parts (Heads 0) bytes g.stage z) s.1 g.leads) in
-    after_whole (joined front w) given (bytes ++ front) passed status says (record {
-      parts = g.parts;
-      leads = leads_more w.max w.from g.parts (Heads 0) bytes (Heads passed) w.part front here;
-      h = whole.0;
-      whole = subst (λ z. Whole head_form (w.part ++ front) whole.0 z) last whole.2;
-      status_is = whole.3;
-      says_is = whole.4;
-      nothing = s.2;
-      start = s.3;
-      count = i.count;
-      place = i.place;
-    }) none max from h.max_is h.from_is
+    ends_whole passed front status says whole.0 w is none (subst (λ z. Whole head_form (w.part ++ front) whole.0 z) last whole.2) whole.3 whole.4 max from given bytes h
 
 -- ---- a part of a head's line
 

@@ -10,7 +10,8 @@ ghost use Rattle.http_wire.specs.Stream.{announced};
 ghost use Rattle.http_wire.specs.Steps.{Moves, IsFront, IsHeadRead, IsSizeRead, AreTrailersRead, IsEmptyLine, joined, blank_passed, in_line, body_framed, body_begun, head_ended, final_head, head_whole, head_read, size_read, trailers_read};
 
 use crate::reading::{
-    HEAD_BYTES, HeadRead, SIZE_BYTES, SizeRead, TrailersRead, read_head, read_size, read_trailers,
+    HEAD_BYTES, HeadRead, SIZE_BYTES, SizeRead, TrailersRead, head_len, read_head, read_size,
+    read_trailers,
 };
 use crate::wire::Wire;
 use crate::{Ending, Framing, Meaning, Phase};
@@ -62,6 +63,27 @@ impl Wire {
         passed: u8,
         piece: &[u8],
     ) -> Result<usize, NoMemory>
+        requires phase { self.old.phase ≡ Phase.Heads passed }
+        requires going { self.old.ending ≡ None }
+        requires some { 0 < length piece.now }
+        ensures took { IfOk result (λ n. (0 < n) × (n ≤ length piece.now)) }
+        ensures moves { IfOk result (λ n. Moves self.old self.new (take n piece.now)) }
+    {
+        // A head is read again with each of its lines, but for one that comes whole in a piece, as most do.
+        if self.part.is_empty() {
+            let n = head_len(piece);
+            if n > 0 {
+                let (front, _) = piece.split_at(n);
+                self.join(front)?;
+                self.judge_head(alloc, passed)?;
+                return Ok(n);
+            }
+        }
+        self.take_head_line(alloc, passed, piece)
+    }
+
+    /// Takes bytes of a head up to the end of a line, behind so many interim heads.
+    fn take_head_line(&mut self, alloc: Global, passed: u8, piece: &[u8]) -> Result<usize, NoMemory>
         requires phase { self.old.phase ≡ Phase.Heads passed }
         requires going { self.old.ending ≡ None }
         requires some { 0 < length piece.now }

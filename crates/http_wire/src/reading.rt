@@ -1,10 +1,11 @@
 //! Heads, size lines and trailers, read in texts whose last line has ended.
 
-ghost use Rattle.std.specs.Prelude.{◌≡◌, List, length, IfOk};
+ghost use Rattle.std.specs.Prelude.{◌≡◌, ◌<◌, ◌≤◌, List, [], length, take, IfOk};
 ghost use Rattle.std.specs.List.{prefix_len};
 ghost use Rattle.httparse.specs.declared.spans.HeaderSpan.{HeaderSpan};
+ghost use Rattle.httparse.specs.Grammar.{ResponseHead};
 ghost use Rattle.httparse.specs.Pieces.{is_newline};
-ghost use Rattle.http_wire.specs.Forms.{line_feeds, lines_behind_blank};
+ghost use Rattle.http_wire.specs.Forms.{Whole, head_form, line_feeds, lines_behind_blank};
 ghost use Rattle.http_wire.specs.Steps.{IsHeadAt, IsHeadRead, IsSizeRead, AreTrailersRead};
 
 use crate::Meaning;
@@ -77,6 +78,17 @@ pub fn scan_head(text: &[u8]) -> HeadSpans
 {
     let mut spans = [EMPTY_HEADER_SPAN; FIELDS];
     find_head(text, &mut spans)
+}
+
+/// How many bytes the whole head has that a text begins with, or 0 where it begins with none.
+pub fn head_len(text: &[u8]) -> usize
+    ensures within { result ≤ length text.now }
+    ensures whole { 0 < result → (head : ResponseHead) × Whole head_form (take result text.now) head [] }
+{
+    match scan_head(text) {
+        HeadSpans::Whole(head) => head.len,
+        HeadSpans::More | HeadSpans::Bad => 0,
+    }
 }
 
 /// Where the parts of a head stand.

@@ -1,7 +1,8 @@
 //! What each call does with the folder's files. Whatever comes of it, nothing is counted.
-ghost use Rattle.std.specs.Prelude.{◌≡◌, ◌≤◌, length, true, string_bytes, IfOk, OnOk, MatchResult};
+ghost use Rattle.std.specs.Prelude.{◌≡◌, ◌≤◌, length, true, string_bytes, IfOk, IfSome, OnOk, MatchResult};
 ghost use Rattle.acq_real.specs.Folder.{IsInside, IsPathInside};
-ghost use Rattle.acq_real.specs.RealDisk.{IsSame, folder_of};
+ghost use Rattle.acq_real.specs.Opened.{opened_by};
+ghost use Rattle.acq_real.specs.RealDisk.{IsNameClosed, IsSame, folder_of};
 
 use super::RealDisk;
 use crate::folder;
@@ -46,10 +47,12 @@ impl<R: Files<File = File> + AllocGlobal + Clone + Drop> RealDisk<R> {
         Ok(path)
     }
 
-    /// Opens a file, unless it is open already. Where nothing has the name it is `None`.
+    /// Opens a file, unless it is open already. Where nothing has the name it is `None`. It stays open where what is done
+    /// with it succeeds.
     fn open(&mut self, name: &[u8], to_write: bool) -> io::Result<Option<OpenFile>>
         ensures same { IsSame self.old self.new }
         ensures inside { OnOk result (IsInside name.now) }
+        ensures path { IfOk result (λ found. IfSome found (λ opened. IsPathInside (folder_of self.old) name.now (opened_by opened))) }
     {
         let path = self.path(name)?;
         let kept = self.kept.take(is_partial(name));
@@ -60,6 +63,21 @@ impl<R: Files<File = File> + AllocGlobal + Clone + Drop> RealDisk<R> {
         match folder::find_plain(&self.rt, path.as_str())? {
             Some(found) => Ok(Some(open_file(&self.rt, path, node_of(&found), to_write)?)),
             None => Ok(None),
+        }
+    }
+
+    /// Opens a file to be written, an absent one being made first.
+    fn open_or_make(&mut self, name: &[u8]) -> io::Result<OpenFile>
+        ensures same { IsSame self.old self.new }
+        ensures inside { OnOk result (IsInside name.now) }
+        ensures path { IfOk result (λ opened. IsPathInside (folder_of self.old) name.now (opened_by opened)) }
+    {
+        match self.open(name, true)? {
+            Some(open) => Ok(open),
+            None => {
+                let path = self.path(name)?;
+                create(&self.rt, path)
+            }
         }
     }
 
@@ -110,9 +128,9 @@ impl<R: Files<File = File> + AllocGlobal + Clone + Drop> RealDisk<R> {
         let Some(open) = self.open(name, false)? else {
             return Ok(0);
         };
-        let done = folder::read_some(&open.file, at, out);
+        let n = folder::read_some(&open.file, at, out)?;
         self.kept.keep(is_partial(name), open);
-        done
+        Ok(n)
     }
 
     pub(super) fn write(&mut self, name: &[u8], at: u64, bytes: &[u8]) -> io::Result<()>
@@ -122,9 +140,9 @@ impl<R: Files<File = File> + AllocGlobal + Clone + Drop> RealDisk<R> {
         let Some(open) = self.open(name, true)? else {
             return Err(io::Error::from(ErrorKind::NotFound));
         };
-        let done = open.file.write_all_at(bytes, at);
+        open.file.write_all_at(bytes, at)?;
         self.kept.keep(is_partial(name), open);
-        done
+        Ok(())
     }
 
     /// An absent file is made first.
@@ -132,16 +150,10 @@ impl<R: Files<File = File> + AllocGlobal + Clone + Drop> RealDisk<R> {
         ensures same { IsSame self.old self.new }
         ensures inside { OnOk result (IsInside name.now) }
     {
-        let open = match self.open(name, true)? {
-            Some(open) => open,
-            None => {
-                let path = self.path(name)?;
-                create(&self.rt, path)?
-            }
-        };
-        let done = open.file.set_len(len);
+        let open = self.open_or_make(name)?;
+        open.file.set_len(len)?;
         self.kept.keep(is_partial(name), open);
-        done
+        Ok(())
     }
 
     pub(super) fn sync_one(&mut self, name: &[u8]) -> io::Result<()>
@@ -151,9 +163,9 @@ impl<R: Files<File = File> + AllocGlobal + Clone + Drop> RealDisk<R> {
         let Some(open) = self.open(name, false)? else {
             return Ok(());
         };
-        let done = open.file.sync_all();
+        open.file.sync_all()?;
         self.kept.keep(is_partial(name), open);
-        done
+        Ok(())
     }
 
     pub(super) fn sync_all(&mut self) -> io::Result<()>
@@ -171,22 +183,22 @@ impl<R: Files<File = File> + AllocGlobal + Clone + Drop> RealDisk<R> {
     pub(super) fn move_one(&mut self, from: &[u8], to: &[u8]) -> io::Result<()>
         ensures same { IsSame self.old self.new }
         ensures inside { OnOk result (IsInside from.now × IsInside to.now) }
+        ensures closed { OnOk result (IsNameClosed self.new from.now × IsNameClosed self.new to.now) }
     {
-        let from_partial = is_partial(from);
-        let to_partial = is_partial(to);
         let from = self.checked_path(from)?;
         let to = self.checked_path(to)?;
-        self.kept.forget(from_partial, from.as_str());
-        self.kept.forget(to_partial, to.as_str());
+        self.kept.forget(from.as_str());
+        self.kept.forget(to.as_str());
         folder::rename(&self.rt, from.as_str(), to.as_str())
     }
 
     pub(super) fn remove_one(&mut self, name: &[u8]) -> io::Result<()>
         ensures same { IsSame self.old self.new }
         ensures inside { OnOk result (IsInside name.now) }
+        ensures closed { OnOk result (IsNameClosed self.new name.now) }
     {
         let path = self.checked_path(name)?;
-        self.kept.forget(is_partial(name), path.as_str());
+        self.kept.forget(path.as_str());
         folder::remove(&self.rt, path.as_str())
     }
 }

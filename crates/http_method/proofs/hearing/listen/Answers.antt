@@ -39,7 +39,7 @@ loop-preserved g c =
     let on = goes_on line line later c.loop.reading middle c.receive_once.new.reading [] given c.in_ok-receive_once.ensures.goes in
     let between = reading_on line line c.loop.reading middle [] c.loop.invariant.is given refl (λ more. c.loop.invariant.is.going (sym c.in_ok-bytes.ensures.state ∙ more)) (λ fits. small_none c.take.new.self c.in_ok-bytes.ensures.none) in
     record {
-      room = c.in_ok-receive_once.ensures.room ∙ c.loop.invariant.room;
+      room = (let same = c.in_ok-receive_once.ensures.room in let few = c.in_ok-room.ensures.few in omega (arith, same, few));
       quiet = c.in_ok-receive_once.ensures.quiet ∙ c.loop.invariant.quiet;
       made = c.in_ok-receive_once.ensures.made ∙ c.loop.invariant.made;
       former = c.in_ok-receive_once.ensures.former ∙ c.loop.invariant.former;

@@ -1,4 +1,4 @@
-use Rattle.std.proofs.Common.{◌≡◌, ◌≤◌, [], length}
+use Rattle.std.proofs.Common.{◌≡◌, ◌≤◌, [], vec_len}
 use Rattle.http_method.specs.Line.{line_of}
 use Rattle.http_method.specs.Reading.{Goes, IsReading}
 use Rattle.http_method.proofs.hearing.listen.Given as goal
@@ -6,7 +6,7 @@ use Rattle.http_method.proofs.hearing.listen.Given as goal
 -- no byte was given out yet
 abbrev pub invariant-loop : goal.invariant-loop
 invariant-loop g l = record {
-  room : length l.room ≡ length l.fn.room;
+  room : vec_len l.room ≤ 65536;
   quiet : g.L.Link.faults l.link ≡ g.L.Link.faults l.fn.link;
   made : g.L.Link.made l.link ≡ g.L.Link.made l.fn.link;
   former : g.L.Link.former l.link ≡ g.L.Link.former l.fn.link;

@@ -1,15 +1,9 @@
-use Rattle.std.proofs.Common.{take}
-use Rattle.http_wire.proofs.Glue.{head_takes, head_grows, head_passes}
+use Rattle.std.proofs.Common.{◌≡◌, length, rules, take}
+use Rattle.http_wire.proofs.Glue.{head_ends, nothing_in}
 use Rattle.http_wire.proofs.wire.Wire.take_head.Goals as goal
 
-pub returns-then-is_blank-clause-moves : goal.returns-then-is_blank-clause-moves
-returns-then-is_blank-clause-moves c =
-    head_passes c.args.passed c.args.self.now c.join.new.self c.pass_blank.new.self (take c.line_of-n.result.0 c.args.piece.now) c.split_at.result.0.now c.requires.phase c.requires.going c.split_at.ensures.front c.in_ok-join.ensures (c.is_blank.ensures c.if-is_blank.true) c.pass_blank.ensures
-
-pub returns-then-ends-clause-moves : goal.returns-then-ends-clause-moves
-returns-then-ends-clause-moves c =
-    head_takes c.args.passed c.args.self.now c.join.new.self c.judge_head.new.self (take c.line_of-n.result.0 c.args.piece.now) c.split_at.result.0.now c.line_of-n.result.1 c.requires.phase c.requires.going c.line_of-n.ensures.front c.if-ends.true c.split_at.ensures.front c.in_ok-join.ensures c.in_ok-judge_head.ensures
-
-pub returns-clause-moves : goal.returns-clause-moves
-returns-clause-moves c =
-    head_grows c.args.passed c.args.self.now c.join.new.self c.limit.new.self (take c.line_of-n.result.0 c.args.piece.now) c.split_at.result.0.now c.line_of-n.result.1 c.requires.phase c.requires.going c.line_of-n.ensures.front c.if-ends.false c.split_at.ensures.front c.in_ok-join.ensures c.limit.ensures
+pub returns-then-n-gt0-clause-moves : goal.returns-then-n-gt0-clause-moves
+returns-then-n-gt0-clause-moves c =
+    let none : length c.args.self.now.part ≡ 0 = search rules in
+    head_ends c.args.passed c.args.self.now c.join.new.self c.judge_head.new.self (take c.head_len-n.result c.args.piece.now) c.split_at.result.0.now c.requires.phase c.requires.going (nothing_in c.args.self.now.part none)
+    c.split_at.ensures.front c.in_ok-join.ensures (c.head_len-n.ensures.whole c.if-n-gt0.true) c.in_ok-judge_head.ensures
