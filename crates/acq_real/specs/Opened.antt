@@ -12,6 +12,6 @@ pub record IsClosed (kept : Kept) (path : List ℕ) : Type 0 where
   pub in_partial : IfSome kept.in_partial (λ opened. opened_by opened ≢ path)
   pub beside : IfSome kept.beside (λ opened. opened_by opened ≢ path)
 
--- no file was opened
+-- a path by which no file was open has none afterwards
 pub record StaysClosed (before after : Kept) : Type 0 where
   pub is : (path : List ℕ) → IsClosed before path → IsClosed after path

@@ -1,4 +1,4 @@
-//! Heads, size lines and trailers, read in texts whose last line has ended.
+//! Heads, size lines and trailers in texts whose last line has ended, and where a head ends in any text.
 
 ghost use Rattle.std.specs.Prelude.{◌≡◌, ◌<◌, ◌≤◌, List, [], length, take, IfOk};
 ghost use Rattle.std.specs.List.{prefix_len};
