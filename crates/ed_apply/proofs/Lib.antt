@@ -1,3 +1,4 @@
+pub mod FirstPlaces
 pub mod FileLines
 pub mod Ranges
 pub mod Scans

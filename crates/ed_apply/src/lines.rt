@@ -5,6 +5,8 @@ ghost use Rattle.std.specs.List.{position_or_len};
 ghost use Rattle.ed_apply.specs.Edits.{file_lines};
 ghost use Rattle.ed_apply.specs.Grammar.{without_feed as unended};
 
+use memchr::memchr;
+
 /// How many bytes the first line of a text has, its line feed included. A text that isn't empty has a line.
 #[tactic(auto, using(crate::proofs::FileLines::cuts))]
 pub fn first_line_len(text: &[u8]) -> usize
@@ -22,11 +24,10 @@ pub fn place_of(byte: u8, text: &[u8]) -> usize
     ensures place { result ≡ position_or_len (λ c. c == byte) text.now }
     ensures within { result ≤ length text.now }
 {
-    let mut at = 0;
-    while at < text.len() && text[at] != byte {
-        at += 1;
+    match memchr(byte, text) {
+        Some(at) => at,
+        None => text.len(),
     }
-    at
 }
 
 /// A line without its line feed.
