@@ -55,14 +55,19 @@ pub fn read_whole<D: Disk>(
     ensures still { D.trace disk.new ≡ D.trace disk.old }
     ensures told { IsTrue (D.tells disk.old) → IfOk result (λ file. file ≡ D.files disk.old name.now) }
 {
-    if disk.size(name)?.is_none() {
-        return Ok(None);
+    match disk.size(name)? {
+        Some(size) => Ok(Some(read_pieces(alloc, disk, name, size)?)),
+        None => Ok(None),
     }
-    Ok(Some(read_pieces(alloc, disk, name)?))
 }
 
-/// Reads pieces until there are no more.
-fn read_pieces<D: Disk>(alloc: Global, disk: &mut D, name: &[u8]) -> Result<Bytes, OutError>
+/// Reads pieces until there are no more, into room for so many bytes at first.
+fn read_pieces<D: Disk>(
+    alloc: Global,
+    disk: &mut D,
+    name: &[u8],
+    size: u64,
+) -> Result<Bytes, OutError>
     requires { IsName name.now }
     ensures count { D.faults disk.old ≤ D.faults disk.new }
     ensures fault { IsErrOf result OutError.Fault → Rose (D.faults disk.old) (D.faults disk.new) }
@@ -74,18 +79,21 @@ fn read_pieces<D: Disk>(alloc: Global, disk: &mut D, name: &[u8]) -> Result<Byte
     ensures still { D.trace disk.new ≡ D.trace disk.old }
     ensures told { IsTrue (D.tells disk.old) → IfOk result (λ bytes. bytes ≡ unwrap_or (D.files disk.old name.now) []) }
 {
+    let mut content = Vec::new(alloc);
+    content.reserve_exact(size as usize)?;
     let mut piece = vec![in alloc; 0u8; PIECE]?;
-    read_through(alloc, disk, name, piece.as_mut_slice())
+    read_through(disk, name, content, piece.as_mut_slice())
 }
 
-/// Reads pieces of the buffer's size until there are no more.
+/// Reads pieces of the buffer's size until there are no more. `empty` is what they are appended to.
 fn read_through<D: Disk>(
-    alloc: Global,
     disk: &mut D,
     name: &[u8],
+    empty: Vec<u8>,
     piece: &mut [u8],
 ) -> Result<Bytes, OutError>
     requires name { IsName name.now }
+    requires empty { empty.items ≡ [] }
     requires room { 1 ≤ length piece.old }
     ensures count { D.faults disk.old ≤ D.faults disk.new }
     ensures fault { IsErrOf result OutError.Fault → Rose (D.faults disk.old) (D.faults disk.new) }
@@ -97,7 +105,7 @@ fn read_through<D: Disk>(
     ensures still { D.trace disk.new ≡ D.trace disk.old }
     ensures told { IsTrue (D.tells disk.old) → IfOk result (λ bytes. bytes ≡ unwrap_or (D.files disk.old name.now) []) }
 {
-    let mut content = Vec::new(alloc);
+    let mut content = empty;
     loop {
         let n = read_piece(disk, name, &mut content, piece)?;
         if n == 0 {

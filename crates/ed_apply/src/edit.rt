@@ -64,7 +64,9 @@ impl Edit {
         requires { IsOf self.now old.now }
         ensures { IfOk result (λ file. file ≡ file_of self.now old.now) }
     {
-        let mut file = Bytes::new(alloc);
+        let mut room = Vec::new(alloc);
+        room.reserve_exact(self.size as usize)?;
+        let mut file = Bytes::from(room);
         for segment in &self.layout.segments {
             self.known.copy(old, segment, &mut file)?;
         }
