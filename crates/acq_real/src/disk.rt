@@ -25,10 +25,14 @@ mod calls;
 /// fault, and so is a folder or a link in place of a file, or in place of `partial` anything but a folder.
 ///
 /// What stands at a path is looked up first and used by a further call of the system. Another process that puts a link
-/// in its place between the two is found out where the file is opened, but not where `partial` is replaced: so nobody
-/// else may be allowed to change the folder. The file in `partial` that was last read, written, cut or synced, and the last
-/// one beside it, stay open and serve the next such calls with their names, until such a call has another name or fails, or
-/// the disk moves the file, puts one in its place or removes it.
+/// in its place between the two is found out where the file is opened. Whether `partial` is a folder is looked up by each
+/// call until one found it so, whenever names are listed or synced, and where a file in it is absent; another process that
+/// puts a link in its place between two looks leads the calls out of the folder. So nobody else may be allowed to change
+/// the folder.
+///
+/// The file in `partial` that was last read, written, cut or synced, and the last one beside it, stay open and serve the
+/// next such calls with their names, until such a call has another name or fails, or the disk moves the file, puts one in
+/// its place or removes it.
 #[derive(Drop)]
 pub struct RealDisk<R: Drop> {
     rt: R,

@@ -3,7 +3,7 @@ ghost use Rattle.std.specs.Prelude.{◌≤◌, length, IfOk};
 
 use crate::answer::{check_folder, plain_length, unless};
 use crate::listing::Entry;
-use crate::opened::{Kept, Node, OpenFolder, node_of, open_folder, open_found, still};
+use crate::opened::{OpenFolders, node_of, open_folders, open_found, still};
 use acq_base::Text;
 use std::alloc::Global;
 use std::fs::{File, Metadata, TryLockError};
@@ -27,19 +27,26 @@ fn partial_path(alloc: Global, folder: &str) -> io::Result<String> {
     Ok(format!(in alloc; "{folder}/partial")?)
 }
 
-/// Makes the folder where its parent is there, and `partial` in it.
+/// What is at a path, a folder. Anything else there is an error, a link to a folder too.
+fn find_folder(rt: &impl Files, path: &str) -> io::Result<Metadata> {
+    let found = fs::symlink_metadata(rt, path)?;
+    check_folder(&found)?;
+    Ok(found)
+}
+
+/// Anything but a folder as `partial` is an error. A link to a folder leads out of the disk's own.
+pub fn check_partial(rt: &impl Files, alloc: Global, folder: &str) -> io::Result<()> {
+    find_folder(rt, partial_path(alloc, folder)?.as_str())?;
+    Ok(())
+}
+
+/// Makes the folder where its parent is there, and `partial` in it, which may be there but must be a folder.
 pub fn make_folders(rt: &impl Files<File = File>, alloc: Global, folder: &str) -> io::Result<()> {
     if make_folder(rt, folder)? {
         sync_folder(rt, format!(in alloc; "{folder}/..")?.as_str())?;
     }
     make_folder(rt, partial_path(alloc, folder)?.as_str())?;
-    Ok(())
-}
-
-/// Anything but a folder as `partial` is an error. A link to a folder leads out of the disk's own.
-pub fn check_partial(rt: &impl Files, alloc: Global, folder: &str) -> io::Result<()> {
-    let path = partial_path(alloc, folder)?;
-    check_folder(&fs::symlink_metadata(rt, path.as_str())?)
+    check_partial(rt, alloc, folder)
 }
 
 /// Makes the changes of names in the folder and in `partial` lasting: the folder's first, so that a crash between the two
@@ -47,30 +54,18 @@ pub fn check_partial(rt: &impl Files, alloc: Global, folder: &str) -> io::Result
 pub fn sync_names(
     rt: &impl Files<File = File>,
     alloc: Global,
-    kept: &mut Kept,
+    kept: &mut Option<OpenFolders>,
     folder: &str,
 ) -> io::Result<()> {
     let partial = partial_path(alloc, folder)?;
-    let found = fs::symlink_metadata(rt, partial.as_str())?;
-    check_folder(&found)?;
-    let node = node_of(&fs::metadata(rt, folder)?);
-    sync_found(rt, &mut kept.folder, folder, node)?;
-    sync_found(rt, &mut kept.partial, partial.as_str(), node_of(&found))
-}
-
-/// Makes the changes of names in the folder that was found at a path lasting.
-fn sync_found(
-    rt: &impl Files<File = File>,
-    kept: &mut Option<OpenFolder>,
-    path: &str,
-    found: Node,
-) -> io::Result<()> {
-    let open = match still(kept.take(), found) {
-        Some(open) => open,
-        None => open_folder(rt, path, found)?,
+    let found = node_of(&find_folder(rt, partial.as_str())?);
+    let folders = match still(kept.take(), found) {
+        Some(folders) => folders,
+        None => open_folders(rt, folder, partial.as_str(), found)?,
     };
-    open.folder.sync_all()?;
-    *kept = Some(open);
+    folders.folder.sync_all()?;
+    folders.partial.sync_all()?;
+    *kept = Some(folders);
     Ok(())
 }
 
@@ -111,21 +106,23 @@ pub fn read_some(file: &File, at: u64, out: &mut [u8]) -> io::Result<usize>
     Err(io::Error::from(ErrorKind::Interrupted))
 }
 
-/// Moves a file to another path, in place of what is there.
-pub fn rename(rt: &impl Files, from: &str, to: &str) -> io::Result<()> {
+/// Moves a file to another path, in place of what is there, and answers whether there is one to move.
+pub fn rename(rt: &impl Files, from: &str, to: &str) -> io::Result<bool> {
     find_plain(rt, to)?;
-    match find_plain(rt, from)? {
-        Some(_) => fs::rename(rt, from, to),
-        None => Ok(()),
+    let found = find_plain(rt, from)?;
+    if found.is_some() {
+        fs::rename(rt, from, to)?;
     }
+    Ok(found.is_some())
 }
 
-/// Removes a file. It does nothing where nothing has the path.
-pub fn remove(rt: &impl Files, path: &str) -> io::Result<()> {
-    match find_plain(rt, path)? {
-        Some(_) => fs::remove_file(rt, path),
-        None => Ok(()),
+/// Removes a file, and answers whether there was one.
+pub fn remove(rt: &impl Files, path: &str) -> io::Result<bool> {
+    let found = find_plain(rt, path)?;
+    if found.is_some() {
+        fs::remove_file(rt, path)?;
     }
+    Ok(found.is_some())
 }
 
 /// Opens the file at a path to write, an absent one being made first.

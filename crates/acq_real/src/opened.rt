@@ -23,10 +23,12 @@ pub struct OpenFile {
     is_to_write: bool,
 }
 
-/// A folder that is open.
+/// A disk's folder and `partial` in it, open.
 #[derive(Drop)]
-pub struct OpenFolder {
+pub struct OpenFolders {
     pub folder: File,
+    pub partial: File,
+    /// Which folder `partial` is. It tells of both: nobody moves it to another folder.
     node: Node,
 }
 
@@ -36,8 +38,7 @@ pub struct OpenFolder {
 pub struct Kept {
     in_partial: Option<OpenFile>,
     beside: Option<OpenFile>,
-    pub folder: Option<OpenFolder>,
-    pub partial: Option<OpenFolder>,
+    pub folders: Option<OpenFolders>,
 }
 
 impl Kept {
@@ -46,8 +47,7 @@ impl Kept {
         Kept {
             in_partial: None,
             beside: None,
-            folder: None,
-            partial: None,
+            folders: None,
         }
     }
 
@@ -109,8 +109,8 @@ pub fn serving(kept: Option<OpenFile>, path: &str, to_write: bool) -> Option<Ope
     }
 }
 
-/// The folder that is open, if it is the one that was found.
-pub fn still(kept: Option<OpenFolder>, found: Node) -> Option<OpenFolder>
+/// The folders that are open, if `partial` is the one that was found.
+pub fn still(kept: Option<OpenFolders>, found: Node) -> Option<OpenFolders>
     ensures found { IfSome result (λ opened. opened.node ≡ found) }
 {
     match kept {
@@ -150,13 +150,20 @@ pub fn create(rt: &impl Files<File = File>, path: String) -> io::Result<OpenFile
     })
 }
 
-/// Opens the folder that was found at a path.
-pub fn open_folder(rt: &impl Files<File = File>, path: &str, found: Node) -> io::Result<OpenFolder>
+/// Opens a disk's folder, and `partial` that was found in it.
+pub fn open_folders(
+    rt: &impl Files<File = File>,
+    folder: &str,
+    partial: &str,
+    found: Node,
+) -> io::Result<OpenFolders>
     ensures { IfOk result (λ opened. opened.node ≡ found) }
 {
-    let folder = open_found(rt, path, found, false)?;
-    Ok(OpenFolder {
+    let folder = File::open(rt, folder)?;
+    let partial = open_found(rt, partial, found, false)?;
+    Ok(OpenFolders {
         folder,
+        partial,
         node: found,
     })
 }

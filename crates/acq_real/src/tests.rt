@@ -210,6 +210,15 @@ fn names_are_synced_in_the_folders_that_stand(rt: HostRuntime) -> Result<(), Fai
     Ok(())
 }
 
+/// Puts a link to a folder, or a file where there is none to link to, at a path.
+fn put_there(rt: &HostRuntime, linked: Option<&str>, path: &str) -> Result<(), Fail> {
+    match linked {
+        Some(folder) => symlink(rt, folder, path)?,
+        None => fs::write(rt, path, b"")?,
+    }
+    Ok(())
+}
+
 #[test]
 fn partial_that_is_a_link_or_a_file_is_a_fault(rt: HostRuntime) -> Result<(), Fail> {
     let alloc = rt.alloc();
@@ -219,20 +228,29 @@ fn partial_that_is_a_link_or_a_file_is_a_fault(rt: HostRuntime) -> Result<(), Fa
     let partial = format!(in alloc; "{folder}/partial")?;
     fs::create_dir(&rt, folder.as_str())?;
     fs::create_dir(&rt, elsewhere.as_str())?;
-    for is_link in [true, false] {
-        if is_link {
-            symlink(&rt, elsewhere.as_str(), partial.as_str())?;
-        } else {
-            fs::write(&rt, partial.as_str(), b"")?;
-        }
+    for linked in [Some(elsewhere.as_str()), None] {
+        put_there(&rt, linked, partial.as_str())?;
         let mut disk = RealDisk::new(alloc, rt.clone()?, folder.as_str())?;
-        write_whole(&mut disk, LIST, b"x")?;
         assert_eq!(rt; disk.cut(PARTIAL, 0), Err(Fault));
         assert_eq!(rt; disk.size(PARTIAL), Err(Fault));
-        assert_eq!(rt; disk.rename(LIST, PARTIAL), Err(Fault));
+        assert_eq!(rt; disk.cut(LIST, 0), Err(Fault));
         assert_eq!(rt; disk.names(alloc), Err(OutError::Fault));
         assert_eq!(rt; disk.sync_names(), Err(Fault));
-        assert_eq!(rt; (disk.faults(), disk.size(LIST)), (5, Ok(Some(1))));
+        assert_eq!(rt; disk.faults(), 5);
+        fs::remove_file(&rt, partial.as_str())?;
+        // Put there once the disk has found a folder.
+        write_whole(&mut disk, LIST, b"x")?;
+        disk.sync_names()?;
+        fs::remove_dir(&rt, partial.as_str())?;
+        assert_eq!(rt; disk.cut(PARTIAL, 0), Err(Fault));
+        put_there(&rt, linked, partial.as_str())?;
+        assert_eq!(rt; disk.size(PARTIAL), Err(Fault));
+        assert_eq!(rt; disk.write_at(PARTIAL, 0, b"x"), Err(Fault));
+        assert_eq!(rt; disk.rename(PARTIAL, LIST), Err(Fault));
+        assert_eq!(rt; disk.remove(PARTIAL), Err(Fault));
+        assert_eq!(rt; disk.names(alloc), Err(OutError::Fault));
+        assert_eq!(rt; disk.sync_names(), Err(Fault));
+        assert_eq!(rt; (disk.faults(), disk.size(LIST)), (12, Ok(Some(1))));
         fs::remove_file(&rt, partial.as_str())?;
     }
     assert_eq!(rt; fs::read_dir(&rt, elsewhere.as_str())?.count(), 0);

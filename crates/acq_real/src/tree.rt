@@ -13,18 +13,19 @@ use std::io::ErrorKind;
 use std::rt::Files;
 use std::{fs, io};
 
-/// A file that is kept open, and its path.
+/// A file that is kept open, its path, and the length that it had when it was found.
 #[derive(Drop)]
 struct Kept {
     path: Text,
     file: File,
+    len: u64,
 }
 
 /// The plain files of the operating system. A path is taken as it stands, and links are followed: what is no plain file in
 /// the end isn't there, and neither is a path that isn't UTF-8.
 ///
-/// The file of the last read stays open, so that a further read of the same path goes on with the same file. A call of
-/// `size` closes it.
+/// The file of the last call stays open, so that a further read of the same path goes on with the same file. A call of
+/// `size` opens it anew.
 #[derive(Drop)]
 pub struct RealTree<R: Drop> {
     rt: R,
@@ -49,6 +50,19 @@ impl<R: Files<File = File> + AllocGlobal + Clone + Drop> RealTree<R> {
         ensures { result ≡ faults_of self.now }
     {
         self.faults
+    }
+
+    /// The length of the file at a path in bytes. It is opened anew, to be read.
+    fn length(&mut self, path: &Text) -> io::Result<Option<u64>>
+        ensures { faults_of self.new ≡ faults_of self.old }
+    {
+        // Not kept where it can't be opened.
+        self.open = None;
+        self.open = open(&self.rt, self.rt.alloc(), path)?;
+        match &self.open {
+            Some(open) => Ok(Some(open.len)),
+            None => Ok(None),
+        }
     }
 
     /// Reads bytes of a file that is kept open, or is opened first.
@@ -76,8 +90,7 @@ impl<R: Files<File = File> + AllocGlobal + Clone + Drop> Tree for RealTree<R> {
         ensures fault { OnErr result (Rose (faults_of self.old) (faults_of self.new)) }
         ensures quiet { OnOk result (faults_of self.new ≡ faults_of self.old) }
     {
-        self.open = None;
-        let size = size_of(&self.rt, path);
+        let size = self.length(path);
         counted(&mut self.faults, size)
     }
 
@@ -134,30 +147,23 @@ fn is_absence(kind: ErrorKind) -> bool {
         || kind == ErrorKind::InvalidFilename
 }
 
-/// The length of the file at a path in bytes.
-fn size_of(rt: &impl Files, path: &Text) -> io::Result<Option<u64>> {
-    let Ok(path) = str::from_utf8(path.as_bytes()) else {
-        return Ok(None);
-    };
-    match find_plain(rt, path)? {
-        Some(found) => Ok(Some(found.len())),
-        None => Ok(None),
-    }
-}
-
 /// Opens the file at a path, if there is one.
 fn open(rt: &impl Files<File = File>, alloc: Global, path: &Text) -> io::Result<Option<Kept>> {
     let Ok(name) = str::from_utf8(path.as_bytes()) else {
         return Ok(None);
     };
-    if find_plain(rt, name)?.is_none() {
+    let Some(found) = find_plain(rt, name)? else {
         return Ok(None);
-    }
+    };
     let Some(file) = unless(ErrorKind::NotFound, File::open(rt, name))? else {
         return Ok(None);
     };
     match path.copy(alloc) {
-        Ok(path) => Ok(Some(Kept { path, file })),
+        Ok(path) => Ok(Some(Kept {
+            path,
+            file,
+            len: found.len(),
+        })),
         Err(_) => Err(io::Error::from(ErrorKind::OutOfMemory)),
     }
 }

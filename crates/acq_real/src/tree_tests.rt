@@ -94,7 +94,7 @@ fn plain_files_and_links_to_them(rt: HostRuntime) -> Result<(), Fail> {
 }
 
 #[test]
-fn a_file_stays_open_from_read_to_read(rt: HostRuntime) -> Result<(), Fail> {
+fn a_file_stays_open_from_its_size_on(rt: HostRuntime) -> Result<(), Fail> {
     let alloc = rt.alloc();
     let id = process::id(rt.process());
     let temporary = env::temp_dir(&rt)?;
@@ -105,12 +105,12 @@ fn a_file_stays_open_from_read_to_read(rt: HostRuntime) -> Result<(), Fail> {
     let path = Text::from_bytes(alloc, name.as_bytes())?;
     let mut tree = RealTree::new(rt.clone()?);
     assert_eq!(rt; tree.size(&path), Ok(Some(6)));
+    // Another file under that name: the reads go on with the one that is open, until its size is asked for.
+    fs::rename(&rt, other.as_str(), name.as_str())?;
     assert_eq!(rt;
         four(alloc, &mut tree, &path, 0)??.as_slice(),
         b"abcd".as_slice()
     );
-    // Another file under that name: the reads go on with the one that is open, until its size is asked for.
-    fs::rename(&rt, other.as_str(), name.as_str())?;
     assert_eq!(rt;
         four(alloc, &mut tree, &path, 4)??.as_slice(),
         b"ef".as_slice()

@@ -5,6 +5,7 @@ ghost use Rattle.acq_real.specs.Opened.{opened_by};
 ghost use Rattle.acq_real.specs.RealDisk.{IsNameClosed, IsSame, folder_of};
 
 use super::RealDisk;
+use crate::answer::unless;
 use crate::folder;
 use crate::listing::Entry;
 use crate::opened::{OpenFile, create, node_of, open_file, serving};
@@ -37,16 +38,6 @@ impl<R: Files<File = File> + AllocGlobal + Clone + Drop> RealDisk<R> {
         Ok(())
     }
 
-    /// The path of a file, once `partial` is known to be a folder where the file lies in it.
-    fn checked_path(&mut self, name: &[u8]) -> io::Result<String>
-        ensures same { IsSame self.old self.new }
-        ensures inside { IfOk result (λ path. IsPathInside (folder_of self.old) name.now (string_bytes path)) }
-    {
-        let path = self.path(name)?;
-        self.check(name)?;
-        Ok(path)
-    }
-
     /// Opens a file, unless it is open already. Where nothing has the name it is `None`. It stays open where what is done
     /// with it succeeds.
     fn open(&mut self, name: &[u8], to_write: bool) -> io::Result<Option<OpenFile>>
@@ -59,25 +50,33 @@ impl<R: Files<File = File> + AllocGlobal + Clone + Drop> RealDisk<R> {
         if let Some(open) = serving(kept, path.as_str(), to_write) {
             return Ok(Some(open));
         }
-        self.check(name)?;
         match folder::find_plain(&self.rt, path.as_str())? {
             Some(found) => Ok(Some(open_file(&self.rt, path, node_of(&found), to_write)?)),
-            None => Ok(None),
+            None => {
+                self.check(name)?;
+                Ok(None)
+            }
         }
     }
 
-    /// Opens a file to be written, an absent one being made first.
+    /// Opens a file to be written, unless it is open already. An absent one is made, which is tried first: most are.
     fn open_or_make(&mut self, name: &[u8]) -> io::Result<OpenFile>
         ensures same { IsSame self.old self.new }
         ensures inside { OnOk result (IsInside name.now) }
         ensures path { IfOk result (λ opened. IsPathInside (folder_of self.old) name.now (opened_by opened)) }
     {
+        let path = self.path(name)?;
+        let kept = self.kept.take(is_partial(name));
+        if let Some(open) = serving(kept, path.as_str(), true) {
+            return Ok(open);
+        }
+        if let Some(made) = unless(ErrorKind::AlreadyExists, create(&self.rt, path))? {
+            return Ok(made);
+        }
         match self.open(name, true)? {
             Some(open) => Ok(open),
-            None => {
-                let path = self.path(name)?;
-                create(&self.rt, path)
-            }
+            // Another process removed it.
+            None => Err(io::Error::from(ErrorKind::NotFound)),
         }
     }
 
@@ -116,8 +115,12 @@ impl<R: Files<File = File> + AllocGlobal + Clone + Drop> RealDisk<R> {
         ensures same { IsSame self.old self.new }
         ensures inside { OnOk result (IsInside name.now) }
     {
-        let path = self.checked_path(name)?;
-        folder::length(&self.rt, path.as_str())
+        let path = self.path(name)?;
+        let length = folder::length(&self.rt, path.as_str())?;
+        if length.is_none() {
+            self.check(name)?;
+        }
+        Ok(length)
     }
 
     pub(super) fn read(&mut self, name: &[u8], at: u64, out: &mut [u8]) -> io::Result<usize>
@@ -175,7 +178,7 @@ impl<R: Files<File = File> + AllocGlobal + Clone + Drop> RealDisk<R> {
         folder::sync_names(
             &self.rt,
             self.rt.alloc(),
-            &mut self.kept,
+            &mut self.kept.folders,
             self.folder.as_str(),
         )
     }
@@ -185,11 +188,14 @@ impl<R: Files<File = File> + AllocGlobal + Clone + Drop> RealDisk<R> {
         ensures inside { OnOk result (IsInside from.now × IsInside to.now) }
         ensures closed { OnOk result (IsNameClosed self.new from.now × IsNameClosed self.new to.now) }
     {
-        let from = self.checked_path(from)?;
-        let to = self.checked_path(to)?;
-        self.kept.forget(from.as_str());
-        self.kept.forget(to.as_str());
-        folder::rename(&self.rt, from.as_str(), to.as_str())
+        let from_path = self.path(from)?;
+        let to_path = self.path(to)?;
+        self.kept.forget(from_path.as_str());
+        self.kept.forget(to_path.as_str());
+        if !folder::rename(&self.rt, from_path.as_str(), to_path.as_str())? {
+            self.check(from)?;
+        }
+        Ok(())
     }
 
     pub(super) fn remove_one(&mut self, name: &[u8]) -> io::Result<()>
@@ -197,8 +203,11 @@ impl<R: Files<File = File> + AllocGlobal + Clone + Drop> RealDisk<R> {
         ensures inside { OnOk result (IsInside name.now) }
         ensures closed { OnOk result (IsNameClosed self.new name.now) }
     {
-        let path = self.checked_path(name)?;
+        let path = self.path(name)?;
         self.kept.forget(path.as_str());
-        folder::remove(&self.rt, path.as_str())
+        if !folder::remove(&self.rt, path.as_str())? {
+            self.check(name)?;
+        }
+        Ok(())
     }
 }
