@@ -118,18 +118,12 @@ fn what_is_no_plain_file_and_a_name_outside_are_faults(rt: HostRuntime) -> Resul
     let mut disk = RealDisk::new(alloc, rt.clone()?, folder.as_str())?;
     write_whole(&mut disk, OTHER, b"x")?;
     fs::create_dir(&rt, format!(in alloc; "{folder}/sub")?.as_str())?;
+    let outside = format!(in alloc; "{own}/outside")?;
+    let nowhere = format!(in alloc; "{own}/nowhere")?;
     let link = format!(in alloc; "{folder}/a_list")?;
-    symlink(
-        &rt,
-        format!(in alloc; "{own}/outside")?.as_str(),
-        link.as_str(),
-    )?;
     let gone = format!(in alloc; "{folder}/partial/a_list")?;
-    symlink(
-        &rt,
-        format!(in alloc; "{own}/nowhere")?.as_str(),
-        gone.as_str(),
-    )?;
+    symlink(&rt, outside.as_str(), link.as_str())?;
+    symlink(&rt, nowhere.as_str(), gone.as_str())?;
     let mut piece = [0u8; 3];
     // A folder, a link to a file, a link to nothing, and a name that leads out.
     for name in [FOLDER, LIST, PARTIAL, ABOVE] {
@@ -149,8 +143,8 @@ fn what_is_no_plain_file_and_a_name_outside_are_faults(rt: HostRuntime) -> Resul
     }
     assert_eq!(rt; disk.faults(), 44);
     assert_eq!(rt; disk.names(alloc)?, names_of(alloc, &[OTHER])?);
-    let outside = fs::read(&rt, format!(in alloc; "{own}/outside")?.as_str())?;
-    assert_eq!(rt; outside.as_slice(), b"old".as_slice());
+    let left = fs::read(&rt, outside.as_str())?;
+    assert_eq!(rt; left.as_slice(), b"old".as_slice());
     fs::remove_dir_all(&rt, own.as_str())?;
     Ok(())
 }
@@ -245,7 +239,7 @@ fn partial_that_is_a_link_or_a_file_is_a_fault(rt: HostRuntime) -> Result<(), Fa
         assert_eq!(rt; disk.cut(PARTIAL, 0), Err(Fault));
         put_there(&rt, linked, partial.as_str())?;
         assert_eq!(rt; disk.size(PARTIAL), Err(Fault));
-        assert_eq!(rt; disk.write_at(PARTIAL, 0, b"x"), Err(Fault));
+        assert_eq!(rt; disk.sync(PARTIAL), Err(Fault));
         assert_eq!(rt; disk.rename(PARTIAL, LIST), Err(Fault));
         assert_eq!(rt; disk.remove(PARTIAL), Err(Fault));
         assert_eq!(rt; disk.names(alloc), Err(OutError::Fault));
