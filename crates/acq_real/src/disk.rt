@@ -21,14 +21,15 @@ use std::rt::Files;
 
 mod calls;
 
-/// A folder of the operating system. It works below that folder alone, and on plain files alone: any other name is a
-/// fault, and so is a folder or a link in place of a file, or in place of `partial` anything but a folder.
+/// A folder of the operating system. As long as nobody else changes that folder, it works below it alone, and on plain
+/// files alone: any other name is a fault, and so is a folder or a link in place of a file, or in place of `partial`
+/// anything but a folder.
 ///
 /// What stands at a path is looked up first and used by a further call of the system. Another process that puts a link
 /// in its place between the two is found out where the file is opened. Whether `partial` is a folder is looked up by each
-/// call until one found it so, whenever names are listed or synced, and where a file in it is absent; another process that
-/// puts a link in its place between two looks leads the calls out of the folder. So nobody else may be allowed to change
-/// the folder.
+/// call until one found it so, whenever names are listed or synced, and where a file in it that is to be read, measured,
+/// synced, moved or removed is absent. Another process that puts a link in its place between two looks leads the calls out
+/// of the folder, so nobody else may be allowed to change it.
 ///
 /// The file in `partial` that was last read, written, cut or synced, and the last one beside it, stay open and serve the
 /// next such calls with their names, until such a call has another name or fails, or the disk moves the file, puts one in

@@ -61,6 +61,9 @@ fn a_real_disk_writes_reads_and_moves(rt: HostRuntime) -> Result<(), Fail> {
     let mut piece = [0u8; 3];
     assert_eq!(rt; disk.read_at(PARTIAL, 3, &mut piece), Ok(2));
     assert_eq!(rt; piece, *b"de\0");
+    assert_eq!(rt; disk.size(PARTIAL), Ok(Some(5)));
+    disk.rename(PARTIAL, LIST)?;
+    // Moved already.
     disk.rename(PARTIAL, LIST)?;
     disk.sync_names()?;
     assert_eq!(rt;
@@ -85,6 +88,8 @@ fn a_real_disk_lists_changes_and_removes(rt: HostRuntime) -> Result<(), Fail> {
         disk.names(alloc)?,
         names_of(alloc, &[OTHER, LIST, PARTIAL])?
     );
+    disk.remove(PARTIAL)?;
+    assert_eq!(rt; disk.size(PARTIAL), Ok(None));
     // Within the file, at its end, and cut.
     disk.write_at(LIST, 1, b"XY")?;
     disk.write_at(LIST, 5, b"fg")?;
@@ -158,14 +163,18 @@ fn a_file_stays_open_until_it_is_moved_replaced_or_removed(rt: HostRuntime) -> R
     let mut piece = [0u8; 3];
     write_whole(&mut disk, OTHER, b"two")?;
     write_whole(&mut disk, LIST, b"one")?;
-    // Another file in its place.
+    // Another file in its place. What was opened to be read serves no change.
     disk.rename(OTHER, LIST)?;
+    assert_eq!(rt; disk.read_at(LIST, 0, &mut piece), Ok(3));
+    disk.cut(LIST, 3)?;
     assert_eq!(rt; disk.read_at(LIST, 0, &mut piece), Ok(3));
     assert_eq!(rt; piece, *b"two");
     // Moved, and removed and made anew.
     disk.rename(LIST, OTHER)?;
     assert_eq!(rt; disk.read_at(LIST, 0, &mut piece), Ok(0));
     assert_eq!(rt; disk.write_at(LIST, 0, b"new"), Err(Fault));
+    assert_eq!(rt; disk.read_at(OTHER, 0, &mut piece), Ok(3));
+    disk.write_at(OTHER, 0, b"T")?;
     disk.cut(OTHER, 1)?;
     disk.remove(OTHER)?;
     disk.cut(OTHER, 2)?;
@@ -237,6 +246,10 @@ fn partial_that_is_a_link_or_a_file_is_a_fault(rt: HostRuntime) -> Result<(), Fa
         disk.sync_names()?;
         fs::remove_dir(&rt, partial.as_str())?;
         assert_eq!(rt; disk.cut(PARTIAL, 0), Err(Fault));
+        assert_eq!(rt; disk.size(PARTIAL), Err(Fault));
+        assert_eq!(rt; disk.sync(PARTIAL), Err(Fault));
+        assert_eq!(rt; disk.rename(PARTIAL, LIST), Err(Fault));
+        assert_eq!(rt; disk.remove(PARTIAL), Err(Fault));
         put_there(&rt, linked, partial.as_str())?;
         assert_eq!(rt; disk.size(PARTIAL), Err(Fault));
         assert_eq!(rt; disk.sync(PARTIAL), Err(Fault));
@@ -244,7 +257,7 @@ fn partial_that_is_a_link_or_a_file_is_a_fault(rt: HostRuntime) -> Result<(), Fa
         assert_eq!(rt; disk.remove(PARTIAL), Err(Fault));
         assert_eq!(rt; disk.names(alloc), Err(OutError::Fault));
         assert_eq!(rt; disk.sync_names(), Err(Fault));
-        assert_eq!(rt; (disk.faults(), disk.size(LIST)), (12, Ok(Some(1))));
+        assert_eq!(rt; (disk.faults(), disk.size(LIST)), (16, Ok(Some(1))));
         fs::remove_file(&rt, partial.as_str())?;
     }
     assert_eq!(rt; fs::read_dir(&rt, elsewhere.as_str())?.count(), 0);

@@ -13,7 +13,7 @@ use std::io::ErrorKind;
 use std::rt::Files;
 use std::{fs, io};
 
-/// A file that is kept open, its path, and the length that it had when it was found.
+/// A file that is kept open, its path, and the length that was found there before it was opened.
 #[derive(Drop)]
 struct Kept {
     path: Text,
@@ -24,8 +24,8 @@ struct Kept {
 /// The plain files of the operating system. A path is taken as it stands, and links are followed: what is no plain file in
 /// the end isn't there, and neither is a path that isn't UTF-8.
 ///
-/// The file of the last call stays open, so that a further read of the same path goes on with the same file. A call of
-/// `size` opens it anew.
+/// The file whose size was last told, or that was last read, stays open, so that a further read of the same path goes on
+/// with the same file. A call of `size` opens it anew.
 #[derive(Drop)]
 pub struct RealTree<R: Drop> {
     rt: R,
@@ -56,7 +56,7 @@ impl<R: Files<File = File> + AllocGlobal + Clone + Drop> RealTree<R> {
     fn length(&mut self, path: &Text) -> io::Result<Option<u64>>
         ensures { faults_of self.new ≡ faults_of self.old }
     {
-        // Not kept where it can't be opened.
+        // The former file isn't kept where this one can't be opened.
         self.open = None;
         self.open = open(&self.rt, self.rt.alloc(), path)?;
         match &self.open {

@@ -120,6 +120,11 @@ fn a_file_stays_open_from_its_size_on(rt: HostRuntime) -> Result<(), Fail> {
         four(alloc, &mut tree, &path, 1)??.as_slice(),
         b"BC".as_slice()
     );
+    // Nothing that can be reached.
+    fs::remove_file(&rt, name.as_str())?;
+    symlink(&rt, name.as_str(), name.as_str())?;
+    assert_eq!(rt; tree.size(&path), Err(Fault));
+    assert!(rt; four(alloc, &mut tree, &path, 1)?.is_err());
     fs::remove_file(&rt, name.as_str())?;
     Ok(())
 }

@@ -59,7 +59,7 @@ impl<R: Files<File = File> + AllocGlobal + Clone + Drop> RealDisk<R> {
         }
     }
 
-    /// Opens a file to be written, unless it is open already. An absent one is made, which is tried first: most are.
+    /// Opens a file to be written, unless it is open already. Making it is tried first, since most are absent.
     fn open_or_make(&mut self, name: &[u8]) -> io::Result<OpenFile>
         ensures same { IsSame self.old self.new }
         ensures inside { OnOk result (IsInside name.now) }
