@@ -34,7 +34,5 @@ mod refusal;
 mod row;
 mod settings;
 mod sum;
-#[cfg(test)]
-mod tests;
 mod text;
 mod uri;

@@ -11,5 +11,3 @@ pub use tcp_link::TcpLink;
 mod link;
 mod script_link;
 mod tcp_link;
-#[cfg(test)]
-mod tests;

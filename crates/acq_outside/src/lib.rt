@@ -50,8 +50,6 @@ mod replay;
 mod sink;
 mod start;
 mod state;
-#[cfg(test)]
-mod tests;
 mod tree;
 mod whole;
 mod word;

@@ -96,7 +96,6 @@ impl MemDisk {
     }
 
     /// How often it failed.
-    #[cfg(test)]
     pub fn faults(&self) -> u64
         ensures { result ≡ (failing_of self.now).faults }
     {

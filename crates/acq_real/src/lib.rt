@@ -17,15 +17,9 @@ mod clock;
 mod disk;
 mod etc;
 mod etc_folder;
-#[cfg(test)]
-mod etc_tests;
 mod folder;
 mod listing;
 mod opened;
 mod path;
 mod sink;
-#[cfg(test)]
-mod tests;
 mod tree;
-#[cfg(test)]
-mod tree_tests;

@@ -20,7 +20,5 @@ mod reading;
 mod run;
 mod statement;
 mod table;
-#[cfg(test)]
-mod tests;
 mod token;
 mod values;

@@ -4,5 +4,3 @@
 pub use method::BothMethod;
 
 mod method;
-#[cfg(test)]
-mod tests;

@@ -6,6 +6,4 @@ pub use folder::beside;
 pub use uris::{by_hash_uri, candidates};
 
 mod folder;
-#[cfg(test)]
-mod tests;
 mod uris;

@@ -8,5 +8,3 @@ mod error;
 mod frame;
 mod header;
 mod numbered;
-#[cfg(test)]
-mod tests;

@@ -10,5 +10,3 @@ pub use request::{Options, Request};
 mod command;
 mod reading;
 mod request;
-#[cfg(test)]
-mod tests;

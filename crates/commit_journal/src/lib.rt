@@ -23,5 +23,3 @@ mod prepared;
 mod preparing;
 mod recording;
 mod recovery;
-#[cfg(test)]
-mod tests;

@@ -17,5 +17,3 @@ mod file;
 mod lists;
 mod names;
 mod planning;
-#[cfg(test)]
-mod tests;

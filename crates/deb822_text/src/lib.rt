@@ -19,6 +19,4 @@ mod names;
 mod paragraph;
 mod reading;
 mod repeated;
-#[cfg(test)]
-mod tests;
 mod writing;

@@ -20,5 +20,3 @@ mod lines;
 mod reading;
 mod script;
 mod segment;
-#[cfg(test)]
-mod tests;

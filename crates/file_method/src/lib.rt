@@ -10,5 +10,3 @@ pub use method::FileMethod;
 mod laws;
 mod method;
 mod piece;
-#[cfg(test)]
-mod tests;

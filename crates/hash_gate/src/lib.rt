@@ -9,7 +9,5 @@ pub use total::Total;
 pub use verdict::Verdict;
 
 mod gate;
-#[cfg(test)]
-mod tests;
 mod total;
 mod verdict;

@@ -10,5 +10,3 @@ pub use queues::Queues;
 mod lane;
 mod laws;
 mod queues;
-#[cfg(test)]
-mod tests;

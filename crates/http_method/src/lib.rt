@@ -10,5 +10,3 @@ mod hearing;
 mod method;
 mod reading;
 mod saying;
-#[cfg(test)]
-mod tests;

@@ -21,13 +21,7 @@ mod fields;
 mod laws;
 mod lines;
 mod meaning;
-#[cfg(test)]
-mod more_streams;
 mod phase;
 mod reading;
 mod sending;
-#[cfg(test)]
-mod streams;
-#[cfg(test)]
-mod tests;
 mod wire;

@@ -9,5 +9,3 @@ pub use picker::{Picker, TargetTest};
 
 mod judge;
 mod picker;
-#[cfg(test)]
-mod tests;

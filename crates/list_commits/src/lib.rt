@@ -16,5 +16,3 @@ mod committing;
 mod laws;
 mod loose;
 mod settling;
-#[cfg(test)]
-mod tests;

@@ -9,6 +9,4 @@ pub use verifying::verify;
 
 mod names;
 mod reading;
-#[cfg(test)]
-mod tests;
 mod verifying;

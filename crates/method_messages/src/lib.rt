@@ -12,18 +12,12 @@ pub use validity::valid;
 pub use writing::encode;
 
 mod cutting;
-#[cfg(test)]
-mod dice;
 mod error;
 mod laws;
 mod line;
 mod message;
 mod progress;
 mod reader;
-#[cfg(test)]
-mod samples;
 mod step;
-#[cfg(test)]
-mod tests;
 mod validity;
 mod writing;

@@ -12,6 +12,4 @@ mod lists;
 mod made;
 mod packages;
 mod rows;
-#[cfg(test)]
-mod tests;
 mod texts;

@@ -11,5 +11,3 @@ pub use store::{begin, finish, put, read_part, resume_from};
 mod laws;
 mod part;
 mod store;
-#[cfg(test)]
-mod tests;

@@ -13,5 +13,3 @@ mod links;
 mod reading;
 mod steps;
 mod sums;
-#[cfg(test)]
-mod tests;

@@ -16,5 +16,3 @@ mod judging;
 mod reading;
 mod release;
 mod sums;
-#[cfg(test)]
-mod tests;

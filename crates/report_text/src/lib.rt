@@ -12,7 +12,5 @@ mod fault;
 mod numbers;
 mod refused;
 mod source;
-#[cfg(test)]
-mod tests;
 mod total;
 mod whole;

@@ -20,6 +20,4 @@ mod options;
 mod sources;
 mod stanza;
 mod suites;
-#[cfg(test)]
-mod tests;
 mod values;

@@ -15,5 +15,3 @@ mod real_environment;
 mod refused;
 mod start;
 mod telling;
-#[cfg(test)]
-mod tests;

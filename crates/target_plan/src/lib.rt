@@ -17,5 +17,3 @@ mod offers;
 mod overfull;
 mod places;
 mod planning;
-#[cfg(test)]
-mod tests;

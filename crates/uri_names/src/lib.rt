@@ -17,5 +17,3 @@ mod names;
 mod parts;
 mod reading;
 mod redirect;
-#[cfg(test)]
-mod tests;

@@ -1,0 +1,34 @@
+//! The words of a command line.
+
+use case_words::{Refused, put_name, text};
+use command_words::{Options, Request, read_words};
+use std::alloc::Global;
+use std::fmt::Write;
+
+/// What words ask for: of `update` the pairs, each in brackets, and a `+` for `--together`; of `generate` the number.
+pub fn asked(alloc: Global, words: &[&[u8]]) -> Result<String, Refused> {
+    let mut given = Vec::new(alloc);
+    for word in words {
+        given.push(String::from_str(alloc, text(word)?)?)?;
+    }
+    let mut out = String::new(alloc);
+    match read_words(alloc, given.as_slice())? {
+        Some(Request::Update(options)) => put_options(alloc, &mut out, &options)?,
+        Some(Request::Generate(number)) => write!(out, "generate {number}")?,
+        None => out.push_str("refused")?,
+    }
+    Ok(out)
+}
+
+fn put_options(alloc: Global, out: &mut String, options: &Options) -> Result<(), Refused> {
+    out.push_str("update ")?;
+    for pair in options.pairs.as_slice() {
+        out.push('[')?;
+        put_name(alloc, out, pair.as_bytes())?;
+        out.push(']')?;
+    }
+    if options.together {
+        out.push('+')?;
+    }
+    Ok(())
+}

@@ -1,4 +1,0 @@
-mod objects;
-mod orders;
-mod plans;
-mod refusals;

@@ -1,0 +1,60 @@
+//! The program `object_calls`: makes the calls that the lines of its standard input name, one after another, on real files
+//! and sockets and on a lists folder in memory, and prints what each answers.
+//!
+//! A line is an object, a call and its arguments, with one blank between them: `disk`, `etc`, `tree`, `clock`, `sink` and
+//! `link` are the objects of the operating system that `acq_real` and `acq_net` have, `files` is the system itself, by
+//! which something is put or taken away behind their backs, `peer` is the other side of the link, and `memory` is a lists
+//! folder in memory. In an argument `\n` and `\r` are line ends, `\x20` is the byte of that number, and `""` is the empty
+//! text. An empty line and one that begins with `#` are printed again. All paths are below one folder of its own, which is
+//! made first and removed last.
+#![tactic(auto)]
+
+use objects::Objects;
+use std::{env, fs, io, process};
+
+mod answers;
+mod disk;
+mod etc;
+mod files;
+mod folder;
+mod link;
+mod memory;
+mod objects;
+mod tree;
+mod words;
+
+fn main(rt: HostRuntime) -> io::Result<()> {
+    let own = own_folder(&rt)?;
+    fs::create_dir(&rt, own.as_str())?;
+    let ran = answer_all(rt, own.as_str());
+    fs::remove_dir_all(&rt, own.as_str())?;
+    ran
+}
+
+/// A path of this run's own, at which there is nothing.
+fn own_folder(rt: &HostRuntime) -> io::Result<String> {
+    let alloc = rt.alloc();
+    let id = process::id(rt.process());
+    let temporary = env::temp_dir(rt)?;
+    Ok(format!(in alloc; "{}/object_calls_{id}", temporary.as_str())?)
+}
+
+/// Answers each line.
+fn answer_all(rt: HostRuntime, own: &str) -> io::Result<()> {
+    let mut objects = Objects::new(rt, own)?;
+    for line in rt.lines(rt.alloc()) {
+        answer(rt, &mut objects, line?.as_str())?;
+    }
+    Ok(())
+}
+
+/// Prints a line, behind a call what it answers.
+fn answer(rt: HostRuntime, objects: &mut Objects, line: &str) -> io::Result<()> {
+    if line.is_empty() || line.starts_with('#') {
+        return println!(rt; "{line}");
+    }
+    match objects.answer(line) {
+        Ok(text) => println!(rt; "{line} -> {text}"),
+        Err(refused) => println!(rt; "{line} -> {refused}"),
+    }
+}

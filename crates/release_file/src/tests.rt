@@ -1,5 +1,0 @@
-mod changed;
-mod dates;
-mod framed;
-mod judged;
-mod read;
