@@ -1,6 +1,0 @@
-use Rattle.update_core.specs.Standing.{board_of}
-use Rattle.board_runs.proofs.Kept.{on_absorbed}
-use Rattle.board_runs.proofs.tests.driver.take_in.Goals as goal
-
-pub returns : goal.returns
-returns g c = on_absorbed (board_of c.args.board.now) (board_of c.absorb.new.self) c.args.lane c.args.number c.args.closed c.absorb.result c.absorb.ensures

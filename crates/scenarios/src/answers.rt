@@ -1,0 +1,97 @@
+//! What the mirror answers to a job of a board.
+
+use crate::given::{Given, Has};
+use crate::refused::Refused;
+use acq_base::{Bytes, Job, ListName, Text, TryCopy, sum_of};
+use std::alloc::Global;
+use update_model::{Body, Closed};
+use uri_names::{read_uri, uri_text};
+
+/// How often asks at this URI are to fail.
+pub fn faults_at(given: &Given, uri: &Text) -> u64 {
+    for row in given.faulty.as_slice() {
+        if row.0 == *uri {
+            return row.1;
+        }
+    }
+    0
+}
+
+/// What the mirror has under this URI.
+fn had<'a>(given: &'a Given, uri: &Text) -> Option<&'a Has> {
+    for row in given.mirror.as_slice() {
+        if row.0 == *uri {
+            return Some(&row.1);
+        }
+    }
+    None
+}
+
+/// The file that a list on its way comes to: so many of the bytes that are there, and those of the file behind them.
+fn staged(
+    alloc: Global,
+    given: &Given,
+    from: u64,
+    name: &ListName,
+    file: &[u8],
+) -> Result<Closed, Refused> {
+    let kept = from as usize;
+    let mut path = Text::from_bytes(alloc, b"partial/")?;
+    path.append(name.0.as_bytes())?;
+    let mut whole = Bytes::new(alloc);
+    if let Some(part) = given.disk.get(&path) {
+        if let Some(front) = part.as_slice().get(..kept) {
+            whole.append(front)?;
+        }
+    }
+    if let Some(rest) = file.get(kept..) {
+        whole.append(rest)?;
+    }
+    Ok(Closed::Served(Body::Staged(sum_of(whole.as_slice()))))
+}
+
+/// The bytes of a file, as the answer to a job; of one that goes into a partial file, its sum with the front of that.
+fn served(
+    alloc: Global,
+    given: &Given,
+    job: &Job,
+    list: Option<&ListName>,
+    file: &Bytes,
+) -> Result<Closed, Refused> {
+    let size = file.len() as u64;
+    if size > job.max {
+        return Ok(Closed::TooBig);
+    }
+    if job.from > 0 && size <= job.from {
+        return Ok(Closed::Absent(416));
+    }
+    match list {
+        Some(name) => staged(alloc, given, job.from, name, file.as_slice()),
+        None => Ok(Closed::Served(Body::Bytes(file.copy(alloc)?))),
+    }
+}
+
+/// What the mirror answers to a job, which goes into a list's partial file or into memory. What it hasn't is absent with
+/// status 404.
+pub fn answer(
+    alloc: Global,
+    given: &Given,
+    job: &Job,
+    list: Option<&ListName>,
+) -> Result<Closed, Refused> {
+    match had(given, &uri_text(alloc, &job.uri)?) {
+        Some(Has::File(file)) => served(alloc, given, job, list, file),
+        Some(Has::Whole(_)) if job.from > 0 => Ok(Closed::Absent(200)),
+        Some(Has::Whole(file)) => served(alloc, given, job, list, file),
+        Some(Has::Moved(Some(place))) => Ok(Closed::Moved(Some(read_uri(
+            alloc,
+            place.as_bytes(),
+        )?))),
+        Some(Has::Moved(None)) => Ok(Closed::Moved(None)),
+        Some(Has::Absent(status)) => Ok(Closed::Absent(*status)),
+        Some(Has::TooBig) => Ok(Closed::TooBig),
+        Some(Has::Garbled(at)) => Ok(Closed::Garbled(*at)),
+        Some(Has::Letters(_)) => Err(Refused::Methods),
+        None => Ok(Closed::Absent(404)),
+    }
+}

@@ -1,0 +1,170 @@
+//! The lines of a scenario.
+
+use crate::given::{Configured, Given, Has, Kind, Stop, Tell};
+use crate::quoted::{read_bytes, read_named, read_pieces};
+use crate::refused::Refused;
+use acq_base::{Row, Text};
+use acq_outside::{Place, is_name};
+use std::alloc::Global;
+
+/// Takes a line that says something of a run.
+pub fn take_line(alloc: Global, given: &mut Given, line: &str) -> Result<(), Refused> {
+    let (kind, rest) = halves(line);
+    match kind {
+        "word" => given.words.push(read_word(alloc, rest)?)?,
+        "etc" => given.etc.push(read_configured(alloc, rest)?)?,
+        "now" => given.now = rest.parse::<i64>().map_err(|_| Refused::Line)?,
+        "mirror" => given.mirror.push(read_answer(alloc, rest)?)?,
+        "faulty" => given.faulty.push(read_faulty(alloc, rest)?)?,
+        "board" if rest.is_empty() => given.kind = Kind::Board,
+        "item" if rest.is_empty() => given.kind = Kind::Item,
+        "tree" => {
+            let (path, content) = read_named(alloc, rest)?;
+            let path = Text::from_bytes(alloc, path.as_bytes())?;
+            given.tree.push((path, content))?;
+        }
+        "peer" => given.peers.push(read_pieces(alloc, rest)?)?,
+        "disk" => take_file(alloc, given, rest)?,
+        "held" if rest.is_empty() => given.held = true,
+        "methods" => given.methods = rest.parse::<u8>().map_err(|_| Refused::Line)?,
+        "fails" => take_fails(given, rest)?,
+        "stop" => given.stop = read_stop(alloc, rest)?,
+        "tell" => take_tell(&mut given.tell, rest)?,
+        _ => return Err(Refused::Line),
+    }
+    Ok(())
+}
+
+/// What stands before the first space, and what stands behind it.
+fn halves(line: &str) -> (&str, &str) {
+    line.split_once(' ').unwrap_or((line, ""))
+}
+
+/// A word of the command line.
+fn read_word(alloc: Global, rest: &str) -> Result<String, Refused> {
+    let bytes = read_bytes(alloc, rest)?;
+    let word = str::from_utf8(bytes.as_slice()).map_err(|_| Refused::NotText)?;
+    Ok(String::from_str(alloc, word)?)
+}
+
+/// A file of the configuration folder, by its path there.
+fn read_configured(alloc: Global, rest: &str) -> Result<Configured, Refused> {
+    let (path, content) = read_named(alloc, rest)?;
+    let (place, name) = place_of(path)?;
+    Ok(Configured {
+        place,
+        name: Text::from_bytes(alloc, name.as_bytes())?,
+        content,
+    })
+}
+
+fn place_of(path: &str) -> Result<(Place, &str), Refused> {
+    match path.split_once('/') {
+        None if path == "sources.list" => Ok((Place::SourcesList, "")),
+        None if path == "apt.conf" => Ok((Place::Conf, "")),
+        Some(("sources.list.d", name)) => Ok((Place::SourcesParts, name)),
+        Some(("apt.conf.d", name)) => Ok((Place::ConfParts, name)),
+        _ => Err(Refused::Line),
+    }
+}
+
+/// A URI, and how often asks there fail.
+fn read_faulty(alloc: Global, rest: &str) -> Result<(Text, u64), Refused> {
+    let (uri, times) = halves(rest);
+    let times = times.parse::<u64>().map_err(|_| Refused::Line)?;
+    Ok((Text::from_bytes(alloc, uri.as_bytes())?, times))
+}
+
+/// What a mirror has under a URI.
+fn read_answer(alloc: Global, rest: &str) -> Result<(Text, Has), Refused> {
+    let (uri, rest) = halves(rest);
+    let (kind, value) = halves(rest);
+    let has = match kind {
+        "served" => Has::File(read_bytes(alloc, value)?),
+        "whole" => Has::Whole(read_bytes(alloc, value)?),
+        "big" if value.is_empty() => Has::TooBig,
+        "garbled" => Has::Garbled(value.parse::<u64>().map_err(|_| Refused::Line)?),
+        "letters" => Has::Letters(read_number(value)?),
+        "moved" if value == "-" => Has::Moved(None),
+        "moved" => Has::Moved(Some(Text::from_bytes(alloc, value.as_bytes())?)),
+        "absent" => Has::Absent(value.parse::<u16>().map_err(|_| Refused::Line)?),
+        _ => return Err(Refused::Line),
+    };
+    Ok((Text::from_bytes(alloc, uri.as_bytes())?, has))
+}
+
+fn take_file(alloc: Global, given: &mut Given, rest: &str) -> Result<(), Refused> {
+    let (name, content) = read_named(alloc, rest)?;
+    if !is_name(name.as_bytes()) {
+        return Err(Refused::Names);
+    }
+    given.put(Text::from_bytes(alloc, name.as_bytes())?, content)
+}
+
+fn take_fails(given: &mut Given, rest: &str) -> Result<(), Refused> {
+    let (object, numbers) = halves(rest);
+    let calls = match object {
+        "begin" => &mut given.fails.begin,
+        "more" => &mut given.fails.more,
+        "disk" => &mut given.fails.disk,
+        "etc" => &mut given.fails.etc,
+        "sink" => &mut given.fails.sink,
+        "tree" => &mut given.fails.tree,
+        "link" => &mut given.fails.link,
+        _ => return Err(Refused::Line),
+    };
+    for number in numbers.split(' ') {
+        calls.push(read_number(number)?)?;
+    }
+    Ok(())
+}
+
+/// A number without a sign.
+pub fn read_number(text: &str) -> Result<u64, Refused> {
+    text.parse::<u64>().map_err(|_| Refused::Line)
+}
+
+/// The bytes of a choice, each behind a space.
+pub fn read_choice(alloc: Global, text: &str) -> Result<Row<u8>, Refused> {
+    let mut choice = Row::new(alloc);
+    let mut bytes = text.split(' ');
+    if bytes.next() != Some("") {
+        return Err(Refused::Line);
+    }
+    for byte in bytes {
+        choice.push(byte.parse::<u8>().map_err(|_| Refused::Line)?)?;
+    }
+    Ok(choice)
+}
+
+/// How a run is stopped: `all LEAST`, `fault LEAST`, or the number of calls and the bytes of a choice.
+fn read_stop(alloc: Global, rest: &str) -> Result<Stop, Refused> {
+    match rest.split_once(' ') {
+        Some(("all", least)) => Ok(Stop::Everywhere {
+            least: read_number(least)?,
+        }),
+        Some(("fault", least)) => Ok(Stop::EachFails {
+            least: read_number(least)?,
+        }),
+        Some((calls, _)) => Ok(Stop::After {
+            calls: read_number(calls)?,
+            choice: read_choice(alloc, rest.strip_prefix(calls).unwrap_or(""))?,
+        }),
+        None => Err(Refused::Line),
+    }
+}
+
+fn take_tell(tell: &mut Tell, rest: &str) -> Result<(), Refused> {
+    for word in rest.split(' ') {
+        match word {
+            "log" => tell.log = true,
+            "faults" => tell.faults = true,
+            "moments" => tell.moments = true,
+            "partial" => tell.partial = true,
+            "journal" => tell.journal = true,
+            "untouched" => tell.untouched = true,
+            _ => return Err(Refused::Line),
+        }
+    }
+    Ok(())
+}

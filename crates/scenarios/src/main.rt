@@ -1,0 +1,111 @@
+//! Runs the top call, a board or an item over objects in memory, as the blocks of the standard input say, and prints what
+//! came of it.
+//!
+//! A block is a scenario and ends at an empty line. A line `# HEADING` between blocks is printed again. The first word of a
+//! line says what it is; what stands in `"` is bytes.
+//!
+//! | Line | Says |
+//! |---|---|
+//! | `scenario NAME` | what it shows; the first line |
+//! | `word "W"` | a word of the command line |
+//! | `etc FILE "B"` | a file of the configuration folder |
+//! | `now N` | the moment, in seconds since 1970-01-01 00:00:00 UTC |
+//! | `mirror URI served "B"`, `letters N` | what a mirror has: a file, or one of so many letters `a` |
+//! | `mirror URI moved URI`, `moved -`, `absent N` | a move, one to no URI of this profile, or a refusal with this status |
+//! | `tree PATH "B"` | a file of a tree, in place of a mirror |
+//! | `peer "B" "B" ..` | what the peer of the next connection says, piece by piece, in place of a mirror |
+//! | `methods N` | how many methods there are |
+//! | `disk NAME "B"` | a file of the lists folder before |
+//! | `held` | another process holds the lists folder |
+//! | `fails OBJECT N ..` | the calls that fail, from 1 on: `begin` and `more` of the method, `disk`, `etc`, `sink`, `tree`, `link` |
+//! | `tell WORD ..` | what is told too: `log`, `faults`, `moments`, `partial`, `journal`, `untouched` |
+//! | `stop N C ..` | the run is stopped after so many calls of the lists folder; the crash leaves what these bytes choose |
+//! | `stop all N` | so it is after each call, of which there are N at least, in each of 16 ways |
+//! | `stop fault N` | each call of the lists folder fails by itself |
+//! | `then` | a further run over the lists folder; words, configuration, moment and mirror stay until they are given anew |
+//! | `call CALL` | a call of the lists folder, in place of a run |
+//! | `crash N` | all that a crash may leave behind these calls, by choices of so many bits |
+//! | `crash by C ..` | what it leaves by this choice, and further calls go on from there |
+//! | `board` | the board of all sources alone is run, under three orders of answers, in place of the top call |
+//! | `item` | one item alone: that of the first list, or where no Release is in the folder that of the Release |
+//! | `faulty URI N` | how often an ask of a board at this URI fails |
+//! | `mirror URI whole "B"`, `big`, `garbled N` | to a board: a file of which no rest is given, one too big for any ask, an answer that breaks the protocol there |
+//! | `made N` | how many bytes the mirrors of this number have, first and second day, without patches |
+#![tactic(auto)]
+
+use scene::Scene;
+use std::alloc::AllocError;
+use std::fmt::Write;
+use std::io;
+use std::sync::Wait;
+use std::thread::Threads;
+
+mod answers;
+mod beginning;
+mod board;
+mod change;
+mod crashes;
+mod ends;
+mod folder;
+mod generated;
+mod given;
+mod items;
+mod lines;
+mod objects;
+mod quoted;
+mod refused;
+mod running;
+mod scene;
+mod sets;
+mod stops;
+mod telling;
+mod watch;
+
+/// Takes a line of a scenario, and appends what is to be printed.
+fn take<R>(
+    rt: &R,
+    scene: &mut Scene,
+    text: &mut String,
+    number: u64,
+    line: &str,
+) -> Result<(), AllocError>
+where
+    R: AllocGlobal + Threads + Wait + Copy + Send + 'static,
+{
+    if line.is_empty() {
+        end(rt, scene, text, number)?;
+        return text.push('\n');
+    }
+    if let Err(refused) = scene.take(rt, text, line) {
+        scene.refuse();
+        write!(text, "line {number}: {refused}\n")?;
+    }
+    Ok(())
+}
+
+/// Ends a scenario before this line, and appends what its last run came to.
+fn end<R>(rt: &R, scene: &mut Scene, text: &mut String, number: u64) -> Result<(), AllocError>
+where
+    R: AllocGlobal + Threads + Wait + Copy + Send + 'static,
+{
+    if let Err(refused) = scene.end(rt, text) {
+        write!(text, "line {number}: {refused}\n")?;
+    }
+    *scene = Scene::new(rt.alloc());
+    Ok(())
+}
+
+fn main(rt: HostRuntime) -> io::Result<()> {
+    let mut scene = Scene::new(rt.alloc());
+    let mut number: u64 = 0;
+    for line in rt.lines(rt.alloc()) {
+        let line = line?;
+        let mut text = String::new(rt.alloc());
+        number = number.saturating_add(1);
+        take(&rt, &mut scene, &mut text, number, line.as_str())?;
+        print!(rt; "{text}")?;
+    }
+    let mut text = String::new(rt.alloc());
+    end(&rt, &mut scene, &mut text, number.saturating_add(1))?;
+    print!(rt; "{text}")
+}

@@ -1,0 +1,109 @@
+//! The objects in memory over which a run goes.
+
+ghost use Rattle.std.specs.Prelude.{IfOk};
+ghost use Rattle.acq_base.specs.Fetch.{IsSoundAnswer};
+ghost use Rattle.acq_outside.specs.MapMethod.{HasSoundAnswers};
+
+use crate::given::{Folder, Given, Has};
+use crate::refused::Refused;
+use acq_base::{Answer, Bytes, Mirror, NoMemory, Row, Text, TryCopy};
+use acq_net::ScriptLink;
+use acq_outside::{MapMethod, MemDisk, MemEtc, MemTree};
+use file_method::FileMethod;
+use http_method::HttpMethod;
+use std::alloc::Global;
+use uri_names::read_uri;
+
+fn letters(alloc: Global, size: u64) -> Result<Bytes, NoMemory> {
+    let mut bytes = Bytes::new(alloc);
+    for _ in 0..size {
+        bytes.push(b'a')?;
+    }
+    Ok(bytes)
+}
+
+fn answer(alloc: Global, has: &Has) -> Result<Answer, Refused>
+    ensures { IfOk result IsSoundAnswer }
+{
+    Ok(match has {
+        Has::File(bytes) => Answer::Served(bytes.copy(alloc)?),
+        Has::Letters(size) => Answer::Served(letters(alloc, *size)?),
+        Has::Moved(Some(place)) => Answer::Moved(Some(read_uri(alloc, place.as_bytes())?)),
+        Has::Moved(None) => Answer::Moved(None),
+        Has::Absent(status) => Answer::Absent(*status),
+        Has::Whole(_) | Has::TooBig | Has::Garbled(_) => return Err(Refused::Methods),
+    })
+}
+
+fn mirror(alloc: Global, given: &[(Text, Has)]) -> Result<Mirror, Refused>
+    ensures { IfOk result (λ mirror. HasSoundAnswers mirror.rows) }
+{
+    let mut rows = Row::new(alloc);
+    for row in given {
+        rows.push((read_uri(alloc, row.0.as_bytes())?, answer(alloc, &row.1)?))?;
+    }
+    Ok(Mirror { rows })
+}
+
+/// A method that gives the mirror.
+pub fn map_method(alloc: Global, given: &Given) -> Result<MapMethod, Refused> {
+    let mirror = mirror(alloc, given.mirror.as_slice())?;
+    let begin = given.fails.begin.copy(alloc)?;
+    let more = given.fails.more.copy(alloc)?;
+    Ok(MapMethod::new(mirror, begin, more))
+}
+
+/// A method that gives the tree's files.
+pub fn file_method(alloc: Global, given: &Given) -> Result<FileMethod<MemTree>, Refused> {
+    let mut files = Row::new(alloc);
+    for file in given.tree.as_slice() {
+        files.push((file.0.copy(alloc)?, file.1.copy(alloc)?))?;
+    }
+    if !MemTree::takes(&files) {
+        return Err(Refused::Names);
+    }
+    Ok(FileMethod::new(MemTree::new(files, given.fails.tree.copy(alloc)?)))
+}
+
+/// A method that asks the peers.
+pub fn http_method(alloc: Global, given: &Given) -> Result<HttpMethod<ScriptLink>, Refused> {
+    let mut connections = Row::new(alloc);
+    for peer in given.peers.as_slice() {
+        connections.push(peer.copy(alloc)?)?;
+    }
+    let failing = given.fails.link.copy(alloc)?;
+    Ok(HttpMethod::new(ScriptLink::new(alloc, connections, failing)))
+}
+
+/// A lists folder of these files, of which these calls are to fail.
+pub fn disk_of(
+    alloc: Global,
+    folder: &Folder,
+    held: bool,
+    failing: Row<u64>,
+) -> Result<MemDisk, Refused> {
+    let mut files = Row::new(alloc);
+    for (name, content) in folder.iter() {
+        files.push((name.copy(alloc)?, content.copy(alloc)?))?;
+    }
+    if !MemDisk::takes(&files) {
+        return Err(Refused::Names);
+    }
+    Ok(MemDisk::new(alloc, files, held, failing)?)
+}
+
+/// The configuration folder.
+pub fn etc_of(alloc: Global, given: &Given) -> Result<MemEtc, Refused> {
+    let mut rows = Row::new(alloc);
+    for file in given.etc.as_slice() {
+        rows.push((
+            file.place,
+            file.name.copy(alloc)?,
+            file.content.copy(alloc)?,
+        ))?;
+    }
+    if !MemEtc::takes(&rows) {
+        return Err(Refused::Names);
+    }
+    Ok(MemEtc::new(rows, given.fails.etc.copy(alloc)?))
+}
