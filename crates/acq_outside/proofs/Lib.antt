@@ -1,4 +1,5 @@
 pub mod Files
+pub mod Framed
 pub mod WholeFiles
 pub mod HeldFiles
 pub mod Torn

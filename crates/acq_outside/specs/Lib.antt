@@ -3,6 +3,10 @@ pub mod Count
 pub mod Refusals
 pub mod Etc
 pub mod Disk
+pub mod Frame
+pub mod Stays
+pub mod Looks
+pub mod Fetches
 pub mod Crash
 pub mod Moments
 pub mod Choice

@@ -1,8 +1,8 @@
 //! The lists folder, as the rest of the program asks for it.
 ghost use Rattle.std.specs.Prelude.{◌≡◌, ℕ, ◌<◌, ◌≤◌, ◌^◌, [], Bool, All, List, IsTrue, length, Option, IfOk, OnOk, OnErr, IsErrOf, IfSome, IsSomeAnd, option_map, unwrap_or};
-ghost use Rattle.acq_outside.specs.Count.{Rose};
 ghost use Rattle.acq_outside.specs.Crash.{State, Goes, AllSound, IsShown};
 ghost use Rattle.acq_outside.specs.Disk.{Files, IsName, IsNames, IsRead, IsTornWrite, IsTornCut, IsDoneOrNot, after_write, after_cut, after_rename, after_remove};
+ghost use Rattle.acq_outside.specs.Frame.{CountsOnly, StaysBy, ReadsBy, ReadsCountingBy};
 
 use crate::change::Change;
 use crate::{Fault, HoldError, OutError};
@@ -34,28 +34,15 @@ pub trait Disk: Drop {
     /// Keeps every other process that asks for it from this disk, as long as the disk lives. `Held` comes only where
     /// another process holds it.
     fn hold(&mut self) -> Result<(), HoldError>
-        ensures count { faults self.old ≤ faults self.new }
-        ensures fault { IsErrOf result HoldError.Fault → Rose (faults self.old) (faults self.new) }
-        ensures quiet { OnOk result (faults self.new ≡ faults self.old) }
-        ensures quiet_held { IsErrOf result HoldError.Held → faults self.new ≡ faults self.old }
-        ensures held_count { held self.old ≤ held self.new }
-        ensures held { IsErrOf result HoldError.Held → Rose (held self.old) (held self.new) }
-        ensures free { OnOk result (held self.new ≡ held self.old) }
-        ensures free_fault { IsErrOf result HoldError.Fault → held self.new ≡ held self.old }
+        ensures frame { CountsOnly HoldError.Fault (faults self.old) (faults self.new) result }
+        ensures holds { CountsOnly HoldError.Held (held self.old) (held self.new) result }
         ensures telling { tells self.new ≡ tells self.old }
         ensures same { files self.new ≡ files self.old }
         ensures still { trace self.new ≡ trace self.old };
 
     /// All names, each once and sorted by bytes: fewer than 2^31, and `NoMemory` where there are more.
     fn names(&mut self, alloc: Global) -> Result<Row<Text>, OutError>
-        ensures count { faults self.old ≤ faults self.new }
-        ensures fault { IsErrOf result OutError.Fault → Rose (faults self.old) (faults self.new) }
-        ensures quiet { OnOk result (faults self.new ≡ faults self.old) }
-        ensures dry { IsErrOf result OutError.NoMemory → faults self.new ≡ faults self.old }
-        ensures held { held self.new ≡ held self.old }
-        ensures telling { tells self.new ≡ tells self.old }
-        ensures still { trace self.new ≡ trace self.old }
-        ensures same { files self.new ≡ files self.old }
+        ensures frame { ReadsCountingBy OutError.Fault faults held tells files trace self.old self.new result }
         ensures few { IfOk result (λ names. length names < 2 ^ 31) }
         ensures named { IfOk result (λ names. All IsName names) }
         ensures told { IsTrue (tells self.old) → IfOk result (IsNames (files self.old)) };
@@ -63,26 +50,14 @@ pub trait Disk: Drop {
     /// A file's length in bytes, `None` where there is no such file.
     fn size(&mut self, name: &[u8]) -> Result<Option<u64>, Fault>
         requires { IsName name.now }
-        ensures count { faults self.old ≤ faults self.new }
-        ensures fault { OnErr result (Rose (faults self.old) (faults self.new)) }
-        ensures quiet { OnOk result (faults self.new ≡ faults self.old) }
-        ensures held { held self.new ≡ held self.old }
-        ensures telling { tells self.new ≡ tells self.old }
-        ensures still { trace self.new ≡ trace self.old }
-        ensures same { files self.new ≡ files self.old }
+        ensures frame { ReadsBy faults held tells files trace self.old self.new result }
         ensures told { IsTrue (tells self.old) → IfOk result (λ size. size ≡ option_map length (files self.old name.now)) };
 
     /// Reads bytes of a file into the front of `out` and answers how many: 0 only at or past the end, for an absent
     /// file, or for an empty `out`.
     fn read_at(&mut self, name: &[u8], at: u64, out: &mut [u8]) -> Result<usize, Fault>
         requires { IsName name.now }
-        ensures count { faults self.old ≤ faults self.new }
-        ensures fault { OnErr result (Rose (faults self.old) (faults self.new)) }
-        ensures quiet { OnOk result (faults self.new ≡ faults self.old) }
-        ensures held { held self.new ≡ held self.old }
-        ensures telling { tells self.new ≡ tells self.old }
-        ensures still { trace self.new ≡ trace self.old }
-        ensures same { files self.new ≡ files self.old }
+        ensures frame { ReadsBy faults held tells files trace self.old self.new result }
         ensures within { IfOk result (λ n. n ≤ length out.old) }
         ensures told { IsTrue (tells self.old) → IfOk result (λ n. IsRead (files self.old name.now) at n out.old out.new) };
 
@@ -90,11 +65,7 @@ pub trait Disk: Drop {
     fn write_at(&mut self, name: &[u8], at: u64, bytes: &[u8]) -> Result<(), Fault>
         requires name { IsName name.now }
         requires there { IsTrue (tells self.old) → IsSomeAnd (files self.old name.now) (λ content. at ≤ length content) }
-        ensures count { faults self.old ≤ faults self.new }
-        ensures fault { OnErr result (Rose (faults self.old) (faults self.new)) }
-        ensures quiet { OnOk result (faults self.new ≡ faults self.old) }
-        ensures held { held self.new ≡ held self.old }
-        ensures telling { tells self.new ≡ tells self.old }
+        ensures frame { StaysBy faults held tells self.old self.new result }
         ensures step { Goes (Change.Write name.now at bytes.now) (trace self.old) (trace self.new) result }
         ensures ok { IsTrue (tells self.old) → OnOk result (files self.new ≡ after_write (files self.old) name.now at bytes.now) }
         ensures err { IsTrue (tells self.old) → OnErr result (IsTornWrite (files self.old) (files self.new) name.now at (length bytes.now)) };
@@ -103,11 +74,7 @@ pub trait Disk: Drop {
     fn cut(&mut self, name: &[u8], len: u64) -> Result<(), Fault>
         requires name { IsName name.now }
         requires within { IsTrue (tells self.old) → len ≤ length (unwrap_or (files self.old name.now) []) }
-        ensures count { faults self.old ≤ faults self.new }
-        ensures fault { OnErr result (Rose (faults self.old) (faults self.new)) }
-        ensures quiet { OnOk result (faults self.new ≡ faults self.old) }
-        ensures held { held self.new ≡ held self.old }
-        ensures telling { tells self.new ≡ tells self.old }
+        ensures frame { StaysBy faults held tells self.old self.new result }
         ensures step { Goes (Change.Cut name.now len) (trace self.old) (trace self.new) result }
         ensures ok { IsTrue (tells self.old) → OnOk result (files self.new ≡ after_cut (files self.old) name.now len) }
         ensures err { IsTrue (tells self.old) → OnErr result (IsTornCut (files self.old) (files self.new) name.now len) };
@@ -115,11 +82,7 @@ pub trait Disk: Drop {
     /// Makes a file's bytes lasting. What reads give stays.
     fn sync(&mut self, name: &[u8]) -> Result<(), Fault>
         requires { IsName name.now }
-        ensures count { faults self.old ≤ faults self.new }
-        ensures fault { OnErr result (Rose (faults self.old) (faults self.new)) }
-        ensures quiet { OnOk result (faults self.new ≡ faults self.old) }
-        ensures held { held self.new ≡ held self.old }
-        ensures telling { tells self.new ≡ tells self.old }
+        ensures frame { StaysBy faults held tells self.old self.new result }
         ensures step { Goes (Change.Sync name.now) (trace self.old) (trace self.new) result }
         ensures same { files self.new ≡ files self.old };
 
@@ -127,11 +90,7 @@ pub trait Disk: Drop {
     fn rename(&mut self, from: &[u8], to: &[u8]) -> Result<(), Fault>
         requires from { IsName from.now }
         requires to { IsName to.now }
-        ensures count { faults self.old ≤ faults self.new }
-        ensures fault { OnErr result (Rose (faults self.old) (faults self.new)) }
-        ensures quiet { OnOk result (faults self.new ≡ faults self.old) }
-        ensures held { held self.new ≡ held self.old }
-        ensures telling { tells self.new ≡ tells self.old }
+        ensures frame { StaysBy faults held tells self.old self.new result }
         ensures step { Goes (Change.Rename from.now to.now) (trace self.old) (trace self.new) result }
         ensures ok { IsTrue (tells self.old) → OnOk result (files self.new ≡ after_rename (files self.old) from.now to.now) }
         ensures err { IsTrue (tells self.old) → OnErr result (IsDoneOrNot (files self.old) (files self.new) (after_rename (files self.old) from.now to.now)) };
@@ -139,22 +98,14 @@ pub trait Disk: Drop {
     /// Removes a file. It changes nothing where the file is absent.
     fn remove(&mut self, name: &[u8]) -> Result<(), Fault>
         requires { IsName name.now }
-        ensures count { faults self.old ≤ faults self.new }
-        ensures fault { OnErr result (Rose (faults self.old) (faults self.new)) }
-        ensures quiet { OnOk result (faults self.new ≡ faults self.old) }
-        ensures held { held self.new ≡ held self.old }
-        ensures telling { tells self.new ≡ tells self.old }
+        ensures frame { StaysBy faults held tells self.old self.new result }
         ensures step { Goes (Change.Remove name.now) (trace self.old) (trace self.new) result }
         ensures ok { IsTrue (tells self.old) → OnOk result (files self.new ≡ after_remove (files self.old) name.now) }
         ensures err { IsTrue (tells self.old) → OnErr result (IsDoneOrNot (files self.old) (files self.new) (after_remove (files self.old) name.now)) };
 
     /// Makes all changes of names lasting. What reads give stays.
     fn sync_names(&mut self) -> Result<(), Fault>
-        ensures count { faults self.old ≤ faults self.new }
-        ensures fault { OnErr result (Rose (faults self.old) (faults self.new)) }
-        ensures quiet { OnOk result (faults self.new ≡ faults self.old) }
-        ensures held { held self.new ≡ held self.old }
-        ensures telling { tells self.new ≡ tells self.old }
+        ensures frame { StaysBy faults held tells self.old self.new result }
         ensures step { Goes Change.SyncNames (trace self.old) (trace self.new) result }
         ensures same { files self.new ≡ files self.old };
 

@@ -22,7 +22,7 @@ pub struct MemDisk {
 impl MemDisk {
     ghost use Rattle.std.specs.Prelude.{◌≡◌, ◌≤◌, ◌↔◌, [], false, IsTrue, IfOk, OnOk, OnErr, MatchResult};
     ghost use Rattle.acq_outside.specs.Choice.{image_of};
-    ghost use Rattle.acq_outside.specs.Count.{Rose};
+    ghost use Rattle.acq_outside.specs.Frame.{Counts};
     ghost use Rattle.acq_outside.specs.Crash.{newest, trace_of};
     ghost use Rattle.acq_outside.specs.Failing.{fresh, fused, starved};
     ghost use Rattle.acq_outside.specs.History.{IsStart, files_of, changed, after_change};
@@ -112,9 +112,7 @@ impl MemDisk {
         ensures files { OnOk result (files_of (past_of self.new) ≡ after_change (files_of (past_of self.old)) change) }
         ensures failed { OnErr result (past_of self.new ≡ past_of self.old) }
         ensures counted { MatchResult result (λ _. failing_of self.new ≡ failing_of self.old) (λ _. failing_of self.new ≡ starved (failing_of self.old)) }
-        ensures count { (failing_of self.old).faults ≤ (failing_of self.new).faults }
-        ensures fault { OnErr result (Rose (failing_of self.old).faults (failing_of self.new).faults) }
-        ensures quiet { OnOk result ((failing_of self.new).faults ≡ (failing_of self.old).faults) }
+        ensures frame { Counts (failing_of self.old).faults (failing_of self.new).faults result }
     {
         match self.history.apply(self.alloc, change) {
             Ok(()) => Ok(()),

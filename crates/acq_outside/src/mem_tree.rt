@@ -44,22 +44,19 @@ impl MemTree {
 }
 
 impl Tree for MemTree {
-    ghost use Rattle.std.specs.Prelude.{◌≡◌, ◌≤◌, ◌↔◌, IfOk, IsErr, IsTrue, OnErr, OnOk, Some, length, option_map};
-    ghost use Rattle.acq_outside.specs.Count.{Rose};
+    ghost use Rattle.std.specs.Prelude.{◌≡◌, ◌≤◌, ◌↔◌, IfOk, IsErr, IsTrue, length, option_map};
+    ghost use Rattle.acq_outside.specs.Frame.{LooksBy};
     ghost use Rattle.acq_outside.specs.Disk.{IsRead};
     ghost use Rattle.acq_outside.specs.Failing.{counted, is_listed};
-    ghost use Rattle.acq_outside.specs.MemTree.{failing_of, files_of};
+    ghost use Rattle.acq_outside.specs.MemTree.{failing_of, faults_of, files_of, told_files};
     ghost use Rattle.acq_outside.specs.Tree.{file_at};
 
-    ghost faults = { λ tree. (failing_of tree).faults };
+    ghost faults = { faults_of };
 
-    ghost files = { λ tree. Some (files_of tree) };
+    ghost files = { told_files };
 
     fn size(&mut self, path: &Text) -> Result<Option<u64>, Fault>
-        ensures count { (failing_of self.old).faults ≤ (failing_of self.new).faults }
-        ensures fault { OnErr result (Rose (failing_of self.old).faults (failing_of self.new).faults) }
-        ensures quiet { OnOk result ((failing_of self.new).faults ≡ (failing_of self.old).faults) }
-        ensures same { Some (files_of self.new) ≡ Some (files_of self.old) }
+        ensures frame { LooksBy faults_of told_files self.old self.new result }
         ensures told { IfOk result (λ size. size ≡ option_map length (file_at (files_of self.old) path.now)) }
 
         // A listed call fails, and no other one does.
@@ -74,10 +71,7 @@ impl Tree for MemTree {
     }
 
     fn read_at(&mut self, path: &Text, at: u64, out: &mut [u8]) -> Result<usize, Fault>
-        ensures count { (failing_of self.old).faults ≤ (failing_of self.new).faults }
-        ensures fault { OnErr result (Rose (failing_of self.old).faults (failing_of self.new).faults) }
-        ensures quiet { OnOk result ((failing_of self.new).faults ≡ (failing_of self.old).faults) }
-        ensures same { Some (files_of self.new) ≡ Some (files_of self.old) }
+        ensures frame { LooksBy faults_of told_files self.old self.new result }
         ensures within { IfOk result (λ n. n ≤ length out.old) }
         ensures told { IfOk result (λ n. IsRead (file_at (files_of self.old) path.now) at n out.old out.new) }
 

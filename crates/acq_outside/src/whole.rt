@@ -1,6 +1,6 @@
 //! A file of any disk, written or read as a whole by the calls of its trait alone.
 ghost use Rattle.std.specs.Prelude.{◌≡◌, ◌≢◌, ℕ, ◌+◌, ◌<◌, ◌≤◌, ◌^◌, List, [], length, Some, IfOk, OnOk, OnErr, IsErrOf, IsTrue, unwrap_or};
-ghost use Rattle.acq_outside.specs.Count.{Rose};
+ghost use Rattle.acq_outside.specs.Stays.{ReadsCounting, Stays};
 ghost use Rattle.acq_outside.specs.Disk.{IsName, with_file};
 ghost use Rattle.acq_outside.specs.Whole.{GrowsTo};
 
@@ -19,11 +19,7 @@ const PIECE: usize = 65_536;
 #[tactic(auto, using(crate::proofs::WholeFiles::emptied))]
 pub fn write_whole<D: Disk>(disk: &mut D, name: &[u8], bytes: &[u8]) -> Result<(), Fault>
     requires { IsName name.now }
-    ensures count { D.faults disk.old ≤ D.faults disk.new }
-    ensures fault { OnErr result (Rose (D.faults disk.old) (D.faults disk.new)) }
-    ensures quiet { OnOk result (D.faults disk.new ≡ D.faults disk.old) }
-    ensures held { D.held disk.new ≡ D.held disk.old }
-    ensures telling { D.tells disk.new ≡ D.tells disk.old }
+    ensures frame { Stays D.Disk disk.old disk.new result }
     ensures ok { IsTrue (D.tells disk.old) → OnOk result (D.files disk.new ≡ with_file (D.files disk.old) name.now (Some bytes.now)) }
     ensures others { IsTrue (D.tells disk.old) → (other : List ℕ) → other ≢ name.now → D.files disk.new other ≡ D.files disk.old other }
 {
@@ -45,14 +41,7 @@ pub fn read_whole<D: Disk>(
     name: &[u8],
 ) -> Result<Option<Bytes>, OutError>
     requires { IsName name.now }
-    ensures count { D.faults disk.old ≤ D.faults disk.new }
-    ensures fault { IsErrOf result OutError.Fault → Rose (D.faults disk.old) (D.faults disk.new) }
-    ensures quiet { OnOk result (D.faults disk.new ≡ D.faults disk.old) }
-    ensures dry { IsErrOf result OutError.NoMemory → D.faults disk.new ≡ D.faults disk.old }
-    ensures held { D.held disk.new ≡ D.held disk.old }
-    ensures telling { D.tells disk.new ≡ D.tells disk.old }
-    ensures same { D.files disk.new ≡ D.files disk.old }
-    ensures still { D.trace disk.new ≡ D.trace disk.old }
+    ensures frame { ReadsCounting OutError.Fault D.Disk disk.old disk.new result }
     ensures told { IsTrue (D.tells disk.old) → IfOk result (λ file. file ≡ D.files disk.old name.now) }
 {
     match disk.size(name)? {
@@ -69,14 +58,7 @@ fn read_pieces<D: Disk>(
     size: u64,
 ) -> Result<Bytes, OutError>
     requires { IsName name.now }
-    ensures count { D.faults disk.old ≤ D.faults disk.new }
-    ensures fault { IsErrOf result OutError.Fault → Rose (D.faults disk.old) (D.faults disk.new) }
-    ensures quiet { OnOk result (D.faults disk.new ≡ D.faults disk.old) }
-    ensures dry { IsErrOf result OutError.NoMemory → D.faults disk.new ≡ D.faults disk.old }
-    ensures held { D.held disk.new ≡ D.held disk.old }
-    ensures telling { D.tells disk.new ≡ D.tells disk.old }
-    ensures same { D.files disk.new ≡ D.files disk.old }
-    ensures still { D.trace disk.new ≡ D.trace disk.old }
+    ensures frame { ReadsCounting OutError.Fault D.Disk disk.old disk.new result }
     ensures told { IsTrue (D.tells disk.old) → IfOk result (λ bytes. bytes ≡ unwrap_or (D.files disk.old name.now) []) }
 {
     let mut content = Vec::new(alloc);
@@ -95,14 +77,7 @@ fn read_through<D: Disk>(
     requires name { IsName name.now }
     requires empty { empty.items ≡ [] }
     requires room { 1 ≤ length piece.old }
-    ensures count { D.faults disk.old ≤ D.faults disk.new }
-    ensures fault { IsErrOf result OutError.Fault → Rose (D.faults disk.old) (D.faults disk.new) }
-    ensures quiet { OnOk result (D.faults disk.new ≡ D.faults disk.old) }
-    ensures dry { IsErrOf result OutError.NoMemory → D.faults disk.new ≡ D.faults disk.old }
-    ensures held { D.held disk.new ≡ D.held disk.old }
-    ensures telling { D.tells disk.new ≡ D.tells disk.old }
-    ensures same { D.files disk.new ≡ D.files disk.old }
-    ensures still { D.trace disk.new ≡ D.trace disk.old }
+    ensures frame { ReadsCounting OutError.Fault D.Disk disk.old disk.new result }
     ensures told { IsTrue (D.tells disk.old) → IfOk result (λ bytes. bytes ≡ unwrap_or (D.files disk.old name.now) []) }
 {
     let mut content = empty;
@@ -124,14 +99,7 @@ fn read_piece<D: Disk>(
 ) -> Result<usize, OutError>
     requires name { IsName name.now }
     requires room { 1 ≤ length piece.old }
-    ensures count { D.faults disk.old ≤ D.faults disk.new }
-    ensures fault { IsErrOf result OutError.Fault → Rose (D.faults disk.old) (D.faults disk.new) }
-    ensures quiet { OnOk result (D.faults disk.new ≡ D.faults disk.old) }
-    ensures dry { IsErrOf result OutError.NoMemory → D.faults disk.new ≡ D.faults disk.old }
-    ensures held { D.held disk.new ≡ D.held disk.old }
-    ensures telling { D.tells disk.new ≡ D.tells disk.old }
-    ensures same { D.files disk.new ≡ D.files disk.old }
-    ensures still { D.trace disk.new ≡ D.trace disk.old }
+    ensures frame { ReadsCounting OutError.Fault D.Disk disk.old disk.new result }
     ensures small { length content.old.items < 2 ^ 64 }
     ensures longer { IfOk result (λ n. length content.new.items ≡ length content.old.items + n) }
     ensures told { IsTrue (D.tells disk.old) → IfOk result (λ n. GrowsTo (unwrap_or (D.files disk.old name.now) []) n content.old.items content.new.items) }

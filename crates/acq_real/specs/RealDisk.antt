@@ -1,5 +1,6 @@
 -- What a real disk shows.
-use Rattle.std.specs.Prelude.{◌≡◌, ℕ, List, string_bytes}
+use Rattle.std.specs.Prelude.{◌≡◌, ℕ, List, Result, false, string_bytes}
+use Rattle.acq_outside.specs.Frame.{StaysBy, StaysCountingBy}
 use Rattle.acq_real.specs.declared.disk.RealDisk.{RealDisk}
 use Rattle.acq_real.specs.Folder.{IsPathInside}
 use Rattle.acq_real.specs.Opened.{IsClosed}
@@ -24,3 +25,15 @@ pub record IsSame {R : Type 0} (before after : RealDisk R) : Type 0 where
   pub faults : faults_of after ≡ faults_of before
   pub held : times_held after ≡ times_held before
   pub folder : folder_of after ≡ folder_of before
+
+-- The frame of a call: what each disk's call leaves, and the folder.
+pub record StaysInside {R T E : Type 0} (old new : RealDisk R) (result : Result T E) : Type 0 where
+  pub stays : StaysBy faults_of times_held (λ _. false) old new result
+  pub open stays use *
+  pub folder : folder_of new ≡ folder_of old
+
+-- the same where errors of this kind alone are faults
+pub record StaysInsideCounting {R T E : Type 0} (kind : E) (old new : RealDisk R) (result : Result T E) : Type 0 where
+  pub stays : StaysCountingBy kind faults_of times_held (λ _. false) old new result
+  pub open stays use *
+  pub folder : folder_of new ≡ folder_of old

@@ -1,13 +1,13 @@
 //! A folder of the operating system as a disk.
-ghost use Rattle.std.specs.Prelude.{◌≡◌, ◌≤◌, ◌<◌, ◌^◌, [], length, All, AllPairs, None, false, IfOk, IsErr, OnOk, OnErr, IsErrOf, MatchResult};
+ghost use Rattle.std.specs.Prelude.{◌≡◌, ◌≤◌, ◌<◌, ◌^◌, [], length, All, AllPairs, None, false, IfOk, IsErr, OnOk, MatchResult};
 ghost use Rattle.std.proofs.Common.{refl};
 ghost use Rattle.std.specs.Ordering.{nat_cmp};
 ghost use Rattle.std.specs.declared.cmp.Ordering.TheVariants.{Less};
 ghost use Rattle.std.specs.Cmp.Lexicographic.{slice_cmp};
-ghost use Rattle.acq_outside.specs.Count.{Rose};
 ghost use Rattle.acq_outside.specs.Disk.{IsName};
+ghost use Rattle.acq_outside.specs.Frame.{CountsOnly};
 ghost use Rattle.acq_real.specs.Folder.{IsInside};
-ghost use Rattle.acq_real.specs.RealDisk.{faults_of, folder_of};
+ghost use Rattle.acq_real.specs.RealDisk.{StaysInside, StaysInsideCounting, faults_of, folder_of};
 
 use crate::listing::list;
 use crate::opened::Kept;
@@ -72,11 +72,7 @@ impl<R: Files<File = File> + AllocGlobal + Clone + Drop> RealDisk<R> {
 
     /// The answer of the system, an error of it as a fault that is counted.
     fn counted<T: Drop>(&mut self, done: io::Result<T>) -> Result<T, Fault>
-        ensures count { self.old.faults ≤ self.new.faults }
-        ensures held { self.new.times_held ≡ self.old.times_held }
-        ensures folder { folder_of self.new ≡ folder_of self.old }
-        ensures fault { OnErr result (Rose self.old.faults self.new.faults) }
-        ensures quiet { OnOk result (self.new.faults ≡ self.old.faults) }
+        ensures frame { StaysInside self.old self.new result }
         ensures answer { MatchResult result (λ value. done ≡ Ok value) (λ _. IsErr done) }
     {
         match done {
@@ -108,14 +104,8 @@ impl<R: Files<File = File> + AllocGlobal + Clone + Drop> Disk for RealDisk<R> {
     // folder stays.
 
     fn hold(&mut self) -> Result<(), HoldError>
-        ensures count { self.old.faults ≤ self.new.faults }
-        ensures fault { IsErrOf result HoldError.Fault → Rose self.old.faults self.new.faults }
-        ensures quiet { OnOk result (self.new.faults ≡ self.old.faults) }
-        ensures quiet_held { IsErrOf result HoldError.Held → self.new.faults ≡ self.old.faults }
-        ensures held_count { self.old.times_held ≤ self.new.times_held }
-        ensures held { IsErrOf result HoldError.Held → Rose self.old.times_held self.new.times_held }
-        ensures free { OnOk result (self.new.times_held ≡ self.old.times_held) }
-        ensures free_fault { IsErrOf result HoldError.Fault → self.new.times_held ≡ self.old.times_held }
+        ensures frame { CountsOnly HoldError.Fault self.old.faults self.new.faults result }
+        ensures holds { CountsOnly HoldError.Held self.old.times_held self.new.times_held result }
         ensures folder { folder_of self.new ≡ folder_of self.old }
     {
         let locked = self.lock_folder();
@@ -127,16 +117,11 @@ impl<R: Files<File = File> + AllocGlobal + Clone + Drop> Disk for RealDisk<R> {
     }
 
     fn names(&mut self, alloc: Global) -> Result<Row<Text>, OutError>
-        ensures count { self.old.faults ≤ self.new.faults }
-        ensures fault { IsErrOf result OutError.Fault → Rose self.old.faults self.new.faults }
-        ensures quiet { OnOk result (self.new.faults ≡ self.old.faults) }
-        ensures dry { IsErrOf result OutError.NoMemory → self.new.faults ≡ self.old.faults }
+        ensures frame { StaysInsideCounting OutError.Fault self.old self.new result }
         ensures few { IfOk result (λ names. length names < 2 ^ 31) }
         ensures named { IfOk result (λ names. All IsName names) }
         ensures inside { IfOk result (λ names. All IsInside names) }
         ensures sorted { IfOk result (AllPairs (λ a b. slice_cmp nat_cmp a b ≡ Less)) }
-        ensures held { self.new.times_held ≡ self.old.times_held }
-        ensures folder { folder_of self.new ≡ folder_of self.old }
     {
         match self.entries(alloc) {
             Ok(entries) => Ok(list(alloc, entries.as_slice())?),
@@ -149,96 +134,64 @@ impl<R: Files<File = File> + AllocGlobal + Clone + Drop> Disk for RealDisk<R> {
     }
 
     fn size(&mut self, name: &[u8]) -> Result<Option<u64>, Fault>
-        ensures count { self.old.faults ≤ self.new.faults }
-        ensures fault { OnErr result (Rose self.old.faults self.new.faults) }
-        ensures quiet { OnOk result (self.new.faults ≡ self.old.faults) }
+        ensures frame { StaysInside self.old self.new result }
         ensures inside { OnOk result (IsInside name.now) }
-        ensures held { self.new.times_held ≡ self.old.times_held }
-        ensures folder { folder_of self.new ≡ folder_of self.old }
     {
         let size = self.size_of(name);
         self.counted(size)
     }
 
     fn read_at(&mut self, name: &[u8], at: u64, out: &mut [u8]) -> Result<usize, Fault>
-        ensures count { self.old.faults ≤ self.new.faults }
-        ensures fault { OnErr result (Rose self.old.faults self.new.faults) }
-        ensures quiet { OnOk result (self.new.faults ≡ self.old.faults) }
+        ensures frame { StaysInside self.old self.new result }
         ensures within { IfOk result (λ n. n ≤ length out.old) }
         ensures inside { OnOk result (IsInside name.now) }
-        ensures held { self.new.times_held ≡ self.old.times_held }
-        ensures folder { folder_of self.new ≡ folder_of self.old }
     {
         let read = self.read(name, at, out);
         self.counted(read)
     }
 
     fn write_at(&mut self, name: &[u8], at: u64, bytes: &[u8]) -> Result<(), Fault>
-        ensures count { self.old.faults ≤ self.new.faults }
-        ensures fault { OnErr result (Rose self.old.faults self.new.faults) }
-        ensures quiet { OnOk result (self.new.faults ≡ self.old.faults) }
+        ensures frame { StaysInside self.old self.new result }
         ensures inside { OnOk result (IsInside name.now) }
-        ensures held { self.new.times_held ≡ self.old.times_held }
-        ensures folder { folder_of self.new ≡ folder_of self.old }
     {
         let written = self.write(name, at, bytes);
         self.counted(written)
     }
 
     fn cut(&mut self, name: &[u8], len: u64) -> Result<(), Fault>
-        ensures count { self.old.faults ≤ self.new.faults }
-        ensures fault { OnErr result (Rose self.old.faults self.new.faults) }
-        ensures quiet { OnOk result (self.new.faults ≡ self.old.faults) }
+        ensures frame { StaysInside self.old self.new result }
         ensures inside { OnOk result (IsInside name.now) }
-        ensures held { self.new.times_held ≡ self.old.times_held }
-        ensures folder { folder_of self.new ≡ folder_of self.old }
     {
         let cut = self.shorten(name, len);
         self.counted(cut)
     }
 
     fn sync(&mut self, name: &[u8]) -> Result<(), Fault>
-        ensures count { self.old.faults ≤ self.new.faults }
-        ensures fault { OnErr result (Rose self.old.faults self.new.faults) }
-        ensures quiet { OnOk result (self.new.faults ≡ self.old.faults) }
+        ensures frame { StaysInside self.old self.new result }
         ensures inside { OnOk result (IsInside name.now) }
-        ensures held { self.new.times_held ≡ self.old.times_held }
-        ensures folder { folder_of self.new ≡ folder_of self.old }
     {
         let synced = self.sync_one(name);
         self.counted(synced)
     }
 
     fn rename(&mut self, from: &[u8], to: &[u8]) -> Result<(), Fault>
-        ensures count { self.old.faults ≤ self.new.faults }
-        ensures fault { OnErr result (Rose self.old.faults self.new.faults) }
-        ensures quiet { OnOk result (self.new.faults ≡ self.old.faults) }
+        ensures frame { StaysInside self.old self.new result }
         ensures inside { OnOk result (IsInside from.now × IsInside to.now) }
-        ensures held { self.new.times_held ≡ self.old.times_held }
-        ensures folder { folder_of self.new ≡ folder_of self.old }
     {
         let moved = self.move_one(from, to);
         self.counted(moved)
     }
 
     fn remove(&mut self, name: &[u8]) -> Result<(), Fault>
-        ensures count { self.old.faults ≤ self.new.faults }
-        ensures fault { OnErr result (Rose self.old.faults self.new.faults) }
-        ensures quiet { OnOk result (self.new.faults ≡ self.old.faults) }
+        ensures frame { StaysInside self.old self.new result }
         ensures inside { OnOk result (IsInside name.now) }
-        ensures held { self.new.times_held ≡ self.old.times_held }
-        ensures folder { folder_of self.new ≡ folder_of self.old }
     {
         let removed = self.remove_one(name);
         self.counted(removed)
     }
 
     fn sync_names(&mut self) -> Result<(), Fault>
-        ensures count { self.old.faults ≤ self.new.faults }
-        ensures fault { OnErr result (Rose self.old.faults self.new.faults) }
-        ensures quiet { OnOk result (self.new.faults ≡ self.old.faults) }
-        ensures held { self.new.times_held ≡ self.old.times_held }
-        ensures folder { folder_of self.new ≡ folder_of self.old }
+        ensures frame { StaysInside self.old self.new result }
     {
         let synced = self.sync_all();
         self.counted(synced)

@@ -1,6 +1,6 @@
 //! A folder of the operating system as the configuration folder.
-ghost use Rattle.std.specs.Prelude.{◌≡◌, ◌≤◌, IfOk, IsErrOf, OnOk, MatchResult, IsErr};
-ghost use Rattle.acq_outside.specs.Count.{Rose};
+ghost use Rattle.std.specs.Prelude.{◌≡◌, IfOk, MatchResult, IsErr};
+ghost use Rattle.acq_outside.specs.Frame.{CountsOnly};
 ghost use Rattle.acq_real.specs.RealEtc.{faults_of, folder_of};
 
 use crate::etc_folder;
@@ -46,10 +46,7 @@ impl<R: Files<File = File> + AllocGlobal + Clone + Drop> RealEtc<R> {
 
     /// The answer of the system: want of memory as such, and any other error of it as a fault that is counted.
     fn counted<T: Drop>(&mut self, done: io::Result<T>) -> Result<T, OutError>
-        ensures count { self.old.faults ≤ self.new.faults }
-        ensures fault { IsErrOf result OutError.Fault → Rose self.old.faults self.new.faults }
-        ensures quiet { OnOk result (self.new.faults ≡ self.old.faults) }
-        ensures dry { IsErrOf result OutError.NoMemory → self.new.faults ≡ self.old.faults }
+        ensures frame { CountsOnly OutError.Fault self.old.faults self.new.faults result }
         ensures folder { folder_of self.new ≡ folder_of self.old }
         ensures answer { MatchResult result (λ value. done ≡ Ok value) (λ _. IsErr done) }
     {
@@ -72,10 +69,7 @@ impl<R: Files<File = File> + AllocGlobal + Clone + Drop> Etc for RealEtc<R> {
     ghost files = { λ _. None };
 
     fn names(&mut self, alloc: Global, place: Place) -> Result<Row<Text>, OutError>
-        ensures count { self.old.faults ≤ self.new.faults }
-        ensures fault { IsErrOf result OutError.Fault → Rose self.old.faults self.new.faults }
-        ensures quiet { OnOk result (self.new.faults ≡ self.old.faults) }
-        ensures dry { IsErrOf result OutError.NoMemory → self.new.faults ≡ self.old.faults }
+        ensures frame { CountsOnly OutError.Fault self.old.faults self.new.faults result }
         ensures folder { folder_of self.new ≡ folder_of self.old }
     {
         let names = etc_folder::names(&self.rt, alloc, self.folder.as_str(), place);
@@ -83,10 +77,7 @@ impl<R: Files<File = File> + AllocGlobal + Clone + Drop> Etc for RealEtc<R> {
     }
 
     fn read(&mut self, alloc: Global, place: Place, name: &Text) -> Result<Option<Bytes>, OutError>
-        ensures count { self.old.faults ≤ self.new.faults }
-        ensures fault { IsErrOf result OutError.Fault → Rose self.old.faults self.new.faults }
-        ensures quiet { OnOk result (self.new.faults ≡ self.old.faults) }
-        ensures dry { IsErrOf result OutError.NoMemory → self.new.faults ≡ self.old.faults }
+        ensures frame { CountsOnly OutError.Fault self.old.faults self.new.faults result }
         ensures folder { folder_of self.new ≡ folder_of self.old }
     {
         let bytes = etc_folder::read(&self.rt, alloc, self.folder.as_str(), place, name);

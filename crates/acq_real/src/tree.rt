@@ -1,6 +1,6 @@
 //! The files of the operating system, as they are served.
-ghost use Rattle.std.specs.Prelude.{◌≡◌, ◌≤◌, None, IfOk, OnErr, OnOk, length};
-ghost use Rattle.acq_outside.specs.Count.{Rose};
+ghost use Rattle.std.specs.Prelude.{◌≡◌, ◌≤◌, None, IfOk, length};
+ghost use Rattle.acq_outside.specs.Frame.{Counts};
 ghost use Rattle.acq_real.specs.RealTree.{faults_of};
 
 use crate::answer::unless;
@@ -85,21 +85,12 @@ impl<R: Files<File = File> + AllocGlobal + Clone + Drop> Tree for RealTree<R> {
 
     ghost files = { λ _. None };
 
-    fn size(&mut self, path: &Text) -> Result<Option<u64>, Fault>
-        ensures count { faults_of self.old ≤ faults_of self.new }
-        ensures fault { OnErr result (Rose (faults_of self.old) (faults_of self.new)) }
-        ensures quiet { OnOk result (faults_of self.new ≡ faults_of self.old) }
-    {
+    fn size(&mut self, path: &Text) -> Result<Option<u64>, Fault> {
         let size = self.length(path);
         counted(&mut self.faults, size)
     }
 
-    fn read_at(&mut self, path: &Text, at: u64, out: &mut [u8]) -> Result<usize, Fault>
-        ensures count { faults_of self.old ≤ faults_of self.new }
-        ensures fault { OnErr result (Rose (faults_of self.old) (faults_of self.new)) }
-        ensures quiet { OnOk result (faults_of self.new ≡ faults_of self.old) }
-        ensures within { IfOk result (λ n. n ≤ length out.old) }
-    {
+    fn read_at(&mut self, path: &Text, at: u64, out: &mut [u8]) -> Result<usize, Fault> {
         let read = self.read(path, at, out);
         counted(&mut self.faults, read)
     }
@@ -107,9 +98,7 @@ impl<R: Files<File = File> + AllocGlobal + Clone + Drop> Tree for RealTree<R> {
 
 /// The answer of the system, an error of it as a fault that is counted.
 fn counted<T: Drop>(faults: &mut u64, done: io::Result<T>) -> Result<T, Fault>
-    ensures count { faults.old ≤ faults.new }
-    ensures fault { OnErr result (Rose faults.old faults.new) }
-    ensures quiet { OnOk result (faults.new ≡ faults.old) }
+    ensures frame { Counts faults.old faults.new result }
     ensures answer { IfOk result (λ value. done ≡ Ok value) }
 {
     match done {

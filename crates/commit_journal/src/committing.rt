@@ -1,6 +1,6 @@
 //! A prepared commit is made: the gate before its record is opened, the record carried out, and the gate closed.
 ghost use Rattle.std.specs.Prelude.{◌≡◌, ◌≤◌, ◌+◌, length, [], OnOk, OnErr, Err};
-ghost use Rattle.acq_outside.specs.Count.{Rose};
+ghost use Rattle.acq_outside.specs.Stays.{Stays};
 ghost use Rattle.acq_outside.specs.Moments.{Stands, Since, From};
 ghost use Rattle.journal_model.specs.Spelling.{all_steps};
 ghost use Rattle.journal_model.specs.Rest.{IsIdle, IsSettled, part_bytes};
@@ -17,11 +17,7 @@ use acq_outside::{Disk, Fault};
 /// Writes the gate's byte as 1.
 fn write_gate<D: Disk>(disk: &mut D, prepared: &Prepared) -> Result<(), Fault>
     requires { Stands (IsReady prepared.now.groups) (D.trace disk.old) }
-    ensures count { D.faults disk.old ≤ D.faults disk.new }
-    ensures fault { OnErr result (Rose (D.faults disk.old) (D.faults disk.new)) }
-    ensures quiet { OnOk result (D.faults disk.new ≡ D.faults disk.old) }
-    ensures held { D.held disk.new ≡ D.held disk.old }
-    ensures telling { D.tells disk.new ≡ D.tells disk.old }
+    ensures frame { Stays D.Disk disk.old disk.new result }
     ensures moments { Since (D.trace disk.old) (D.trace disk.new)
         (KeepsOrSteps prepared.now.groups (filled_all (part_bytes (D.trace disk.old)) prepared.now.groups) (D.trace disk.old)) }
     ensures once { length (D.trace disk.new) ≤ length (D.trace disk.old) + 1 }
@@ -38,11 +34,7 @@ fn write_gate<D: Disk>(disk: &mut D, prepared: &Prepared) -> Result<(), Fault>
 /// Makes the open gate lasting.
 fn lay_gate<D: Disk>(disk: &mut D, prepared: &Prepared) -> Result<(), Fault>
     requires { Stands (IsOpening prepared.now.groups) (D.trace disk.old) }
-    ensures count { D.faults disk.old ≤ D.faults disk.new }
-    ensures fault { OnErr result (Rose (D.faults disk.old) (D.faults disk.new)) }
-    ensures quiet { OnOk result (D.faults disk.new ≡ D.faults disk.old) }
-    ensures held { D.held disk.new ≡ D.held disk.old }
-    ensures telling { D.tells disk.new ≡ D.tells disk.old }
+    ensures frame { Stays D.Disk disk.old disk.new result }
     ensures recovers { Since (D.trace disk.old) (D.trace disk.new) (From Recovers (D.trace disk.old)) }
     ensures opens { Since (D.trace disk.old) (D.trace disk.new) (OpensAt prepared.now.groups (D.trace disk.old)) }
     ensures new { OnOk result (Stands (OpensAt prepared.now.groups (D.trace disk.old)) (D.trace disk.new)) }
@@ -56,11 +48,7 @@ fn lay_gate<D: Disk>(disk: &mut D, prepared: &Prepared) -> Result<(), Fault>
 #[tactic(auto, using(crate::proofs::Others::others_on))]
 fn open_gate<D: Disk>(disk: &mut D, prepared: &Prepared) -> Result<(), Fault>
     requires { Stands (IsReady prepared.now.groups) (D.trace disk.old) }
-    ensures count { D.faults disk.old ≤ D.faults disk.new }
-    ensures fault { OnErr result (Rose (D.faults disk.old) (D.faults disk.new)) }
-    ensures quiet { OnOk result (D.faults disk.new ≡ D.faults disk.old) }
-    ensures held { D.held disk.new ≡ D.held disk.old }
-    ensures telling { D.tells disk.new ≡ D.tells disk.old }
+    ensures frame { Stays D.Disk disk.old disk.new result }
     ensures moments { Since (D.trace disk.old) (D.trace disk.new)
         (KeepsOrSteps prepared.now.groups (filled_all (part_bytes (D.trace disk.old)) prepared.now.groups) (D.trace disk.old)) }
     ensures turns { Turns prepared.now.groups (filled_all (part_bytes (D.trace disk.old)) prepared.now.groups) (D.trace disk.old) (D.trace disk.new) }
@@ -79,11 +67,7 @@ fn open_gate<D: Disk>(disk: &mut D, prepared: &Prepared) -> Result<(), Fault>
 #[tactic(auto, using(crate::proofs::Opens::named_steps))]
 fn carry_out<D: Disk>(disk: &mut D, prepared: &Prepared) -> Result<(), Fault>
     requires { Stands (IsCarrying (all_steps (steps_in prepared.now.groups)) []) (D.trace disk.old) }
-    ensures count { D.faults disk.old ≤ D.faults disk.new }
-    ensures fault { OnErr result (Rose (D.faults disk.old) (D.faults disk.new)) }
-    ensures quiet { OnOk result (D.faults disk.new ≡ D.faults disk.old) }
-    ensures held { D.held disk.new ≡ D.held disk.old }
-    ensures telling { D.tells disk.new ≡ D.tells disk.old }
+    ensures frame { Stays D.Disk disk.old disk.new result }
     ensures moments { Since (D.trace disk.old) (D.trace disk.new) (From Recovers (D.trace disk.old)) }
     ensures others { LeavesOthers (IsOfCommit (all_steps (steps_in prepared.now.groups))) (D.trace disk.old) (D.trace disk.new) }
     ensures done { OnOk result (Stands IsIdle (D.trace disk.new)) }
@@ -103,12 +87,8 @@ pub fn commit<D: Disk>(
     prepared: Prepared,
 ) -> Result<(), JournalError>
     requires ready { Stands (IsReady prepared.groups) (D.trace disk.old) }
-    ensures count { D.faults disk.old ≤ D.faults disk.new }
-    ensures only_fault { OnErr result (Rose (D.faults disk.old) (D.faults disk.new)) }
-    ensures quiet { OnOk result (D.faults disk.new ≡ D.faults disk.old) }
+    ensures frame { Stays D.Disk disk.old disk.new result }
     ensures only { OnErr result (result ≡ Err JournalError.DiskFault) }
-    ensures held { D.held disk.new ≡ D.held disk.old }
-    ensures telling { D.tells disk.new ≡ D.tells disk.old }
     ensures moments { Since (D.trace disk.old) (D.trace disk.new)
         (KeepsOrSteps prepared.groups (filled_all (part_bytes (D.trace disk.old)) prepared.groups) (D.trace disk.old)) }
     ensures turns { Turns prepared.groups (filled_all (part_bytes (D.trace disk.old)) prepared.groups) (D.trace disk.old) (D.trace disk.new) }

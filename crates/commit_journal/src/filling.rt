@@ -1,6 +1,6 @@
 //! What a commit's Puts hold is laid under `partial/`.
 ghost use Rattle.std.specs.Prelude.{◌≡◌, ◌≤◌, ◌+◌, ◌<◌, ◌^◌, ◌++◌, [], ◌∷◌, length, OnOk, OnErr};
-ghost use Rattle.acq_outside.specs.Count.{Rose};
+ghost use Rattle.acq_outside.specs.Stays.{Stays};
 ghost use Rattle.acq_outside.specs.Moments.{IsTold, Stands, Since};
 ghost use Rattle.journal_model.specs.Names.{IsPutName};
 ghost use Rattle.journal_model.specs.Rest.{IsIdle, IsPartThere, IsPartSynced, KeepsRest, KeepsOthers, part_bytes};
@@ -19,11 +19,7 @@ fn put_some<D: Disk>(disk: &mut D, part: &mut Part, bytes: &[u8]) -> Result<(), 
     requires len { IsTold (D.trace disk.old) → length (part_bytes (D.trace disk.old) part.old.name) ≡ part.old.len }
     requires room { part.old.len + length bytes.now < 2 ^ 64 }
     requires idle { Stands IsIdle (D.trace disk.old) }
-    ensures count { D.faults disk.old ≤ D.faults disk.new }
-    ensures fault { OnErr result (Rose (D.faults disk.old) (D.faults disk.new)) }
-    ensures quiet { OnOk result (D.faults disk.new ≡ D.faults disk.old) }
-    ensures held { D.held disk.new ≡ D.held disk.old }
-    ensures telling { D.tells disk.new ≡ D.tells disk.old }
+    ensures frame { Stays D.Disk disk.old disk.new result }
     ensures moments { Since (D.trace disk.old) (D.trace disk.new) (KeepsRest (D.trace disk.old)) }
     ensures others { KeepsOthers part.old.name (D.trace disk.old) (D.trace disk.new) }
     ensures part { OnOk result (part.new ≡ part_of part.old.name (part.old.len + length bytes.now)) }
@@ -41,11 +37,7 @@ fn put_some<D: Disk>(disk: &mut D, part: &mut Part, bytes: &[u8]) -> Result<(), 
 fn fill<D: Disk>(disk: &mut D, name: &ListName, bytes: &[u8]) -> Result<(), Fault>
     requires name { IsPutName name.now.0 }
     requires idle { Stands IsIdle (D.trace disk.old) }
-    ensures count { D.faults disk.old ≤ D.faults disk.new }
-    ensures fault { OnErr result (Rose (D.faults disk.old) (D.faults disk.new)) }
-    ensures quiet { OnOk result (D.faults disk.new ≡ D.faults disk.old) }
-    ensures held { D.held disk.new ≡ D.held disk.old }
-    ensures telling { D.tells disk.new ≡ D.tells disk.old }
+    ensures frame { Stays D.Disk disk.old disk.new result }
     ensures moments { Since (D.trace disk.old) (D.trace disk.new) (KeepsRest (D.trace disk.old)) }
     ensures others { KeepsOthers name.now.0 (D.trace disk.old) (D.trace disk.new) }
     ensures synced { OnOk result (Stands (IsPartSynced name.now.0 bytes.now) (D.trace disk.new)) }
@@ -61,11 +53,7 @@ fn fill_one<D: Disk>(disk: &mut D, change: &Change) -> Result<(), Fault>
     requires allowed { IsAllowed change.now }
     requires staged { Stands (AreStaged (change.now ∷ [])) (D.trace disk.old) }
     requires idle { Stands IsIdle (D.trace disk.old) }
-    ensures count { D.faults disk.old ≤ D.faults disk.new }
-    ensures fault { OnErr result (Rose (D.faults disk.old) (D.faults disk.new)) }
-    ensures quiet { OnOk result (D.faults disk.new ≡ D.faults disk.old) }
-    ensures held { D.held disk.new ≡ D.held disk.old }
-    ensures telling { D.tells disk.new ≡ D.tells disk.old }
+    ensures frame { Stays D.Disk disk.old disk.new result }
     ensures moments { Since (D.trace disk.old) (D.trace disk.new) (KeepsRest (D.trace disk.old)) }
     ensures others { KeepsUnnamedIn (touched (change.now ∷ [])) (D.trace disk.old) (D.trace disk.new) }
     ensures filled { OnOk result (Stands (AreFilledFrom (part_bytes (D.trace disk.old)) (change.now ∷ [])) (D.trace disk.new)) }
@@ -85,11 +73,7 @@ fn fill_group<D: Disk>(disk: &mut D, changes: &[Change]) -> Result<(), Fault>
     requires apart { AreApart (touched changes.now) }
     requires staged { Stands (AreStaged changes.now) (D.trace disk.old) }
     requires idle { Stands IsIdle (D.trace disk.old) }
-    ensures count { D.faults disk.old ≤ D.faults disk.new }
-    ensures fault { OnErr result (Rose (D.faults disk.old) (D.faults disk.new)) }
-    ensures quiet { OnOk result (D.faults disk.new ≡ D.faults disk.old) }
-    ensures held { D.held disk.new ≡ D.held disk.old }
-    ensures telling { D.tells disk.new ≡ D.tells disk.old }
+    ensures frame { Stays D.Disk disk.old disk.new result }
     ensures moments { Since (D.trace disk.old) (D.trace disk.new) (KeepsRest (D.trace disk.old)) }
     ensures others { KeepsUnnamedIn (touched changes.now) (D.trace disk.old) (D.trace disk.new) }
     ensures filled { OnOk result (Stands (AreFilledFrom (part_bytes (D.trace disk.old)) changes.now) (D.trace disk.new)) }
@@ -106,11 +90,7 @@ pub fn fill_all<D: Disk>(disk: &mut D, groups: &[Row<Change>]) -> Result<(), Fau
     requires apart { AreApart (touched_all groups.now) }
     requires staged { Stands (AreStaged (all_changes groups.now)) (D.trace disk.old) }
     requires idle { Stands IsIdle (D.trace disk.old) }
-    ensures count { D.faults disk.old ≤ D.faults disk.new }
-    ensures fault { OnErr result (Rose (D.faults disk.old) (D.faults disk.new)) }
-    ensures quiet { OnOk result (D.faults disk.new ≡ D.faults disk.old) }
-    ensures held { D.held disk.new ≡ D.held disk.old }
-    ensures telling { D.tells disk.new ≡ D.tells disk.old }
+    ensures frame { Stays D.Disk disk.old disk.new result }
     ensures moments { Since (D.trace disk.old) (D.trace disk.new) (KeepsRest (D.trace disk.old)) }
     ensures others { KeepsUnnamedIn (touched_all groups.now) (D.trace disk.old) (D.trace disk.new) }
     ensures filled { OnOk result (Stands (AreFilledFrom (part_bytes (D.trace disk.old)) (all_changes groups.now)) (D.trace disk.new)) }

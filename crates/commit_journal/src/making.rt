@@ -1,7 +1,7 @@
 //! A new journal is made beside one that isn't open, or where there is none. It is never written in place, since a byte
 //! that is being written may stand as 1 in what a crash leaves.
 ghost use Rattle.std.specs.Prelude.{◌≡◌, ◌≤◌, [], ◌∷◌, OnOk, OnErr, IsTrue};
-ghost use Rattle.acq_outside.specs.Count.{Rose};
+ghost use Rattle.acq_outside.specs.Stays.{Stays};
 ghost use Rattle.acq_outside.specs.Disk.{after_cut, after_write, after_rename};
 ghost use Rattle.acq_outside.specs.Moments.{Stands, Since, From};
 ghost use Rattle.journal_model.specs.Names.{journal, beside};
@@ -13,11 +13,7 @@ use acq_outside::{Disk, Fault};
 
 fn cut_beside<D: Disk>(disk: &mut D) -> Result<(), Fault>
     requires { Stands IsUnset (D.trace disk.old) }
-    ensures count { D.faults disk.old ≤ D.faults disk.new }
-    ensures fault { OnErr result (Rose (D.faults disk.old) (D.faults disk.new)) }
-    ensures quiet { OnOk result (D.faults disk.new ≡ D.faults disk.old) }
-    ensures held { D.held disk.new ≡ D.held disk.old }
-    ensures telling { D.tells disk.new ≡ D.tells disk.old }
+    ensures frame { Stays D.Disk disk.old disk.new result }
     ensures moments { Since (D.trace disk.old) (D.trace disk.new) (From Recovers (D.trace disk.old)) }
     ensures others { LeavesOthers IsOfMaking (D.trace disk.old) (D.trace disk.new) }
     ensures told { IsTrue (D.tells disk.old) → OnOk result (D.files disk.new ≡ after_cut (D.files disk.old) beside 0) }
@@ -28,11 +24,7 @@ fn cut_beside<D: Disk>(disk: &mut D) -> Result<(), Fault>
 
 fn write_beside<D: Disk>(disk: &mut D) -> Result<(), Fault>
     requires { Stands (IsBeside []) (D.trace disk.old) }
-    ensures count { D.faults disk.old ≤ D.faults disk.new }
-    ensures fault { OnErr result (Rose (D.faults disk.old) (D.faults disk.new)) }
-    ensures quiet { OnOk result (D.faults disk.new ≡ D.faults disk.old) }
-    ensures held { D.held disk.new ≡ D.held disk.old }
-    ensures telling { D.tells disk.new ≡ D.tells disk.old }
+    ensures frame { Stays D.Disk disk.old disk.new result }
     ensures moments { Since (D.trace disk.old) (D.trace disk.new) (From Recovers (D.trace disk.old)) }
     ensures others { LeavesOthers IsOfMaking (D.trace disk.old) (D.trace disk.new) }
     ensures told { IsTrue (D.tells disk.old) → OnOk result (D.files disk.new ≡ after_write (D.files disk.old) beside 0 (0 ∷ [])) }
@@ -43,11 +35,7 @@ fn write_beside<D: Disk>(disk: &mut D) -> Result<(), Fault>
 
 fn sync_beside<D: Disk>(disk: &mut D) -> Result<(), Fault>
     requires { Stands (IsBeside (0 ∷ [])) (D.trace disk.old) }
-    ensures count { D.faults disk.old ≤ D.faults disk.new }
-    ensures fault { OnErr result (Rose (D.faults disk.old) (D.faults disk.new)) }
-    ensures quiet { OnOk result (D.faults disk.new ≡ D.faults disk.old) }
-    ensures held { D.held disk.new ≡ D.held disk.old }
-    ensures telling { D.tells disk.new ≡ D.tells disk.old }
+    ensures frame { Stays D.Disk disk.old disk.new result }
     ensures moments { Since (D.trace disk.old) (D.trace disk.new) (From Recovers (D.trace disk.old)) }
     ensures others { LeavesOthers IsOfMaking (D.trace disk.old) (D.trace disk.new) }
     ensures same { D.files disk.new ≡ D.files disk.old }
@@ -59,11 +47,7 @@ fn sync_beside<D: Disk>(disk: &mut D) -> Result<(), Fault>
 /// Gives the new file the journal's name.
 fn name_it<D: Disk>(disk: &mut D) -> Result<(), Fault>
     requires { Stands LastsBeside (D.trace disk.old) }
-    ensures count { D.faults disk.old ≤ D.faults disk.new }
-    ensures fault { OnErr result (Rose (D.faults disk.old) (D.faults disk.new)) }
-    ensures quiet { OnOk result (D.faults disk.new ≡ D.faults disk.old) }
-    ensures held { D.held disk.new ≡ D.held disk.old }
-    ensures telling { D.tells disk.new ≡ D.tells disk.old }
+    ensures frame { Stays D.Disk disk.old disk.new result }
     ensures moments { Since (D.trace disk.old) (D.trace disk.new) (From Recovers (D.trace disk.old)) }
     ensures others { LeavesOthers IsOfMaking (D.trace disk.old) (D.trace disk.new) }
     ensures told { IsTrue (D.tells disk.old) → OnOk result (D.files disk.new ≡ after_rename (D.files disk.old) beside journal) }
@@ -74,11 +58,7 @@ fn name_it<D: Disk>(disk: &mut D) -> Result<(), Fault>
 
 fn name_lastingly<D: Disk>(disk: &mut D) -> Result<(), Fault>
     requires { Stands IsNamed (D.trace disk.old) }
-    ensures count { D.faults disk.old ≤ D.faults disk.new }
-    ensures fault { OnErr result (Rose (D.faults disk.old) (D.faults disk.new)) }
-    ensures quiet { OnOk result (D.faults disk.new ≡ D.faults disk.old) }
-    ensures held { D.held disk.new ≡ D.held disk.old }
-    ensures telling { D.tells disk.new ≡ D.tells disk.old }
+    ensures frame { Stays D.Disk disk.old disk.new result }
     ensures moments { Since (D.trace disk.old) (D.trace disk.new) (From Recovers (D.trace disk.old)) }
     ensures others { LeavesOthers IsOfMaking (D.trace disk.old) (D.trace disk.new) }
     ensures same { D.files disk.new ≡ D.files disk.old }
@@ -91,11 +71,7 @@ fn name_lastingly<D: Disk>(disk: &mut D) -> Result<(), Fault>
 #[tactic(auto, using(crate::proofs::Recovers::onwards, crate::proofs::Others::others_on))]
 fn lay_beside<D: Disk>(disk: &mut D) -> Result<(), Fault>
     requires { Stands IsUnset (D.trace disk.old) }
-    ensures count { D.faults disk.old ≤ D.faults disk.new }
-    ensures fault { OnErr result (Rose (D.faults disk.old) (D.faults disk.new)) }
-    ensures quiet { OnOk result (D.faults disk.new ≡ D.faults disk.old) }
-    ensures held { D.held disk.new ≡ D.held disk.old }
-    ensures telling { D.tells disk.new ≡ D.tells disk.old }
+    ensures frame { Stays D.Disk disk.old disk.new result }
     ensures moments { Since (D.trace disk.old) (D.trace disk.new) (From Recovers (D.trace disk.old)) }
     ensures others { LeavesOthers IsOfMaking (D.trace disk.old) (D.trace disk.new) }
     ensures told { IsTrue (D.tells disk.old) → OnOk result (D.files disk.new ≡ after_write (after_cut (D.files disk.old) beside 0) beside 0 (0 ∷ [])) }
@@ -110,11 +86,7 @@ fn lay_beside<D: Disk>(disk: &mut D) -> Result<(), Fault>
 #[tactic(auto, using(crate::proofs::Recovers::onwards, crate::proofs::Others::others_on))]
 pub fn make_new<D: Disk>(disk: &mut D) -> Result<(), Fault>
     requires { Stands IsUnset (D.trace disk.old) }
-    ensures count { D.faults disk.old ≤ D.faults disk.new }
-    ensures fault { OnErr result (Rose (D.faults disk.old) (D.faults disk.new)) }
-    ensures quiet { OnOk result (D.faults disk.new ≡ D.faults disk.old) }
-    ensures held { D.held disk.new ≡ D.held disk.old }
-    ensures telling { D.tells disk.new ≡ D.tells disk.old }
+    ensures frame { Stays D.Disk disk.old disk.new result }
     ensures moments { Since (D.trace disk.old) (D.trace disk.new) (From Recovers (D.trace disk.old)) }
     ensures others { LeavesOthers IsOfMaking (D.trace disk.old) (D.trace disk.new) }
     ensures told { IsTrue (D.tells disk.old) → OnOk result (D.files disk.new ≡ made_files (D.files disk.old)) }

@@ -1,6 +1,6 @@
 //! A record is written behind the closed gate.
 ghost use Rattle.std.specs.Prelude.{◌≡◌, ◌≤◌, [], ◌∷◌, OnOk, OnErr};
-ghost use Rattle.acq_outside.specs.Count.{Rose};
+ghost use Rattle.acq_outside.specs.Stays.{Stays};
 ghost use Rattle.acq_outside.specs.Moments.{Stands, Since};
 ghost use Rattle.journal_model.specs.Rest.{IsIdle, KeepsRest};
 ghost use Rattle.commit_journal.specs.Opening.{LeavesOthers};
@@ -12,11 +12,7 @@ use acq_outside::{Disk, Fault};
 /// Makes the names of all that is on its way lasting.
 fn lay_names<D: Disk>(disk: &mut D) -> Result<(), Fault>
     requires { Stands IsIdle (D.trace disk.old) }
-    ensures count { D.faults disk.old ≤ D.faults disk.new }
-    ensures fault { OnErr result (Rose (D.faults disk.old) (D.faults disk.new)) }
-    ensures quiet { OnOk result (D.faults disk.new ≡ D.faults disk.old) }
-    ensures held { D.held disk.new ≡ D.held disk.old }
-    ensures telling { D.tells disk.new ≡ D.tells disk.old }
+    ensures frame { Stays D.Disk disk.old disk.new result }
     ensures moments { Since (D.trace disk.old) (D.trace disk.new) (KeepsRest (D.trace disk.old)) }
     ensures others { LeavesOthers (IsOfCommit []) (D.trace disk.old) (D.trace disk.new) }
     ensures done { OnOk result (Stands IsIdleUnmoved (D.trace disk.new)) }
@@ -27,11 +23,7 @@ fn lay_names<D: Disk>(disk: &mut D) -> Result<(), Fault>
 /// Takes away what stands behind the gate.
 fn cut_journal<D: Disk>(disk: &mut D) -> Result<(), Fault>
     requires { Stands IsIdleUnmoved (D.trace disk.old) }
-    ensures count { D.faults disk.old ≤ D.faults disk.new }
-    ensures fault { OnErr result (Rose (D.faults disk.old) (D.faults disk.new)) }
-    ensures quiet { OnOk result (D.faults disk.new ≡ D.faults disk.old) }
-    ensures held { D.held disk.new ≡ D.held disk.old }
-    ensures telling { D.tells disk.new ≡ D.tells disk.old }
+    ensures frame { Stays D.Disk disk.old disk.new result }
     ensures moments { Since (D.trace disk.old) (D.trace disk.new) (KeepsRest (D.trace disk.old)) }
     ensures others { LeavesOthers (IsOfCommit []) (D.trace disk.old) (D.trace disk.new) }
     ensures done { OnOk result (Stands (IsNoted (0 ∷ [])) (D.trace disk.new)) }
@@ -41,11 +33,7 @@ fn cut_journal<D: Disk>(disk: &mut D) -> Result<(), Fault>
 
 fn write_journal<D: Disk>(disk: &mut D, body: &[u8]) -> Result<(), Fault>
     requires { Stands (IsNoted (0 ∷ [])) (D.trace disk.old) }
-    ensures count { D.faults disk.old ≤ D.faults disk.new }
-    ensures fault { OnErr result (Rose (D.faults disk.old) (D.faults disk.new)) }
-    ensures quiet { OnOk result (D.faults disk.new ≡ D.faults disk.old) }
-    ensures held { D.held disk.new ≡ D.held disk.old }
-    ensures telling { D.tells disk.new ≡ D.tells disk.old }
+    ensures frame { Stays D.Disk disk.old disk.new result }
     ensures moments { Since (D.trace disk.old) (D.trace disk.new) (KeepsRest (D.trace disk.old)) }
     ensures others { LeavesOthers (IsOfCommit []) (D.trace disk.old) (D.trace disk.new) }
     ensures done { OnOk result (Stands (IsNoted (0 ∷ body.now)) (D.trace disk.new)) }
@@ -55,11 +43,7 @@ fn write_journal<D: Disk>(disk: &mut D, body: &[u8]) -> Result<(), Fault>
 
 fn sync_journal<D: Disk>(disk: &mut D, body: &[u8]) -> Result<(), Fault>
     requires { Stands (IsNoted (0 ∷ body.now)) (D.trace disk.old) }
-    ensures count { D.faults disk.old ≤ D.faults disk.new }
-    ensures fault { OnErr result (Rose (D.faults disk.old) (D.faults disk.new)) }
-    ensures quiet { OnOk result (D.faults disk.new ≡ D.faults disk.old) }
-    ensures held { D.held disk.new ≡ D.held disk.old }
-    ensures telling { D.tells disk.new ≡ D.tells disk.old }
+    ensures frame { Stays D.Disk disk.old disk.new result }
     ensures moments { Since (D.trace disk.old) (D.trace disk.new) (KeepsRest (D.trace disk.old)) }
     ensures others { LeavesOthers (IsOfCommit []) (D.trace disk.old) (D.trace disk.new) }
     ensures done { OnOk result (Stands (IsNotedLastingly (0 ∷ body.now)) (D.trace disk.new)) }
@@ -71,11 +55,7 @@ fn sync_journal<D: Disk>(disk: &mut D, body: &[u8]) -> Result<(), Fault>
 #[tactic(auto, using(crate::proofs::Fills::rests_on, crate::proofs::Others::others_on))]
 fn write_body<D: Disk>(disk: &mut D, body: &[u8]) -> Result<(), Fault>
     requires { Stands IsIdleUnmoved (D.trace disk.old) }
-    ensures count { D.faults disk.old ≤ D.faults disk.new }
-    ensures fault { OnErr result (Rose (D.faults disk.old) (D.faults disk.new)) }
-    ensures quiet { OnOk result (D.faults disk.new ≡ D.faults disk.old) }
-    ensures held { D.held disk.new ≡ D.held disk.old }
-    ensures telling { D.tells disk.new ≡ D.tells disk.old }
+    ensures frame { Stays D.Disk disk.old disk.new result }
     ensures moments { Since (D.trace disk.old) (D.trace disk.new) (KeepsRest (D.trace disk.old)) }
     ensures others { LeavesOthers (IsOfCommit []) (D.trace disk.old) (D.trace disk.new) }
     ensures done { OnOk result (Stands (IsNotedLastingly (0 ∷ body.now)) (D.trace disk.new)) }
@@ -89,11 +69,7 @@ fn write_body<D: Disk>(disk: &mut D, body: &[u8]) -> Result<(), Fault>
 #[tactic(auto, using(crate::proofs::Fills::rests_on, crate::proofs::Others::others_on))]
 pub fn note<D: Disk>(disk: &mut D, body: &[u8]) -> Result<(), Fault>
     requires { Stands IsIdle (D.trace disk.old) }
-    ensures count { D.faults disk.old ≤ D.faults disk.new }
-    ensures fault { OnErr result (Rose (D.faults disk.old) (D.faults disk.new)) }
-    ensures quiet { OnOk result (D.faults disk.new ≡ D.faults disk.old) }
-    ensures held { D.held disk.new ≡ D.held disk.old }
-    ensures telling { D.tells disk.new ≡ D.tells disk.old }
+    ensures frame { Stays D.Disk disk.old disk.new result }
     ensures moments { Since (D.trace disk.old) (D.trace disk.new) (KeepsRest (D.trace disk.old)) }
     ensures others { LeavesOthers (IsOfCommit []) (D.trace disk.old) (D.trace disk.new) }
     ensures done { OnOk result (Stands (IsNotedLastingly (0 ∷ body.now)) (D.trace disk.new)) }

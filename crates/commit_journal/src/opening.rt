@@ -1,6 +1,6 @@
 //! Opening a journal that a stop may have left in any state.
 ghost use Rattle.std.specs.Prelude.{◌≡◌, ◌≢◌, ◌≤◌, ℕ, [], IsTrue, IsErrOf, IfOk, OnOk, OnErr, Err, true, false};
-ghost use Rattle.acq_outside.specs.Count.{Rose};
+ghost use Rattle.acq_outside.specs.Stays.{Reads, ReadsCounting, Stays, StaysCounting};
 ghost use Rattle.acq_outside.specs.Moments.{Stands, Since, From};
 ghost use Rattle.journal_model.specs.Names.{journal};
 ghost use Rattle.journal_model.specs.Reading.{gate_in};
@@ -36,11 +36,7 @@ pub enum First {
 
 /// Makes all names lasting.
 fn lay_names<D: Disk>(disk: &mut D) -> Result<(), Fault>
-    ensures count { D.faults disk.old ≤ D.faults disk.new }
-    ensures fault { OnErr result (Rose (D.faults disk.old) (D.faults disk.new)) }
-    ensures quiet { OnOk result (D.faults disk.new ≡ D.faults disk.old) }
-    ensures held { D.held disk.new ≡ D.held disk.old }
-    ensures telling { D.tells disk.new ≡ D.tells disk.old }
+    ensures frame { Stays D.Disk disk.old disk.new result }
     ensures same { D.files disk.new ≡ D.files disk.old }
     ensures others { LeavesOthers (IsOfCommit []) (D.trace disk.old) (D.trace disk.new) }
     ensures moments { Since (D.trace disk.old) (D.trace disk.new) (From Recovers (D.trace disk.old)) }
@@ -52,11 +48,7 @@ fn lay_names<D: Disk>(disk: &mut D) -> Result<(), Fault>
 /// Makes what reads give of the journal lasting.
 fn lay_journal<D: Disk>(disk: &mut D) -> Result<(), Fault>
     requires { Stands IsUnmoved (D.trace disk.old) }
-    ensures count { D.faults disk.old ≤ D.faults disk.new }
-    ensures fault { OnErr result (Rose (D.faults disk.old) (D.faults disk.new)) }
-    ensures quiet { OnOk result (D.faults disk.new ≡ D.faults disk.old) }
-    ensures held { D.held disk.new ≡ D.held disk.old }
-    ensures telling { D.tells disk.new ≡ D.tells disk.old }
+    ensures frame { Stays D.Disk disk.old disk.new result }
     ensures same { D.files disk.new ≡ D.files disk.old }
     ensures others { LeavesOthers (IsOfCommit []) (D.trace disk.old) (D.trace disk.new) }
     ensures moments { Since (D.trace disk.old) (D.trace disk.new) (From Recovers (D.trace disk.old)) }
@@ -67,11 +59,7 @@ fn lay_journal<D: Disk>(disk: &mut D) -> Result<(), Fault>
 
 #[tactic(auto, using(crate::proofs::Recovers::onwards))]
 fn lay<D: Disk>(disk: &mut D) -> Result<(), Fault>
-    ensures count { D.faults disk.old ≤ D.faults disk.new }
-    ensures fault { OnErr result (Rose (D.faults disk.old) (D.faults disk.new)) }
-    ensures quiet { OnOk result (D.faults disk.new ≡ D.faults disk.old) }
-    ensures held { D.held disk.new ≡ D.held disk.old }
-    ensures telling { D.tells disk.new ≡ D.tells disk.old }
+    ensures frame { Stays D.Disk disk.old disk.new result }
     ensures same { D.files disk.new ≡ D.files disk.old }
     ensures others { LeavesOthers (IsOfCommit []) (D.trace disk.old) (D.trace disk.new) }
     ensures moments { Since (D.trace disk.old) (D.trace disk.new) (From Recovers (D.trace disk.old)) }
@@ -83,13 +71,7 @@ fn lay<D: Disk>(disk: &mut D) -> Result<(), Fault>
 
 /// The journal's first byte. It takes no memory.
 fn first_byte<D: Disk>(disk: &mut D) -> Result<First, Fault>
-    ensures count { D.faults disk.old ≤ D.faults disk.new }
-    ensures fault { OnErr result (Rose (D.faults disk.old) (D.faults disk.new)) }
-    ensures quiet { OnOk result (D.faults disk.new ≡ D.faults disk.old) }
-    ensures held { D.held disk.new ≡ D.held disk.old }
-    ensures telling { D.tells disk.new ≡ D.tells disk.old }
-    ensures same { D.files disk.new ≡ D.files disk.old }
-    ensures still { D.trace disk.new ≡ D.trace disk.old }
+    ensures frame { Reads D.Disk disk.old disk.new result }
     ensures told { IsTrue (D.tells disk.old) → IfOk result (λ first. IsFirst first (D.files disk.old journal)) }
 {
     let mut gate = [7];
@@ -114,14 +96,7 @@ fn first_of(n: usize, gate: u8) -> First
 /// What the whole journal says.
 #[tactic(auto, using(crate::proofs::Turns::gate_named))]
 fn judge<D: Disk>(alloc: Global, disk: &mut D) -> Result<Gate, JournalError>
-    ensures count { D.faults disk.old ≤ D.faults disk.new }
-    ensures fault { IsErrOf result JournalError.DiskFault → Rose (D.faults disk.old) (D.faults disk.new) }
-    ensures quiet { OnOk result (D.faults disk.new ≡ D.faults disk.old) }
-    ensures dry { IsErrOf result JournalError.NoMemory → D.faults disk.new ≡ D.faults disk.old }
-    ensures held { D.held disk.new ≡ D.held disk.old }
-    ensures telling { D.tells disk.new ≡ D.tells disk.old }
-    ensures same { D.files disk.new ≡ D.files disk.old }
-    ensures still { D.trace disk.new ≡ D.trace disk.old }
+    ensures frame { ReadsCounting JournalError.DiskFault D.Disk disk.old disk.new result }
     ensures told { IsTrue (D.tells disk.old) → IfOk result (λ gate. gate ≡ gate_in (D.files disk.old journal)) }
     ensures named { IfOk result NamesSteps }
     ensures undamaged { (at : ℕ) → result ≢ Err (JournalError.BadJournal at) }
@@ -138,13 +113,7 @@ fn judge<D: Disk>(alloc: Global, disk: &mut D) -> Result<Gate, JournalError>
 #[tactic(auto, using(crate::proofs::Recovers::onwards))]
 fn open_gate<D: Disk>(alloc: Global, disk: &mut D) -> Result<(), JournalError>
     requires { Stands IsLaid (D.trace disk.old) }
-    ensures count { D.faults disk.old ≤ D.faults disk.new }
-    ensures fault { IsErrOf result JournalError.DiskFault → Rose (D.faults disk.old) (D.faults disk.new) }
-    ensures quiet { OnOk result (D.faults disk.new ≡ D.faults disk.old) }
-    ensures dry { IsErrOf result JournalError.NoMemory → D.faults disk.new ≡ D.faults disk.old }
-    ensures steady { (at : ℕ) → result ≡ Err (JournalError.BadJournal at) → D.faults disk.new ≡ D.faults disk.old }
-    ensures held { D.held disk.new ≡ D.held disk.old }
-    ensures telling { D.tells disk.new ≡ D.tells disk.old }
+    ensures frame { StaysCounting JournalError.DiskFault D.Disk disk.old disk.new result }
     ensures moments { Since (D.trace disk.old) (D.trace disk.new) (From Recovers (D.trace disk.old)) }
     ensures others { IsTrue (D.tells disk.old) → is_open (D.files disk.old journal) ≡ true → LeavesOthers (IsOfOpening (D.files disk.old journal)) (D.trace disk.old) (D.trace disk.new) }
     ensures done { OnOk result (Stands IsIdle (D.trace disk.new)) }
@@ -169,13 +138,7 @@ fn open_gate<D: Disk>(alloc: Global, disk: &mut D) -> Result<(), JournalError>
 /// Opens a journal, but for what follows from its moments.
 #[tactic(auto, using(crate::proofs::Recovers::onwards))]
 fn open_whole<D: Disk>(alloc: Global, disk: &mut D) -> Result<Journal, JournalError>
-    ensures count { D.faults disk.old ≤ D.faults disk.new }
-    ensures fault { IsErrOf result JournalError.DiskFault → Rose (D.faults disk.old) (D.faults disk.new) }
-    ensures quiet { OnOk result (D.faults disk.new ≡ D.faults disk.old) }
-    ensures dry { IsErrOf result JournalError.NoMemory → D.faults disk.new ≡ D.faults disk.old }
-    ensures steady { (at : ℕ) → result ≡ Err (JournalError.BadJournal at) → D.faults disk.new ≡ D.faults disk.old }
-    ensures held { D.held disk.new ≡ D.held disk.old }
-    ensures telling { D.tells disk.new ≡ D.tells disk.old }
+    ensures frame { StaysCounting JournalError.DiskFault D.Disk disk.old disk.new result }
     ensures recovers { Since (D.trace disk.old) (D.trace disk.new) (From Recovers (D.trace disk.old)) }
     ensures others { IsTrue (D.tells disk.old) → LeavesOthers (IsOfOpening (D.files disk.old journal)) (D.trace disk.old) (D.trace disk.new) }
     ensures idle { OnOk result (Stands IsIdle (D.trace disk.new)) }
@@ -204,13 +167,7 @@ fn open_whole<D: Disk>(alloc: Global, disk: &mut D) -> Result<Journal, JournalEr
 ///
 /// `BadJournal` comes just where the first byte is 1 and the others are no record. Where it isn't 1, no memory is taken.
 pub fn open_journal<D: Disk>(alloc: Global, disk: &mut D) -> Result<Journal, JournalError>
-    ensures count { D.faults disk.old ≤ D.faults disk.new }
-    ensures fault { IsErrOf result JournalError.DiskFault → Rose (D.faults disk.old) (D.faults disk.new) }
-    ensures quiet { OnOk result (D.faults disk.new ≡ D.faults disk.old) }
-    ensures dry { IsErrOf result JournalError.NoMemory → D.faults disk.new ≡ D.faults disk.old }
-    ensures steady { (at : ℕ) → result ≡ Err (JournalError.BadJournal at) → D.faults disk.new ≡ D.faults disk.old }
-    ensures held { D.held disk.new ≡ D.held disk.old }
-    ensures telling { D.tells disk.new ≡ D.tells disk.old }
+    ensures frame { StaysCounting JournalError.DiskFault D.Disk disk.old disk.new result }
     ensures recovers { Since (D.trace disk.old) (D.trace disk.new) (From Recovers (D.trace disk.old)) }
     ensures settled { Stands IsSettled (D.trace disk.old) → Stands IsSettled (D.trace disk.new) }
     ensures others { IsTrue (D.tells disk.old) → LeavesOthers (IsOfOpening (D.files disk.old journal)) (D.trace disk.old) (D.trace disk.new) }

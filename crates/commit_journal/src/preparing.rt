@@ -1,6 +1,6 @@
 //! A commit is prepared: all that it puts is laid under `partial/`, and its record behind the closed gate.
 ghost use Rattle.std.specs.Prelude.{◌≡◌, ◌≢◌, ◌≤◌, ◌∷◌, OnOk, OnErr, IfOk, IsErrOf, Err, ℕ};
-ghost use Rattle.acq_outside.specs.Count.{Rose};
+ghost use Rattle.acq_outside.specs.Stays.{Stays, StaysCounting};
 ghost use Rattle.acq_outside.specs.Moments.{Stands, Since};
 ghost use Rattle.journal_model.specs.Rest.{IsIdle, IsSettled, KeepsRest, part_bytes};
 ghost use Rattle.commit_journal.specs.Changes.{filled_all, all_changes, CanRecord, AreAllStaged};
@@ -21,11 +21,7 @@ fn lay_out<D: Disk>(disk: &mut D, groups: &[Row<Change>], body: &[u8]) -> Result
     requires changes { CanRecord groups.now }
     requires staged { Stands (AreAllStaged groups.now) (D.trace disk.old) }
     requires idle { Stands IsIdle (D.trace disk.old) }
-    ensures count { D.faults disk.old ≤ D.faults disk.new }
-    ensures fault { OnErr result (Rose (D.faults disk.old) (D.faults disk.new)) }
-    ensures quiet { OnOk result (D.faults disk.new ≡ D.faults disk.old) }
-    ensures held { D.held disk.new ≡ D.held disk.old }
-    ensures telling { D.tells disk.new ≡ D.tells disk.old }
+    ensures frame { Stays D.Disk disk.old disk.new result }
     ensures moments { Since (D.trace disk.old) (D.trace disk.new) (KeepsRest (D.trace disk.old)) }
     ensures others { KeepsUnnamed groups.now (D.trace disk.old) (D.trace disk.new) }
     ensures filled { OnOk result (Stands (AreFilledFrom (part_bytes (D.trace disk.old)) (all_changes groups.now)) (D.trace disk.new)) }
@@ -51,15 +47,10 @@ pub fn prepare<D: Disk>(
     requires changes { CanRecord groups }
     requires staged { Stands (AreAllStaged groups) (D.trace disk.old) }
     requires idle { Stands IsIdle (D.trace disk.old) }
-    ensures count { D.faults disk.old ≤ D.faults disk.new }
-    ensures fault { IsErrOf result JournalError.DiskFault → Rose (D.faults disk.old) (D.faults disk.new) }
-    ensures quiet { OnOk result (D.faults disk.new ≡ D.faults disk.old) }
+    ensures frame { StaysCounting JournalError.DiskFault D.Disk disk.old disk.new result }
     ensures undamaged { (at : ℕ) → result ≢ Err (JournalError.BadJournal at) }
     ensures dry { IsErrOf result JournalError.NoMemory → D.trace disk.new ≡ D.trace disk.old }
-    ensures dry_faults { IsErrOf result JournalError.NoMemory → D.faults disk.new ≡ D.faults disk.old }
     ensures dry_files { IsErrOf result JournalError.NoMemory → D.files disk.new ≡ D.files disk.old }
-    ensures held { D.held disk.new ≡ D.held disk.old }
-    ensures telling { D.tells disk.new ≡ D.tells disk.old }
     ensures moments { Since (D.trace disk.old) (D.trace disk.new) (KeepsLists (D.trace disk.old)) }
     ensures rests { Since (D.trace disk.old) (D.trace disk.new) (KeepsRest (D.trace disk.old)) }
     ensures settled { Stands IsSettled (D.trace disk.old) → Stands IsSettled (D.trace disk.new) }

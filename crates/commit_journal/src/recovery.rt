@@ -1,6 +1,6 @@
 //! An open record is carried out, and the gate closed behind it.
 ghost use Rattle.std.specs.Prelude.{◌≡◌, ◌≤◌, [], OnOk, OnErr, IsTrue};
-ghost use Rattle.acq_outside.specs.Count.{Rose};
+ghost use Rattle.acq_outside.specs.Stays.{Stays};
 ghost use Rattle.acq_outside.specs.Crash.{Goes};
 ghost use Rattle.acq_outside.specs.Moments.{Stands, Since, From};
 ghost use Rattle.journal_model.specs.Rest.{IsIdle};
@@ -17,11 +17,7 @@ use journal_model::{PartialName, Step};
 #[tactic(auto, using(crate::proofs::Turns::put_named, crate::proofs::Lists::put_told, crate::proofs::Lists::drop_told))]
 fn carry_one<D: Disk>(disk: &mut D, step: &Step) -> Result<(), Fault>
     requires { IsNamedStep step.now }
-    ensures count { D.faults disk.old ≤ D.faults disk.new }
-    ensures fault { OnErr result (Rose (D.faults disk.old) (D.faults disk.new)) }
-    ensures quiet { OnOk result (D.faults disk.new ≡ D.faults disk.old) }
-    ensures held { D.held disk.new ≡ D.held disk.old }
-    ensures telling { D.tells disk.new ≡ D.tells disk.old }
+    ensures frame { Stays D.Disk disk.old disk.new result }
     ensures told { IsTrue (D.tells disk.old) → OnOk result (D.files disk.new ≡ stepped (D.files disk.old) step.now) }
     ensures step { Goes (call_of step.now) (D.trace disk.old) (D.trace disk.new) result }
 {
@@ -38,11 +34,7 @@ fn carry_one<D: Disk>(disk: &mut D, step: &Step) -> Result<(), Fault>
 fn carry_all<D: Disk>(disk: &mut D, steps: &[Step]) -> Result<(), Fault>
     requires named { AllNamed steps.now }
     requires open_gate { Stands (IsCarrying steps.now []) (D.trace disk.old) }
-    ensures count { D.faults disk.old ≤ D.faults disk.new }
-    ensures fault { OnErr result (Rose (D.faults disk.old) (D.faults disk.new)) }
-    ensures quiet { OnOk result (D.faults disk.new ≡ D.faults disk.old) }
-    ensures held { D.held disk.new ≡ D.held disk.old }
-    ensures telling { D.tells disk.new ≡ D.tells disk.old }
+    ensures frame { Stays D.Disk disk.old disk.new result }
     ensures moments { Since (D.trace disk.old) (D.trace disk.new) (From Recovers (D.trace disk.old)) }
     ensures others { LeavesOthers (IsOfCommit steps.now) (D.trace disk.old) (D.trace disk.new) }
     ensures told { IsTrue (D.tells disk.old) → OnOk result (D.files disk.new ≡ carried (D.files disk.old) steps.now) }
@@ -57,11 +49,7 @@ fn carry_all<D: Disk>(disk: &mut D, steps: &[Step]) -> Result<(), Fault>
 /// Makes the names lasting.
 fn settle<D: Disk>(disk: &mut D, steps: &[Step]) -> Result<(), Fault>
     requires { Stands (IsCarrying steps.now steps.now) (D.trace disk.old) }
-    ensures count { D.faults disk.old ≤ D.faults disk.new }
-    ensures fault { OnErr result (Rose (D.faults disk.old) (D.faults disk.new)) }
-    ensures quiet { OnOk result (D.faults disk.new ≡ D.faults disk.old) }
-    ensures held { D.held disk.new ≡ D.held disk.old }
-    ensures telling { D.tells disk.new ≡ D.tells disk.old }
+    ensures frame { Stays D.Disk disk.old disk.new result }
     ensures moments { Since (D.trace disk.old) (D.trace disk.new) (From Recovers (D.trace disk.old)) }
     ensures others { LeavesOthers (IsOfCommit steps.now) (D.trace disk.old) (D.trace disk.new) }
     ensures same { D.files disk.new ≡ D.files disk.old }
@@ -73,11 +61,7 @@ fn settle<D: Disk>(disk: &mut D, steps: &[Step]) -> Result<(), Fault>
 /// Closes the gate.
 fn shut<D: Disk>(disk: &mut D, steps: &[Step]) -> Result<(), Fault>
     requires { Stands (IsDone steps.now) (D.trace disk.old) }
-    ensures count { D.faults disk.old ≤ D.faults disk.new }
-    ensures fault { OnErr result (Rose (D.faults disk.old) (D.faults disk.new)) }
-    ensures quiet { OnOk result (D.faults disk.new ≡ D.faults disk.old) }
-    ensures held { D.held disk.new ≡ D.held disk.old }
-    ensures telling { D.tells disk.new ≡ D.tells disk.old }
+    ensures frame { Stays D.Disk disk.old disk.new result }
     ensures moments { Since (D.trace disk.old) (D.trace disk.new) (From Recovers (D.trace disk.old)) }
     ensures others { LeavesOthers (IsOfCommit steps.now) (D.trace disk.old) (D.trace disk.new) }
     ensures told { IsTrue (D.tells disk.old) → OnOk result (D.files disk.new ≡ closed_files (D.files disk.old)) }
@@ -89,11 +73,7 @@ fn shut<D: Disk>(disk: &mut D, steps: &[Step]) -> Result<(), Fault>
 /// Makes the closed gate lasting.
 fn close<D: Disk>(disk: &mut D, steps: &[Step]) -> Result<(), Fault>
     requires { Stands IsTurned (D.trace disk.old) }
-    ensures count { D.faults disk.old ≤ D.faults disk.new }
-    ensures fault { OnErr result (Rose (D.faults disk.old) (D.faults disk.new)) }
-    ensures quiet { OnOk result (D.faults disk.new ≡ D.faults disk.old) }
-    ensures held { D.held disk.new ≡ D.held disk.old }
-    ensures telling { D.tells disk.new ≡ D.tells disk.old }
+    ensures frame { Stays D.Disk disk.old disk.new result }
     ensures moments { Since (D.trace disk.old) (D.trace disk.new) (From Recovers (D.trace disk.old)) }
     ensures others { LeavesOthers (IsOfCommit steps.now) (D.trace disk.old) (D.trace disk.new) }
     ensures same { D.files disk.new ≡ D.files disk.old }
@@ -105,11 +85,7 @@ fn close<D: Disk>(disk: &mut D, steps: &[Step]) -> Result<(), Fault>
 #[tactic(auto, using(crate::proofs::Recovers::onwards, crate::proofs::Others::others_on))]
 fn close_behind<D: Disk>(disk: &mut D, steps: &[Step]) -> Result<(), Fault>
     requires { Stands (IsCarrying steps.now steps.now) (D.trace disk.old) }
-    ensures count { D.faults disk.old ≤ D.faults disk.new }
-    ensures fault { OnErr result (Rose (D.faults disk.old) (D.faults disk.new)) }
-    ensures quiet { OnOk result (D.faults disk.new ≡ D.faults disk.old) }
-    ensures held { D.held disk.new ≡ D.held disk.old }
-    ensures telling { D.tells disk.new ≡ D.tells disk.old }
+    ensures frame { Stays D.Disk disk.old disk.new result }
     ensures moments { Since (D.trace disk.old) (D.trace disk.new) (From Recovers (D.trace disk.old)) }
     ensures others { LeavesOthers (IsOfCommit steps.now) (D.trace disk.old) (D.trace disk.new) }
     ensures told { IsTrue (D.tells disk.old) → OnOk result (D.files disk.new ≡ closed_files (D.files disk.old)) }
@@ -125,11 +101,7 @@ fn close_behind<D: Disk>(disk: &mut D, steps: &[Step]) -> Result<(), Fault>
 pub fn recover<D: Disk>(disk: &mut D, steps: &[Step]) -> Result<(), Fault>
     requires named { AllNamed steps.now }
     requires open_gate { Stands (IsCarrying steps.now []) (D.trace disk.old) }
-    ensures count { D.faults disk.old ≤ D.faults disk.new }
-    ensures fault { OnErr result (Rose (D.faults disk.old) (D.faults disk.new)) }
-    ensures quiet { OnOk result (D.faults disk.new ≡ D.faults disk.old) }
-    ensures held { D.held disk.new ≡ D.held disk.old }
-    ensures telling { D.tells disk.new ≡ D.tells disk.old }
+    ensures frame { Stays D.Disk disk.old disk.new result }
     ensures moments { Since (D.trace disk.old) (D.trace disk.new) (From Recovers (D.trace disk.old)) }
     ensures others { LeavesOthers (IsOfCommit steps.now) (D.trace disk.old) (D.trace disk.new) }
     ensures told { IsTrue (D.tells disk.old) → OnOk result (D.files disk.new ≡ closed_files (carried (D.files disk.old) steps.now)) }

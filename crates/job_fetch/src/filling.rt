@@ -1,7 +1,7 @@
 //! A list's file under `partial/` while it is filled, with the sum of what it holds.
 ghost use Rattle.std.specs.Prelude.{◌≡◌, ◌+◌, ◌++◌, ◌<◌, ◌≤◌, ◌^◌, length, take, IfOk, OnOk, OnErr};
 ghost use Rattle.acq_base.specs.Sum.{sum_of};
-ghost use Rattle.acq_outside.specs.Count.{Rose};
+ghost use Rattle.acq_outside.specs.Stays.{Stays};
 ghost use Rattle.acq_outside.specs.Moments.{IsTold};
 ghost use Rattle.hash_gate.specs.Pieces.{HasSummed, size_so_far};
 ghost use Rattle.journal_model.specs.Names.{IsPutName};
@@ -30,11 +30,7 @@ pub struct Filling {
 pub fn open<D: Disk>(disk: &mut D, name: &ListName, keep: u64) -> Result<Filling, Fault>
     requires name { IsPutName name.now.0 }
     requires keep { IsTold (D.trace disk.old) → keep ≤ length (part_bytes (D.trace disk.old) name.now.0) }
-    ensures count { D.faults disk.old ≤ D.faults disk.new }
-    ensures fault { OnErr result (Rose (D.faults disk.old) (D.faults disk.new)) }
-    ensures quiet { OnOk result (D.faults disk.new ≡ D.faults disk.old) }
-    ensures held { D.held disk.new ≡ D.held disk.old }
-    ensures telling { D.tells disk.new ≡ D.tells disk.old }
+    ensures frame { Stays D.Disk disk.old disk.new result }
     ensures staging { Staging name.now.0 (D.trace disk.old) (D.trace disk.new) }
     ensures part { IfOk result (λ filling. filling.part ≡ part_of name.now.0 keep) }
     ensures filling { IfOk result (IsFilling (D.trace disk.new)) }
@@ -49,11 +45,7 @@ pub fn open<D: Disk>(disk: &mut D, name: &ListName, keep: u64) -> Result<Filling
 /// The sum of the first `keep` bytes of a list's file, which are all of it.
 fn sum_front<D: Disk>(disk: &mut D, name: &ListName, keep: u64) -> Result<Total, Fault>
     requires name { IsPutName name.now.0 }
-    ensures count { D.faults disk.old ≤ D.faults disk.new }
-    ensures fault { OnErr result (Rose (D.faults disk.old) (D.faults disk.new)) }
-    ensures quiet { OnOk result (D.faults disk.new ≡ D.faults disk.old) }
-    ensures held { D.held disk.new ≡ D.held disk.old }
-    ensures telling { D.tells disk.new ≡ D.tells disk.old }
+    ensures frame { Stays D.Disk disk.old disk.new result }
     ensures still { D.trace disk.new ≡ D.trace disk.old }
     ensures small { IfOk result (λ total. size_so_far total ≤ keep) }
     ensures sum { IfOk result (λ total. IsTold (D.trace disk.old)
@@ -83,11 +75,7 @@ fn sum_piece<D: Disk>(
     requires name { IsPutName name.now.0 }
     requires some { 1 ≤ most }
     requires room { size_so_far total.old + most < 2 ^ 64 }
-    ensures count { D.faults disk.old ≤ D.faults disk.new }
-    ensures fault { OnErr result (Rose (D.faults disk.old) (D.faults disk.new)) }
-    ensures quiet { OnOk result (D.faults disk.new ≡ D.faults disk.old) }
-    ensures held { D.held disk.new ≡ D.held disk.old }
-    ensures telling { D.tells disk.new ≡ D.tells disk.old }
+    ensures frame { Stays D.Disk disk.old disk.new result }
     ensures still { D.trace disk.new ≡ D.trace disk.old }
     ensures within { IfOk result (λ n. n ≤ most) }
     ensures size { IfOk result (λ n. size_so_far total.new ≡ size_so_far total.old + n) }
@@ -104,11 +92,7 @@ fn sum_piece<D: Disk>(
 pub fn add<D: Disk>(disk: &mut D, filling: &mut Filling, piece: &[u8]) -> Result<(), Fault>
     requires filling { IsFilling (D.trace disk.old) filling.old }
     requires room { filling.old.part.len + length piece.now < 2 ^ 64 }
-    ensures count { D.faults disk.old ≤ D.faults disk.new }
-    ensures fault { OnErr result (Rose (D.faults disk.old) (D.faults disk.new)) }
-    ensures quiet { OnOk result (D.faults disk.new ≡ D.faults disk.old) }
-    ensures held { D.held disk.new ≡ D.held disk.old }
-    ensures telling { D.tells disk.new ≡ D.tells disk.old }
+    ensures frame { Stays D.Disk disk.old disk.new result }
     ensures staging { Staging filling.old.part.name (D.trace disk.old) (D.trace disk.new) }
     ensures part { OnOk result (filling.new.part ≡ part_of filling.old.part.name (filling.old.part.len + length piece.now)) }
     ensures filling { OnOk result (IsFilling (D.trace disk.new) filling.new) }
@@ -123,11 +107,7 @@ pub fn add<D: Disk>(disk: &mut D, filling: &mut Filling, piece: &[u8]) -> Result
 /// Makes the file last, and answers its sum.
 pub fn close<D: Disk>(disk: &mut D, filling: Filling) -> Result<Sum, Fault>
     requires { IsFilling (D.trace disk.old) filling }
-    ensures count { D.faults disk.old ≤ D.faults disk.new }
-    ensures fault { OnErr result (Rose (D.faults disk.old) (D.faults disk.new)) }
-    ensures quiet { OnOk result (D.faults disk.new ≡ D.faults disk.old) }
-    ensures held { D.held disk.new ≡ D.held disk.old }
-    ensures telling { D.tells disk.new ≡ D.tells disk.old }
+    ensures frame { Stays D.Disk disk.old disk.new result }
     ensures staging { Staging filling.part.name (D.trace disk.old) (D.trace disk.new) }
     ensures lasts { IfOk result (λ sum. IsTold (D.trace disk.new) → LastsAs filling.part.name (D.trace disk.new) sum) }
     ensures sum { IfOk result (λ sum. IsTold (D.trace disk.old) → sum ≡ sum_of (part_bytes (D.trace disk.old) filling.part.name)) }

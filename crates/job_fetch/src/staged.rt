@@ -3,7 +3,7 @@ ghost use Rattle.std.specs.Prelude.{◌≡◌, ◌≢◌, ◌<◌, ◌≤◌, �
 ghost use Rattle.acq_base.specs.Uri.{IsSound};
 ghost use Rattle.acq_base.specs.declared.fetch.Reply.{Reply};
 ghost use Rattle.acq_outside.specs.declared.word.Word.TheVariants.{Other};
-ghost use Rattle.acq_outside.specs.Count.{Rose};
+ghost use Rattle.acq_outside.specs.Stays.{StaysCounting};
 ghost use Rattle.acq_outside.specs.Moments.{IsTold};
 ghost use Rattle.acq_outside.specs.Word.{CanBegin, IsSoundWord, IsWord};
 ghost use Rattle.journal_model.specs.Names.{IsPutName};
@@ -36,12 +36,7 @@ pub fn fetch_staged<D: Disk, M: Method>(
     requires sound { IsSound job.now.uri }
     requires from { CanBegin job.now }
     requires keep { IsTold (D.trace disk.old) → job.now.from ≤ length (part_bytes (D.trace disk.old) name.now.0) }
-    ensures count { D.faults disk.old ≤ D.faults disk.new }
-    ensures fault { IsErrOf result OutError.Fault → Rose (D.faults disk.old) (D.faults disk.new) }
-    ensures quiet { OnOk result (D.faults disk.new ≡ D.faults disk.old) }
-    ensures dry { IsErrOf result OutError.NoMemory → D.faults disk.new ≡ D.faults disk.old }
-    ensures held { D.held disk.new ≡ D.held disk.old }
-    ensures telling { D.tells disk.new ≡ D.tells disk.old }
+    ensures frame { StaysCounting OutError.Fault D.Disk disk.old disk.new result }
     ensures method_count { M.faults method.old ≤ M.faults method.new }
     ensures method_dry { OnErr result (M.faults method.new ≡ M.faults method.old) }
     ensures world { M.world method.new ≡ M.world method.old }
@@ -80,12 +75,7 @@ fn fill<D: Disk, M: Method>(
     requires sound { IsSoundWord first }
     requires opens { (reply : Reply) → first ≢ Other reply }
     requires word { IsWord (M.faults method.old) (M.faults method.old) (M.world method.old) (fetch_at job.now job.now.from) (M.under method.old) first }
-    ensures count { D.faults disk.old ≤ D.faults disk.new }
-    ensures fault { IsErrOf result OutError.Fault → Rose (D.faults disk.old) (D.faults disk.new) }
-    ensures quiet { OnOk result (D.faults disk.new ≡ D.faults disk.old) }
-    ensures dry { IsErrOf result OutError.NoMemory → D.faults disk.new ≡ D.faults disk.old }
-    ensures held { D.held disk.new ≡ D.held disk.old }
-    ensures telling { D.tells disk.new ≡ D.tells disk.old }
+    ensures frame { StaysCounting OutError.Fault D.Disk disk.old disk.new result }
     ensures method_count { M.faults method.old ≤ M.faults method.new }
     ensures method_dry { OnErr result (M.faults method.new ≡ M.faults method.old) }
     ensures world { M.world method.new ≡ M.world method.old }
@@ -119,12 +109,7 @@ fn receive<D: Disk, M: Method>(
     requires sound { IsSoundWord first }
     requires opens { (reply : Reply) → first ≢ Other reply }
     requires word { IsWord (M.faults method.old) (M.faults method.old) (M.world method.old) (fetch_at job.now opened.part.len) (M.under method.old) first }
-    ensures count { D.faults disk.old ≤ D.faults disk.new }
-    ensures fault { IsErrOf result OutError.Fault → Rose (D.faults disk.old) (D.faults disk.new) }
-    ensures quiet { OnOk result (D.faults disk.new ≡ D.faults disk.old) }
-    ensures dry { IsErrOf result OutError.NoMemory → D.faults disk.new ≡ D.faults disk.old }
-    ensures held { D.held disk.new ≡ D.held disk.old }
-    ensures telling { D.tells disk.new ≡ D.tells disk.old }
+    ensures frame { StaysCounting OutError.Fault D.Disk disk.old disk.new result }
     ensures method_count { M.faults method.old ≤ M.faults method.new }
     ensures method_dry { OnErr result (M.faults method.new ≡ M.faults method.old) }
     ensures world { M.world method.new ≡ M.world method.old }

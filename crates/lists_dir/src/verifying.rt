@@ -1,9 +1,9 @@
 //! Whether a file is the one that a sum names. It takes no memory, and changes nothing.
 
-ghost use Rattle.std.specs.Prelude.{◌≡◌, ◌↔◌, ℕ, ◌+◌, ◌<◌, ◌≤◌, ◌^◌, [], length, take, unwrap_or, IfOk, OnOk, OnErr, IsTrue, IsSomeAnd};
+ghost use Rattle.std.specs.Prelude.{◌≡◌, ◌↔◌, [], length, unwrap_or, IfOk, IsTrue, IsSomeAnd};
 ghost use Rattle.acq_base.specs.Sum.{Fits};
-ghost use Rattle.acq_outside.specs.Count.{Rose};
 ghost use Rattle.acq_outside.specs.Disk.{IsName};
+ghost use Rattle.acq_outside.specs.Stays.{Reads};
 ghost use Rattle.hash_gate.specs.Pieces.{HasTaken};
 ghost use Rattle.lists_dir.specs.Verified.{TakesOn};
 
@@ -19,13 +19,7 @@ const PIECE: usize = 8_192;
 /// `Fault` only where the disk's count of faults rose.
 pub fn verify<D: Disk>(disk: &mut D, name: &ListName, sum: &Sum) -> Result<bool, Fault>
     requires { IsName name.now.0 }
-    ensures count { D.faults disk.old ≤ D.faults disk.new }
-    ensures fault { OnErr result (Rose (D.faults disk.old) (D.faults disk.new)) }
-    ensures quiet { OnOk result (D.faults disk.new ≡ D.faults disk.old) }
-    ensures held { D.held disk.new ≡ D.held disk.old }
-    ensures telling { D.tells disk.new ≡ D.tells disk.old }
-    ensures same { D.files disk.new ≡ D.files disk.old }
-    ensures still { D.trace disk.new ≡ D.trace disk.old }
+    ensures frame { Reads D.Disk disk.old disk.new result }
     ensures told { IsTrue (D.tells disk.old) → IfOk result (λ fits. IsTrue fits ↔ IsSomeAnd (D.files disk.old name.now.0) (λ bytes. Fits bytes sum.now)) }
 {
     let name = name.0.as_bytes();
@@ -38,13 +32,7 @@ pub fn verify<D: Disk>(disk: &mut D, name: &ListName, sum: &Sum) -> Result<bool,
 /// Whether a file of the sum's size is the one that it names.
 fn fits<D: Disk>(disk: &mut D, name: &[u8], sum: &Sum) -> Result<bool, Fault>
     requires { IsName name.now }
-    ensures count { D.faults disk.old ≤ D.faults disk.new }
-    ensures fault { OnErr result (Rose (D.faults disk.old) (D.faults disk.new)) }
-    ensures quiet { OnOk result (D.faults disk.new ≡ D.faults disk.old) }
-    ensures held { D.held disk.new ≡ D.held disk.old }
-    ensures telling { D.tells disk.new ≡ D.tells disk.old }
-    ensures same { D.files disk.new ≡ D.files disk.old }
-    ensures still { D.trace disk.new ≡ D.trace disk.old }
+    ensures frame { Reads D.Disk disk.old disk.new result }
     ensures told { IsTrue (D.tells disk.old) → length (unwrap_or (D.files disk.old name.now) []) ≡ sum.now.size
         → IfOk result (λ fits. IsTrue fits ↔ Fits (unwrap_or (D.files disk.old name.now) []) sum.now) }
 {
@@ -63,13 +51,7 @@ fn fits<D: Disk>(disk: &mut D, name: &[u8], sum: &Sum) -> Result<bool, Fault>
 /// Feeds what one read gives, and answers how many bytes these are.
 fn feed_piece<D: Disk>(disk: &mut D, name: &[u8], at: u64, gate: &mut Gate) -> Result<u64, Fault>
     requires { IsName name.now }
-    ensures count { D.faults disk.old ≤ D.faults disk.new }
-    ensures fault { OnErr result (Rose (D.faults disk.old) (D.faults disk.new)) }
-    ensures quiet { OnOk result (D.faults disk.new ≡ D.faults disk.old) }
-    ensures held { D.held disk.new ≡ D.held disk.old }
-    ensures telling { D.tells disk.new ≡ D.tells disk.old }
-    ensures same { D.files disk.new ≡ D.files disk.old }
-    ensures still { D.trace disk.new ≡ D.trace disk.old }
+    ensures frame { Reads D.Disk disk.old disk.new result }
     ensures told { IsTrue (D.tells disk.old) → IfOk result (λ n. TakesOn (unwrap_or (D.files disk.old name.now) []) at n gate.old gate.new) }
 {
     let mut piece = [0u8; PIECE];

@@ -1,8 +1,8 @@
 //! The calls on lists on their way. None takes memory.
 
 ghost use Rattle.std.specs.Prelude.{◌≡◌, ◌+◌, ◌<◌, ◌≤◌, ◌^◌, ◌++◌, Some, take, length, IfOk, OnOk, OnErr};
-ghost use Rattle.acq_outside.specs.Count.{Rose};
 ghost use Rattle.acq_outside.specs.Disk.{IsRead};
+ghost use Rattle.acq_outside.specs.Stays.{Stays, Reads};
 ghost use Rattle.acq_outside.specs.Moments.{IsTold, Since, Stands};
 ghost use Rattle.journal_model.specs.Names.{IsPutName};
 ghost use Rattle.journal_model.specs.Rest.{IsPartSynced, IsPartThere, KeepsOthers, KeepsRest, part_bytes, size_below};
@@ -20,11 +20,7 @@ use journal_model::PartialName;
 pub fn begin<D: Disk>(disk: &mut D, name: &ListName, keep: u64) -> Result<Part, Fault>
     requires name { IsPutName name.now.0 }
     requires keep { IsTold (D.trace disk.old) → keep ≤ length (part_bytes (D.trace disk.old) name.now.0) }
-    ensures count { D.faults disk.old ≤ D.faults disk.new }
-    ensures fault { OnErr result (Rose (D.faults disk.old) (D.faults disk.new)) }
-    ensures quiet { OnOk result (D.faults disk.new ≡ D.faults disk.old) }
-    ensures held { D.held disk.new ≡ D.held disk.old }
-    ensures telling { D.tells disk.new ≡ D.tells disk.old }
+    ensures frame { Stays D.Disk disk.old disk.new result }
     ensures moments { Since (D.trace disk.old) (D.trace disk.new) (KeepsRest (D.trace disk.old)) }
     ensures others { KeepsOthers name.now.0 (D.trace disk.old) (D.trace disk.new) }
     ensures part { IfOk result (λ part. part ≡ part_of name.now.0 keep) }
@@ -45,11 +41,7 @@ pub fn put<D: Disk>(disk: &mut D, part: &mut Part, piece: &[u8]) -> Result<(), F
     requires there { Stands (IsPartThere part.old.name) (D.trace disk.old) }
     requires len { IsTold (D.trace disk.old) → length (part_bytes (D.trace disk.old) part.old.name) ≡ part.old.len }
     requires room { part.old.len + length piece.now < 2 ^ 64 }
-    ensures count { D.faults disk.old ≤ D.faults disk.new }
-    ensures fault { OnErr result (Rose (D.faults disk.old) (D.faults disk.new)) }
-    ensures quiet { OnOk result (D.faults disk.new ≡ D.faults disk.old) }
-    ensures held { D.held disk.new ≡ D.held disk.old }
-    ensures telling { D.tells disk.new ≡ D.tells disk.old }
+    ensures frame { Stays D.Disk disk.old disk.new result }
     ensures moments { Since (D.trace disk.old) (D.trace disk.new) (KeepsRest (D.trace disk.old)) }
     ensures others { KeepsOthers part.old.name (D.trace disk.old) (D.trace disk.new) }
     ensures part { OnOk result (part.new ≡ part_of part.old.name (part.old.len + length piece.now)) }
@@ -70,11 +62,7 @@ pub fn put<D: Disk>(disk: &mut D, part: &mut Part, piece: &[u8]) -> Result<(), F
 pub fn finish<D: Disk>(disk: &mut D, part: Part) -> Result<u64, Fault>
     requires there { Stands (IsPartThere part.name) (D.trace disk.old) }
     requires len { IsTold (D.trace disk.old) → length (part_bytes (D.trace disk.old) part.name) ≡ part.len }
-    ensures count { D.faults disk.old ≤ D.faults disk.new }
-    ensures fault { OnErr result (Rose (D.faults disk.old) (D.faults disk.new)) }
-    ensures quiet { OnOk result (D.faults disk.new ≡ D.faults disk.old) }
-    ensures held { D.held disk.new ≡ D.held disk.old }
-    ensures telling { D.tells disk.new ≡ D.tells disk.old }
+    ensures frame { Stays D.Disk disk.old disk.new result }
     ensures moments { Since (D.trace disk.old) (D.trace disk.new) (KeepsRest (D.trace disk.old)) }
     ensures others { KeepsOthers part.name (D.trace disk.old) (D.trace disk.new) }
     ensures synced { OnOk result (Stands (IsPartSynced part.name (part_bytes (D.trace disk.old) part.name)) (D.trace disk.new)) }
@@ -90,13 +78,7 @@ pub fn finish<D: Disk>(disk: &mut D, part: Part) -> Result<u64, Fault>
 /// `Fault` only where the disk's count of faults rose.
 pub fn resume_from<D: Disk>(disk: &mut D, name: &ListName, max: u64) -> Result<u64, Fault>
     requires { IsPutName name.now.0 }
-    ensures count { D.faults disk.old ≤ D.faults disk.new }
-    ensures fault { OnErr result (Rose (D.faults disk.old) (D.faults disk.new)) }
-    ensures quiet { OnOk result (D.faults disk.new ≡ D.faults disk.old) }
-    ensures held { D.held disk.new ≡ D.held disk.old }
-    ensures telling { D.tells disk.new ≡ D.tells disk.old }
-    ensures same { D.files disk.new ≡ D.files disk.old }
-    ensures still { D.trace disk.new ≡ D.trace disk.old }
+    ensures frame { Reads D.Disk disk.old disk.new result }
     ensures size { IsTold (D.trace disk.old) → IfOk result (λ size. size ≡ size_below max (length (part_bytes (D.trace disk.old) name.now.0))) }
 {
     let path = PartialName::new(name.0.as_bytes());
@@ -117,13 +99,7 @@ pub fn read_part<D: Disk>(
     out: &mut [u8],
 ) -> Result<usize, Fault>
     requires { IsPutName name.now.0 }
-    ensures count { D.faults disk.old ≤ D.faults disk.new }
-    ensures fault { OnErr result (Rose (D.faults disk.old) (D.faults disk.new)) }
-    ensures quiet { OnOk result (D.faults disk.new ≡ D.faults disk.old) }
-    ensures held { D.held disk.new ≡ D.held disk.old }
-    ensures telling { D.tells disk.new ≡ D.tells disk.old }
-    ensures same { D.files disk.new ≡ D.files disk.old }
-    ensures still { D.trace disk.new ≡ D.trace disk.old }
+    ensures frame { Reads D.Disk disk.old disk.new result }
     ensures within { IfOk result (λ n. n ≤ length out.old) }
     ensures told { IsTold (D.trace disk.old) → IfOk result (λ n. IsRead (Some (part_bytes (D.trace disk.old) name.now.0)) at n out.old out.new) }
 {

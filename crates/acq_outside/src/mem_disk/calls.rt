@@ -13,21 +13,21 @@ const MOST_NAMES: usize = 2_147_483_648;
 
 impl Disk for MemDisk {
     ghost use Rattle.std.specs.Prelude.{◌≡◌, ◌≤◌, ◌<◌, ◌^◌, ℕ, [], Bool, true, false, length, All, IsTrue, IsErrOf, IsOkUnless, Ok, Err, IfOk, OnOk, OnErr, IsSomeAnd, if◌then◌else◌, option_map, unwrap_or};
-    ghost use Rattle.acq_outside.specs.Count.{Rose};
     ghost use Rattle.acq_outside.specs.Crash.{Goes, trace_of};
     ghost use Rattle.acq_outside.specs.Traces.{trace_sound, trace_shown};
     ghost use Rattle.acq_outside.specs.Disk.{IsName, IsNames, IsRead, IsTornWrite, IsTornCut, IsDoneOrNot, after_write, after_cut, after_rename, after_remove};
     ghost use Rattle.acq_outside.specs.Failing.{is_listed, counted, FailsAsListed, FailsDryAlone};
+    ghost use Rattle.acq_outside.specs.Frame.{CountsOnly, StaysBy, ReadsBy, ReadsCountingBy};
     ghost use Rattle.acq_outside.specs.History.{files_of, changed};
-    ghost use Rattle.acq_outside.specs.MemDisk.{past_of, failing_of, held_of, times_held};
+    ghost use Rattle.acq_outside.specs.MemDisk.{past_of, failing_of, faults_of, files_in, trace_in, held_of, times_held};
 
-    ghost faults = { λ disk. (failing_of disk).faults };
+    ghost faults = { faults_of };
 
     ghost tells = { λ _. true };
 
-    ghost files = { λ disk. files_of (past_of disk) };
+    ghost files = { files_in };
 
-    ghost trace = { λ disk. trace_of (past_of disk) };
+    ghost trace = { trace_in };
 
     ghost held = { times_held };
 
@@ -36,14 +36,8 @@ impl Disk for MemDisk {
     ghost shown = { λ disk. trace_shown (past_of disk) };
 
     fn hold(&mut self) -> Result<(), HoldError>
-        ensures count { (failing_of self.old).faults ≤ (failing_of self.new).faults }
-        ensures fault { IsErrOf result HoldError.Fault → Rose (failing_of self.old).faults (failing_of self.new).faults }
-        ensures quiet { OnOk result ((failing_of self.new).faults ≡ (failing_of self.old).faults) }
-        ensures quiet_held { IsErrOf result HoldError.Held → (failing_of self.new).faults ≡ (failing_of self.old).faults }
-        ensures held_count { times_held self.old ≤ times_held self.new }
-        ensures held { IsErrOf result HoldError.Held → Rose (times_held self.old) (times_held self.new) }
-        ensures free { OnOk result (times_held self.new ≡ times_held self.old) }
-        ensures free_fault { IsErrOf result HoldError.Fault → times_held self.new ≡ times_held self.old }
+        ensures frame { CountsOnly HoldError.Fault (faults_of self.old) (faults_of self.new) result }
+        ensures holds { CountsOnly HoldError.Held (times_held self.old) (times_held self.new) result }
         ensures telling { true ≡ true }
         ensures same { files_of (past_of self.new) ≡ files_of (past_of self.old) }
         ensures still { trace_of (past_of self.new) ≡ trace_of (past_of self.old) }
@@ -64,14 +58,7 @@ impl Disk for MemDisk {
     }
 
     fn names(&mut self, alloc: Global) -> Result<Row<Text>, OutError>
-        ensures count { (failing_of self.old).faults ≤ (failing_of self.new).faults }
-        ensures fault { IsErrOf result OutError.Fault → Rose (failing_of self.old).faults (failing_of self.new).faults }
-        ensures quiet { OnOk result ((failing_of self.new).faults ≡ (failing_of self.old).faults) }
-        ensures dry { IsErrOf result OutError.NoMemory → (failing_of self.new).faults ≡ (failing_of self.old).faults }
-        ensures held { times_held self.new ≡ times_held self.old }
-        ensures telling { true ≡ true }
-        ensures still { trace_of (past_of self.new) ≡ trace_of (past_of self.old) }
-        ensures same { files_of (past_of self.new) ≡ files_of (past_of self.old) }
+        ensures frame { ReadsCountingBy OutError.Fault faults_of times_held (λ _. true) files_in trace_in self.old self.new result }
         ensures few { IfOk result (λ names. length names < 2 ^ 31) }
         ensures named { IfOk result (λ names. All IsName names) }
         ensures told { IsTrue true → IfOk result (IsNames (files_of (past_of self.old))) }
@@ -93,13 +80,7 @@ impl Disk for MemDisk {
 
     fn size(&mut self, name: &[u8]) -> Result<Option<u64>, Fault>
         requires { IsName name.now }
-        ensures count { (failing_of self.old).faults ≤ (failing_of self.new).faults }
-        ensures fault { OnErr result (Rose (failing_of self.old).faults (failing_of self.new).faults) }
-        ensures quiet { OnOk result ((failing_of self.new).faults ≡ (failing_of self.old).faults) }
-        ensures held { times_held self.new ≡ times_held self.old }
-        ensures telling { true ≡ true }
-        ensures still { trace_of (past_of self.new) ≡ trace_of (past_of self.old) }
-        ensures same { files_of (past_of self.new) ≡ files_of (past_of self.old) }
+        ensures frame { ReadsBy faults_of times_held (λ _. true) files_in trace_in self.old self.new result }
         ensures told { IsTrue true → IfOk result (λ size. size ≡ option_map length (files_of (past_of self.old) name.now)) }
 
         // A listed call fails, and another one for want of memory alone.
@@ -117,13 +98,7 @@ impl Disk for MemDisk {
 
     fn read_at(&mut self, name: &[u8], at: u64, out: &mut [u8]) -> Result<usize, Fault>
         requires { IsName name.now }
-        ensures count { (failing_of self.old).faults ≤ (failing_of self.new).faults }
-        ensures fault { OnErr result (Rose (failing_of self.old).faults (failing_of self.new).faults) }
-        ensures quiet { OnOk result ((failing_of self.new).faults ≡ (failing_of self.old).faults) }
-        ensures held { times_held self.new ≡ times_held self.old }
-        ensures telling { true ≡ true }
-        ensures still { trace_of (past_of self.new) ≡ trace_of (past_of self.old) }
-        ensures same { files_of (past_of self.new) ≡ files_of (past_of self.old) }
+        ensures frame { ReadsBy faults_of times_held (λ _. true) files_in trace_in self.old self.new result }
         ensures within { IfOk result (λ n. n ≤ length out.old) }
         ensures told { IsTrue true → IfOk result (λ n. IsRead (files_of (past_of self.old) name.now) at n out.old out.new) }
 
@@ -144,11 +119,7 @@ impl Disk for MemDisk {
     fn write_at(&mut self, name: &[u8], at: u64, bytes: &[u8]) -> Result<(), Fault>
         requires name { IsName name.now }
         requires there { IsTrue true → IsSomeAnd (files_of (past_of self.old) name.now) (λ content. at ≤ length content) }
-        ensures count { (failing_of self.old).faults ≤ (failing_of self.new).faults }
-        ensures fault { OnErr result (Rose (failing_of self.old).faults (failing_of self.new).faults) }
-        ensures quiet { OnOk result ((failing_of self.new).faults ≡ (failing_of self.old).faults) }
-        ensures held { times_held self.new ≡ times_held self.old }
-        ensures telling { true ≡ true }
+        ensures frame { StaysBy faults_of times_held (λ _. true) self.old self.new result }
         ensures step { Goes (Change.Write name.now at bytes.now) (trace_of (past_of self.old)) (trace_of (past_of self.new)) result }
         ensures ok { IsTrue true → OnOk result (files_of (past_of self.new) ≡ after_write (files_of (past_of self.old)) name.now at bytes.now) }
         ensures err { IsTrue true → OnErr result (IsTornWrite (files_of (past_of self.old)) (files_of (past_of self.new)) name.now at (length bytes.now)) }
@@ -174,11 +145,7 @@ impl Disk for MemDisk {
     fn cut(&mut self, name: &[u8], len: u64) -> Result<(), Fault>
         requires name { IsName name.now }
         requires within { IsTrue true → len ≤ length (unwrap_or (files_of (past_of self.old) name.now) []) }
-        ensures count { (failing_of self.old).faults ≤ (failing_of self.new).faults }
-        ensures fault { OnErr result (Rose (failing_of self.old).faults (failing_of self.new).faults) }
-        ensures quiet { OnOk result ((failing_of self.new).faults ≡ (failing_of self.old).faults) }
-        ensures held { times_held self.new ≡ times_held self.old }
-        ensures telling { true ≡ true }
+        ensures frame { StaysBy faults_of times_held (λ _. true) self.old self.new result }
         ensures step { Goes (Change.Cut name.now len) (trace_of (past_of self.old)) (trace_of (past_of self.new)) result }
         ensures ok { IsTrue true → OnOk result (files_of (past_of self.new) ≡ after_cut (files_of (past_of self.old)) name.now len) }
         ensures err { IsTrue true → OnErr result (IsTornCut (files_of (past_of self.old)) (files_of (past_of self.new)) name.now len) }
@@ -203,11 +170,7 @@ impl Disk for MemDisk {
     #[tactic(auto, using(crate::proofs::Trace::noted_step))]
     fn sync(&mut self, name: &[u8]) -> Result<(), Fault>
         requires { IsName name.now }
-        ensures count { (failing_of self.old).faults ≤ (failing_of self.new).faults }
-        ensures fault { OnErr result (Rose (failing_of self.old).faults (failing_of self.new).faults) }
-        ensures quiet { OnOk result ((failing_of self.new).faults ≡ (failing_of self.old).faults) }
-        ensures held { times_held self.new ≡ times_held self.old }
-        ensures telling { true ≡ true }
+        ensures frame { StaysBy faults_of times_held (λ _. true) self.old self.new result }
         ensures step { Goes (Change.Sync name.now) (trace_of (past_of self.old)) (trace_of (past_of self.new)) result }
         ensures same { files_of (past_of self.new) ≡ files_of (past_of self.old) }
 
@@ -232,11 +195,7 @@ impl Disk for MemDisk {
     fn rename(&mut self, from: &[u8], to: &[u8]) -> Result<(), Fault>
         requires from { IsName from.now }
         requires to { IsName to.now }
-        ensures count { (failing_of self.old).faults ≤ (failing_of self.new).faults }
-        ensures fault { OnErr result (Rose (failing_of self.old).faults (failing_of self.new).faults) }
-        ensures quiet { OnOk result ((failing_of self.new).faults ≡ (failing_of self.old).faults) }
-        ensures held { times_held self.new ≡ times_held self.old }
-        ensures telling { true ≡ true }
+        ensures frame { StaysBy faults_of times_held (λ _. true) self.old self.new result }
         ensures step { Goes (Change.Rename from.now to.now) (trace_of (past_of self.old)) (trace_of (past_of self.new)) result }
         ensures ok { IsTrue true → OnOk result (files_of (past_of self.new) ≡ after_rename (files_of (past_of self.old)) from.now to.now) }
         ensures err { IsTrue true → OnErr result (IsDoneOrNot (files_of (past_of self.old)) (files_of (past_of self.new)) (after_rename (files_of (past_of self.old)) from.now to.now)) }
@@ -261,11 +220,7 @@ impl Disk for MemDisk {
     #[tactic(auto, using(crate::proofs::Trace::noted_step))]
     fn remove(&mut self, name: &[u8]) -> Result<(), Fault>
         requires { IsName name.now }
-        ensures count { (failing_of self.old).faults ≤ (failing_of self.new).faults }
-        ensures fault { OnErr result (Rose (failing_of self.old).faults (failing_of self.new).faults) }
-        ensures quiet { OnOk result ((failing_of self.new).faults ≡ (failing_of self.old).faults) }
-        ensures held { times_held self.new ≡ times_held self.old }
-        ensures telling { true ≡ true }
+        ensures frame { StaysBy faults_of times_held (λ _. true) self.old self.new result }
         ensures step { Goes (Change.Remove name.now) (trace_of (past_of self.old)) (trace_of (past_of self.new)) result }
         ensures ok { IsTrue true → OnOk result (files_of (past_of self.new) ≡ after_remove (files_of (past_of self.old)) name.now) }
         ensures err { IsTrue true → OnErr result (IsDoneOrNot (files_of (past_of self.old)) (files_of (past_of self.new)) (after_remove (files_of (past_of self.old)) name.now)) }
@@ -289,11 +244,7 @@ impl Disk for MemDisk {
 
     #[tactic(auto, using(crate::proofs::Trace::noted_step))]
     fn sync_names(&mut self) -> Result<(), Fault>
-        ensures count { (failing_of self.old).faults ≤ (failing_of self.new).faults }
-        ensures fault { OnErr result (Rose (failing_of self.old).faults (failing_of self.new).faults) }
-        ensures quiet { OnOk result ((failing_of self.new).faults ≡ (failing_of self.old).faults) }
-        ensures held { times_held self.new ≡ times_held self.old }
-        ensures telling { true ≡ true }
+        ensures frame { StaysBy faults_of times_held (λ _. true) self.old self.new result }
         ensures step { Goes Change.SyncNames (trace_of (past_of self.old)) (trace_of (past_of self.new)) result }
         ensures same { files_of (past_of self.new) ≡ files_of (past_of self.old) }
 

@@ -1,16 +1,12 @@
 use Rattle.std.proofs.Common.{◌≡◌, ◌-◌, ◌^◌, ◌≤◌, [], length, take, IsTrue, unwrap_or}
+use Rattle.acq_outside.specs.Stays.{HasRead}
 use Rattle.acq_outside.proofs.whole.read_through.Given as goal
 
 -- what is read so far is a front of the file
 abbrev pub invariant-loop-content : goal.invariant-loop-content
 invariant-loop-content g l =
     record {
-      count : g.D.Disk.faults l.fn.disk ≤ g.D.Disk.faults l.disk;
-      quiet : g.D.Disk.faults l.disk ≡ g.D.Disk.faults l.fn.disk;
-      held : g.D.Disk.held l.disk ≡ g.D.Disk.held l.fn.disk;
-      still : g.D.Disk.trace l.disk ≡ g.D.Disk.trace l.fn.disk;
-      telling : g.D.Disk.tells l.disk ≡ g.D.Disk.tells l.fn.disk;
-      same : g.D.Disk.files l.disk ≡ g.D.Disk.files l.fn.disk;
+      reads : HasRead g.D.Disk l.fn.disk l.disk;
       room : 1 ≤ length l.piece;
       front : IsTrue (g.D.Disk.tells l.fn.disk) → l.content.items ≡ take (length l.content.items) (unwrap_or (g.D.Disk.files l.fn.disk l.name) []);
     }

@@ -1,4 +1,5 @@
 use Rattle.std.proofs.Common.{◌∙◌, arith}
+use Rattle.acq_outside.proofs.Framed.{stayed_on}
 use Rattle.commit_journal.proofs.Fills.{rests_on, group_comes, group_fills, group_within}
 use Rattle.commit_journal.proofs.filling.fill_all.Goals as goal
 
@@ -31,8 +32,5 @@ loop-group-preserved g c = record {
       group_fills c.args.groups.now c.loop-group.group-index c.group-item.result c.as_slice.result.now (g.D.Disk.trace c.args.disk.now) (g.D.Disk.trace c.loop-group.disk) (g.D.Disk.trace c.fill_group.new.disk) c.loop-group-test.true c.group-item.is c.as_slice.ensures
       (group_comes c.args.groups.now c.loop-group.group-index c.group-item.result c.as_slice.result.now (g.D.Disk.trace c.args.disk.now) (g.D.Disk.trace c.loop-group.disk) c.loop-group-test.true c.group-item.is c.as_slice.ensures c.requires.allowed c.requires.apart c.requires.staged c.requires.idle c.loop-group.invariant.fills)
       c.loop-group.invariant.fills c.fill_group.ensures.moments c.fill_group.ensures.others c.in_ok-fill_group.ensures.filled;
-  count = omega (arith, c.loop-group.invariant.count, c.fill_group.ensures.count);
-  quiet = c.in_ok-fill_group.ensures.quiet ∙ c.loop-group.invariant.quiet;
-  held = c.fill_group.ensures.held ∙ c.loop-group.invariant.held;
-  telling = c.fill_group.ensures.telling ∙ c.loop-group.invariant.telling;
+  stays = stayed_on c.loop-group.invariant.stays c.in_ok-fill_group.ensures.frame;
 }

@@ -1,13 +1,11 @@
 use Rattle.std.proofs.Common.{◌≡◌, ◌≤◌, take}
 use Rattle.commit_journal.specs.Changes.{all_changes}
+use Rattle.acq_outside.specs.Stays.{HasStayed}
 use Rattle.commit_journal.specs.Laying.{Fills}
 use Rattle.commit_journal.proofs.filling.fill_all.Given as goal
 
 abbrev pub invariant-loop-group : goal.invariant-loop-group
 invariant-loop-group g l = record {
   fills : Fills (all_changes (take l.group-index l.groups)) (g.D.Disk.trace l.fn.disk) (g.D.Disk.trace l.disk);
-  count : g.D.Disk.faults l.fn.disk ≤ g.D.Disk.faults l.disk;
-  quiet : g.D.Disk.faults l.disk ≡ g.D.Disk.faults l.fn.disk;
-  held : g.D.Disk.held l.disk ≡ g.D.Disk.held l.fn.disk;
-  telling : g.D.Disk.tells l.disk ≡ g.D.Disk.tells l.fn.disk;
+  stays : HasStayed g.D.Disk l.fn.disk l.disk;
 }

@@ -1,4 +1,5 @@
 use Rattle.std.proofs.Common.{◌∙◌, arith}
+use Rattle.acq_outside.proofs.Framed.{stayed_on}
 use Rattle.commit_journal.proofs.Fills.{rests_on, change_comes, change_fills, change_within}
 use Rattle.commit_journal.proofs.filling.fill_group.Goals as goal
 
@@ -27,8 +28,5 @@ loop-change-preserved g c = record {
       change_fills c.args.changes.now c.loop-change.change-index c.change-item.result (g.D.Disk.trace c.args.disk.now) (g.D.Disk.trace c.loop-change.disk) (g.D.Disk.trace c.fill_one.new.disk) c.loop-change-test.true c.change-item.is
       (change_comes c.args.changes.now c.loop-change.change-index c.change-item.result (g.D.Disk.trace c.args.disk.now) (g.D.Disk.trace c.loop-change.disk) c.loop-change-test.true c.change-item.is c.requires.allowed c.requires.apart c.requires.staged c.requires.idle c.loop-change.invariant.fills)
       c.loop-change.invariant.fills c.fill_one.ensures.moments c.fill_one.ensures.others c.in_ok-fill_one.ensures.filled;
-  count = omega (arith, c.loop-change.invariant.count, c.fill_one.ensures.count);
-  quiet = c.in_ok-fill_one.ensures.quiet ∙ c.loop-change.invariant.quiet;
-  held = c.fill_one.ensures.held ∙ c.loop-change.invariant.held;
-  telling = c.fill_one.ensures.telling ∙ c.loop-change.invariant.telling;
+  stays = stayed_on c.loop-change.invariant.stays c.in_ok-fill_one.ensures.frame;
 }

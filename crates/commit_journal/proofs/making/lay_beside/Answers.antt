@@ -8,4 +8,4 @@ use Rattle.commit_journal.proofs.making.lay_beside.Goals as goal
 
 pub returns-clause-told : goal.returns-clause-told
 returns-clause-told g c = λ told.
-    anyhow c.sync_beside.result (c.sync_beside.ensures.same ∙ c.in_ok-write_beside.ensures.told (subst (λ (b : Bool). IsTrue b) (sym c.cut_beside.ensures.telling) told) ∙ ap (λ (f : Files). after_write f beside 0 (0 ∷ [])) (c.in_ok-cut_beside.ensures.told told))
+    anyhow c.sync_beside.result (c.sync_beside.ensures.same ∙ c.in_ok-write_beside.ensures.told (subst (λ (b : Bool). IsTrue b) (sym c.cut_beside.ensures.frame.telling) told) ∙ ap (λ (f : Files). after_write f beside 0 (0 ∷ [])) (c.in_ok-cut_beside.ensures.told told))

@@ -7,5 +7,5 @@ returns-clause-settled g c = λ settled. stays_settled (g.D.Disk.trace c.args.di
 pub returns-clause-rests : goal.returns-clause-rests
 returns-clause-rests g c = λ settled.
     rests_told c.open_whole.result (g.D.Disk.tells c.args.disk.now) (g.D.Disk.tells c.open_whole.new.disk) (g.D.Disk.files c.args.disk.now) (g.D.Disk.files c.open_whole.new.disk) (g.D.Disk.trace c.args.disk.now) (g.D.Disk.trace c.open_whole.new.disk)
-    (g.met.D.Disk.shown c.args.disk.now) (g.met.D.Disk.shown c.open_whole.new.disk) (g.met.D.Disk.sound c.open_whole.new.disk) c.open_whole.ensures.telling c.open_whole.ensures.lists c.open_whole.ensures.idle
+    (g.met.D.Disk.shown c.args.disk.now) (g.met.D.Disk.shown c.open_whole.new.disk) (g.met.D.Disk.sound c.open_whole.new.disk) c.open_whole.ensures.frame.telling c.open_whole.ensures.lists c.open_whole.ensures.idle
     (stays_settled (g.D.Disk.trace c.args.disk.now) (g.D.Disk.trace c.open_whole.new.disk) c.open_whole.ensures.recovers settled)

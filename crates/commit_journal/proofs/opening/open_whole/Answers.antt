@@ -15,14 +15,14 @@ use Rattle.commit_journal.proofs.opening.open_whole.Goals as goal
 pub make_new-requires : goal.make_new-requires
 make_new-requires g c =
     shut_unset (g.D.Disk.tells c.first_byte.new.disk) (g.D.Disk.files c.first_byte.new.disk) (g.D.Disk.trace c.first_byte.new.disk) (g.met.D.Disk.shown c.first_byte.new.disk)
-    (subst (λ (l : List State). Stands IsLaid l) (sym c.first_byte.ensures.still) c.in_ok-lay.ensures.done)
-    (λ told. ap (λ (f : Files). gate_in (f journal)) c.first_byte.ensures.same
-    ∙ unmade_shut (g.D.Disk.files c.lay.new.disk journal) (subst (λ (k : First). IsFirst k (g.D.Disk.files c.lay.new.disk journal)) c.in-Other.is (c.in_ok-found.ensures.told (subst (λ (b : Bool). IsTrue b) c.first_byte.ensures.telling told))))
+    (subst (λ (l : List State). Stands IsLaid l) (sym c.first_byte.ensures.frame.still) c.in_ok-lay.ensures.done)
+    (λ told. ap (λ (f : Files). gate_in (f journal)) c.first_byte.ensures.frame.same
+    ∙ unmade_shut (g.D.Disk.files c.lay.new.disk journal) (subst (λ (k : First). IsFirst k (g.D.Disk.files c.lay.new.disk journal)) c.in-Other.is (c.in_ok-found.ensures.told (subst (λ (b : Bool). IsTrue b) c.first_byte.ensures.frame.telling told))))
 
 pub returns-in_ok-make_new-in-Other-clause-lists : goal.returns-in_ok-make_new-in-Other-clause-lists
 returns-in_ok-make_new-in-Other-clause-lists g c = λ told.
-    let told_laid = subst (λ (b : Bool). IsTrue b) (sym c.lay.ensures.telling) told in
-    let told_found = subst (λ (b : Bool). IsTrue b) (sym c.first_byte.ensures.telling) told_laid in
+    let told_laid = subst (λ (b : Bool). IsTrue b) (sym c.lay.ensures.frame.telling) told in
+    let told_found = subst (λ (b : Bool). IsTrue b) (sym c.first_byte.ensures.frame.telling) told_laid in
     let shut = unmade_shut (g.D.Disk.files c.lay.new.disk journal) (subst (λ (k : First). IsFirst k (g.D.Disk.files c.lay.new.disk journal)) c.in-Other.is (c.in_ok-found.ensures.told told_laid)) in
-    gate_made (g.D.Disk.files c.make_new.new.disk) (g.D.Disk.files c.first_byte.new.disk) (g.D.Disk.files c.args.disk.now) (c.in_ok-make_new-in-Other.ensures.told told_found) (c.first_byte.ensures.same ∙ c.lay.ensures.same)
+    gate_made (g.D.Disk.files c.make_new.new.disk) (g.D.Disk.files c.first_byte.new.disk) (g.D.Disk.files c.args.disk.now) (c.in_ok-make_new-in-Other.ensures.told told_found) (c.first_byte.ensures.frame.same ∙ c.lay.ensures.same)
     (subst (λ (f : Files). gate_in (f journal) ≡ Shut) c.lay.ensures.same shut)

@@ -1,5 +1,6 @@
 use Rattle.std.proofs.Common.{◌∙◌, subst, sym, arith, Bool, IsTrue}
 use Rattle.std.proofs.lemmas.Result.{MatchResult-at_ok}
+use Rattle.acq_outside.proofs.Framed.{stayed_on}
 use Rattle.journal_model.specs.Fine.{IsNamedStep}
 use Rattle.journal_model.specs.declared.step.Step.{Step}
 use Rattle.commit_journal.proofs.Turns.{named_at, turn, step_leaves, all_done, told_turn, told_done}
@@ -23,12 +24,9 @@ loop-step-preserved g c =
       moments = next.0;
       others = step_leaves c.args.steps.now c.loop-step.step-index c.step-item.result _ _ _ c.carry_one.result (g.met.D.Disk.sound c.loop-step.disk) (omega (arith, c.loop-step-test.true)) c.step-item.is c.loop-step.invariant.others c.carry_one.ensures.step;
       done = MatchResult-at_ok _ _ c.in_ok-carry_one.field-0 c.in_ok-carry_one.was next.1;
-      count = omega (arith, c.loop-step.invariant.count, c.carry_one.ensures.count);
-      quiet = MatchResult-at_ok _ _ c.in_ok-carry_one.field-0 c.in_ok-carry_one.was c.carry_one.ensures.quiet ∙ c.loop-step.invariant.quiet;
-      held = c.carry_one.ensures.held ∙ c.loop-step.invariant.held;
+      stays = stayed_on c.loop-step.invariant.stays c.in_ok-carry_one.ensures.frame;
       told = λ told. told_turn c.args.steps.now c.loop-step.step-index c.step-item.result (g.D.Disk.files c.args.disk.now) (g.D.Disk.files c.loop-step.disk) _ (omega (arith, c.loop-step-test.true)) c.step-item.is (c.loop-step.invariant.told told)
-          (MatchResult-at_ok _ _ c.in_ok-carry_one.field-0 c.in_ok-carry_one.was (c.carry_one.ensures.told (subst (λ (b : Bool). IsTrue b) (sym c.loop-step.invariant.telling) told)));
-      telling = c.carry_one.ensures.telling ∙ c.loop-step.invariant.telling;
+          (MatchResult-at_ok _ _ c.in_ok-carry_one.field-0 c.in_ok-carry_one.was (c.carry_one.ensures.told (subst (λ (b : Bool). IsTrue b) (sym c.loop-step.invariant.stays.telling) told)));
     }
 
 pub returns-clause-done : goal.returns-clause-done

@@ -1,4 +1,5 @@
 use Rattle.std.proofs.Common.{◌≡◌, ◌-◌, ◌≤◌, length, take}
+use Rattle.acq_outside.specs.Stays.{HasStayed}
 use Rattle.acq_outside.specs.Moments.{IsTold}
 use Rattle.hash_gate.specs.Pieces.{HasSummed, size_so_far}
 use Rattle.journal_model.specs.Rest.{part_bytes}
@@ -6,10 +7,7 @@ use Rattle.job_fetch.proofs.filling.sum_front.Given as goal
 
 abbrev pub invariant-loop-at : goal.invariant-loop-at
 invariant-loop-at g l = record {
-  count : g.D.Disk.faults l.fn.disk ≤ g.D.Disk.faults l.disk;
-  quiet : g.D.Disk.faults l.disk ≡ g.D.Disk.faults l.fn.disk;
-  held : g.D.Disk.held l.disk ≡ g.D.Disk.held l.fn.disk;
-  telling : g.D.Disk.tells l.disk ≡ g.D.Disk.tells l.fn.disk;
+  stays : HasStayed g.D.Disk l.fn.disk l.disk;
   still : g.D.Disk.trace l.disk ≡ g.D.Disk.trace l.fn.disk;
   inside : l.at ≤ l.keep;
   size : size_so_far l.total ≡ l.at;

@@ -1,5 +1,6 @@
 use Rattle.std.proofs.Common.{◌≡◌, ◌<◌, ◌≤◌, ℕ, true, ◌+◌, List, ◌++◌, length, take, refl, sym, ap, ◌∙◌, subst, Option, IfSome, arith}
 use Rattle.acq_base.specs.Sum.{sum_of}
+use Rattle.acq_outside.proofs.Framed.{stayed_on}
 use Rattle.acq_outside.specs.Word.{HasSize, IsWord}
 use Rattle.journal_model.specs.Rest.{part_bytes}
 use Rattle.job_fetch.specs.Fetched.{IsAnswer}
@@ -60,10 +61,7 @@ loop-word-preserved g c =
     let bytes = bytes_named c.loop-word.filling.part.name c.args.opened.part.name (g.D.Disk.trace c.loop-word.disk) (g.D.Disk.trace c.add.new.disk) c.in-Piece.bytes inv.name
     (λ told. c.in_ok-add-in-Piece.ensures.bytes told ∙ ap (λ l. part_bytes (g.D.Disk.trace c.loop-word.disk) c.loop-word.filling.part.name ++ l) given) in
     record {
-      count = omega (arith, inv.count, c.add.ensures.count);
-      quiet = c.in_ok-add-in-Piece.ensures.quiet ∙ inv.quiet;
-      held = c.add.ensures.held ∙ inv.held;
-      telling = c.add.ensures.telling ∙ inv.telling;
+      stays = stayed_on inv.stays c.in_ok-add-in-Piece.ensures.frame;
       method_count = omega (arith, inv.method_count, c.more-word.ensures.count);
       world = c.more-word.ensures.same ∙ inv.world;
       name = name ∙ inv.name;

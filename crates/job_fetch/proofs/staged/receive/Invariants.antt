@@ -1,5 +1,6 @@
 use Rattle.std.proofs.Common.{◌≡◌, ◌-◌, ◌<◌, ◌≤◌}
 use Rattle.acq_base.specs.declared.fetch.Reply.{Reply}
+use Rattle.acq_outside.specs.Stays.{HasStayed}
 use Rattle.acq_outside.specs.Word.{IsSoundWord, IsWord}
 use Rattle.acq_outside.specs.declared.word.Word.TheVariants.{Other}
 use Rattle.job_fetch.specs.Fetched.{KeepsFront, Staging}
@@ -8,10 +9,7 @@ use Rattle.job_fetch.proofs.staged.receive.Given as goal
 
 abbrev pub invariant-loop-word : goal.invariant-loop-word
 invariant-loop-word g l = record {
-  count : g.D.Disk.faults l.fn.disk ≤ g.D.Disk.faults l.disk;
-  quiet : g.D.Disk.faults l.disk ≡ g.D.Disk.faults l.fn.disk;
-  held : g.D.Disk.held l.disk ≡ g.D.Disk.held l.fn.disk;
-  telling : g.D.Disk.tells l.disk ≡ g.D.Disk.tells l.fn.disk;
+  stays : HasStayed g.D.Disk l.fn.disk l.disk;
   method_count : g.M.Method.faults l.fn.method ≤ g.M.Method.faults l.method;
   world : g.M.Method.world l.method ≡ g.M.Method.world l.fn.method;
   name : l.filling.part.name ≡ l.fn.opened.part.name;
