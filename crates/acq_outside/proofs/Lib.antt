@@ -1,5 +1,13 @@
-pub mod Files
+-- Cited by the crates above too: what a crash leaves after a call, what holds at every moment of calls, and the frame of
+-- calls one after another.
+pub mod Outcomes
+pub mod NamesApart
+pub mod Traces
+pub mod Crashes
+pub mod Going
 pub mod Framed
+-- Of this crate's own functions.
+pub mod Files
 pub mod WholeFiles
 pub mod HeldFiles
 pub mod Torn

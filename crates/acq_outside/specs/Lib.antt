@@ -23,13 +23,6 @@ pub mod MemEtc
 pub mod MemTree
 pub mod History
 pub mod MemDisk
--- The laws of the disk that may crash: what its trait asks each disk to show, and the proofs for the one in memory.
-pub mod Outcomes
-pub mod NamesApart
-pub mod Traces
--- Laws for the proofs of the crates above: what a crash leaves after a call, and what holds at every moment of calls.
-pub mod Crashes
-pub mod Going
 -- Cited by this crate's own functions and proofs alone.
 pub mod Held
 pub mod Whole

@@ -2,7 +2,7 @@
 use Rattle.std.proofs.Common.{◌≡◌, refl, sym, ap, ◌∙◌, subst, ℕ, suc, ◌+◌, ◌<◌, List, [], ◌∷◌, ◌++◌, length, get_or, take, drop, Some}
 use Rattle.acq_outside.specs.Crash.{State, synced}
 use Rattle.acq_outside.specs.Moments.{Stands, Since}
-use Rattle.acq_outside.specs.Going.{IsBySteps, onward, handed_on}
+use Rattle.acq_outside.proofs.Going.{IsBySteps, onward, handed_on}
 use Rattle.journal_model.specs.Names.{partial}
 use Rattle.journal_model.specs.Rest.{IsIdle, StaysAtRest, KeepsRest, part_file, part_bytes, bytes_in, file_named}
 use Rattle.commit_journal.specs.declared.changing.Change.{Change}

@@ -3,7 +3,7 @@ use Rattle.std.proofs.Common.{◌≡◌, ◌≢◌, inl, inr, refl, sym, ap, ◌
 use Rattle.acq_outside.specs.Disk.{Files}
 use Rattle.acq_outside.specs.Crash.{State, synced, reads}
 use Rattle.acq_outside.specs.Moments.{Stands, Since}
-use Rattle.acq_outside.specs.Going.{no_time, since_map, handed_on}
+use Rattle.acq_outside.proofs.Going.{no_time, since_map, handed_on}
 use Rattle.journal_model.specs.Names.{journal, partial}
 use Rattle.journal_model.specs.Spelling.{body_of, all_steps, AreShort, AreAllowed}
 use Rattle.journal_model.specs.Reopen.{lists}

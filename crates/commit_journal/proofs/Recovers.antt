@@ -5,8 +5,8 @@ use Rattle.std.proofs.lemmas.List.{get_or-set_same, get_or-set_other, set_past}
 use Rattle.acq_outside.specs.Disk.{Files}
 use Rattle.acq_outside.specs.Crash.{State, Names, IsImage, IsSound, AllSound, IsTorn, Goes, after, on_file, file_at, no_file, names_of, all_renamed, synced}
 use Rattle.acq_outside.specs.Moments.{Stands, Since, From}
-use Rattle.acq_outside.specs.Crashes.{file_back, names_back, leaves_as_done}
-use Rattle.acq_outside.specs.Going.{goes, onward, IsBySteps}
+use Rattle.acq_outside.proofs.Crashes.{file_back, names_back, leaves_as_done}
+use Rattle.acq_outside.proofs.Going.{goes, onward, IsBySteps}
 use Rattle.acq_outside.specs.declared.change.Change.TheVariants.{Sync, SyncNames}
 use Rattle.acq_outside.specs.declared.state.FileState.{FileState}
 use Rattle.acq_outside.specs.declared.state.NameChange.{NameChange}

@@ -3,7 +3,7 @@ use Rattle.std.proofs.Common.{◌≡◌, ⊎_elim, refl, arith, ℕ, suc, ◌≤
 use Rattle.acq_outside.specs.Disk.{Files}
 use Rattle.acq_outside.specs.Crash.{State}
 use Rattle.acq_outside.specs.Moments.{Stands, Since}
-use Rattle.acq_outside.specs.Going.{no_time, since_map}
+use Rattle.acq_outside.proofs.Going.{no_time, since_map}
 use Rattle.journal_model.specs.Names.{journal}
 use Rattle.journal_model.specs.Reading.{gate_in}
 use Rattle.journal_model.specs.Reopen.{opened, reopened, Leaves, LeavesEither}

@@ -3,8 +3,8 @@ use Rattle.std.proofs.Common.{◌≡◌, ◌⊎◌, inl, inr, refl, sym, ap, ◌
 use Rattle.acq_outside.specs.Disk.{Files}
 use Rattle.acq_outside.specs.Crash.{State, IsSound, AllSound, reads}
 use Rattle.acq_outside.specs.Moments.{Stands, Since, From, Each}
-use Rattle.acq_outside.specs.Going.{no_time, since_map, handed_on}
-use Rattle.acq_outside.specs.Crashes.{reads_left}
+use Rattle.acq_outside.proofs.Going.{no_time, since_map, handed_on}
+use Rattle.acq_outside.proofs.Crashes.{reads_left}
 use Rattle.journal_model.specs.Names.{journal, partial}
 use Rattle.journal_model.specs.Spelling.{all_steps}
 use Rattle.journal_model.specs.Reopen.{lists, Leaves, LeavesEither}

@@ -1,8 +1,8 @@
 //! The configuration that apt.conf.d, apt.conf and the options of the command line give, in this order. It reads each
 //! file once, and may take memory.
 
-ghost use Rattle.std.specs.Prelude.{◌≡◌, ◌≤◌, [], IsErrOf, OnOk};
-ghost use Rattle.acq_outside.specs.Count.{Rose};
+ghost use Rattle.std.specs.Prelude.{[], IsErrOf};
+ghost use Rattle.acq_outside.specs.Looks.{LooksCounting};
 ghost use Rattle.acq_outside.specs.declared.etc.Place.TheVariants.{Conf as conf_place, ConfParts as conf_parts};
 ghost use Rattle.apt_conf.specs.Reading.{pairs_of};
 ghost use Rattle.configuration.specs.Answers.{Adds, AddsParts, AddsText, ReadsConf};
@@ -24,10 +24,7 @@ pub fn read_pairs<E: Etc>(
     etc: &mut E,
     options: &[Text],
 ) -> Result<Conf, ConfigurationError>
-    ensures count { E.faults etc.old ≤ E.faults etc.new }
-    ensures fault { IsErrOf result ConfigurationError.Fault → Rose (E.faults etc.old) (E.faults etc.new) }
-    ensures quiet { OnOk result (E.faults etc.new ≡ E.faults etc.old) }
-    ensures same { E.files etc.new ≡ E.files etc.old }
+    ensures frame { LooksCounting ConfigurationError.Fault E.Etc etc.old etc.new result }
     ensures read { ReadsConf (E.files etc.old) options.now result }
 {
     let mut conf = new(alloc);
@@ -45,10 +42,7 @@ fn add_parts<E: Etc>(
     names: &[Text],
     conf: &mut Conf,
 ) -> Result<(), ConfigurationError>
-    ensures count { E.faults etc.old ≤ E.faults etc.new }
-    ensures fault { IsErrOf result ConfigurationError.Fault → Rose (E.faults etc.old) (E.faults etc.new) }
-    ensures quiet { OnOk result (E.faults etc.new ≡ E.faults etc.old) }
-    ensures same { E.files etc.new ≡ E.files etc.old }
+    ensures frame { LooksCounting ConfigurationError.Fault E.Etc etc.old etc.new result }
     ensures read { AddsParts (E.files etc.old) conf_parts names.now spec.conf_part conf.old conf.new result }
 {
     for name in names {
@@ -64,10 +58,7 @@ fn add_part<E: Etc>(
     name: &Text,
     conf: &mut Conf,
 ) -> Result<(), ConfigurationError>
-    ensures count { E.faults etc.old ≤ E.faults etc.new }
-    ensures fault { IsErrOf result ConfigurationError.Fault → Rose (E.faults etc.old) (E.faults etc.new) }
-    ensures quiet { OnOk result (E.faults etc.new ≡ E.faults etc.old) }
-    ensures same { E.files etc.new ≡ E.files etc.old }
+    ensures frame { LooksCounting ConfigurationError.Fault E.Etc etc.old etc.new result }
     ensures read { AddsText (E.files etc.old) conf_parts name.now (λ text. spec.conf_part (name.now, text)) conf.old conf.new result }
 {
     let file = part(alloc, Place::ConfParts, b"apt.conf.d/", name)?;
@@ -76,10 +67,7 @@ fn add_part<E: Etc>(
 
 /// Adds the pairs of apt.conf.
 fn add_single<E: Etc>(alloc: Global, etc: &mut E, conf: &mut Conf) -> Result<(), ConfigurationError>
-    ensures count { E.faults etc.old ≤ E.faults etc.new }
-    ensures fault { IsErrOf result ConfigurationError.Fault → Rose (E.faults etc.old) (E.faults etc.new) }
-    ensures quiet { OnOk result (E.faults etc.new ≡ E.faults etc.old) }
-    ensures same { E.files etc.new ≡ E.files etc.old }
+    ensures frame { LooksCounting ConfigurationError.Fault E.Etc etc.old etc.new result }
     ensures read { AddsText (E.files etc.old) conf_place [] spec.conf_text conf.old conf.new result }
 {
     let file = single(alloc, Place::Conf, b"apt.conf")?;
@@ -93,10 +81,7 @@ fn add_file<E: Etc>(
     file: File,
     conf: &mut Conf,
 ) -> Result<(), ConfigurationError>
-    ensures count { E.faults etc.old ≤ E.faults etc.new }
-    ensures fault { IsErrOf result ConfigurationError.Fault → Rose (E.faults etc.old) (E.faults etc.new) }
-    ensures quiet { OnOk result (E.faults etc.new ≡ E.faults etc.old) }
-    ensures same { E.files etc.new ≡ E.files etc.old }
+    ensures frame { LooksCounting ConfigurationError.Fault E.Etc etc.old etc.new result }
     ensures read { AddsText (E.files etc.old) file.place file.name (λ text. in_conf file.label (pairs_of text)) conf.old conf.new result }
 {
     let text = read_text(alloc, etc, &file)?;

@@ -1,9 +1,9 @@
 //! The configuration as a whole. It reads each file of the folder that counts once, and may take memory.
 
-ghost use Rattle.std.specs.Prelude.{◌≡◌, ◌≤◌, IfOk, IsErrOf, OnOk};
+ghost use Rattle.std.specs.Prelude.{IfOk, IsErrOf};
 ghost use Rattle.acq_base.specs.Plan.{IsSound};
 ghost use Rattle.acq_base.specs.Settings.{IsSound as IsSoundSettings};
-ghost use Rattle.acq_outside.specs.Count.{Rose};
+ghost use Rattle.acq_outside.specs.Looks.{LooksCounting};
 ghost use Rattle.apt_conf.specs.Settings.{settings_of};
 ghost use Rattle.configuration.specs.Answers.{Gives};
 ghost use Rattle.configuration.specs.Changes.{change_given};
@@ -44,10 +44,7 @@ pub fn configure<E: Etc>(
     etc: &mut E,
     options: &Row<Text>,
 ) -> Result<Configured, ConfigurationError>
-    ensures count { E.faults etc.old ≤ E.faults etc.new }
-    ensures fault { IsErrOf result ConfigurationError.Fault → Rose (E.faults etc.old) (E.faults etc.new) }
-    ensures quiet { OnOk result (E.faults etc.new ≡ E.faults etc.old) }
-    ensures same { E.files etc.new ≡ E.files etc.old }
+    ensures frame { LooksCounting ConfigurationError.Fault E.Etc etc.old etc.new result }
     ensures answer { IsAnswer (E.files etc.old) options.now result }
     // What it runs by is sound, whatever the files say.
     ensures sound { IfOk result (λ configured. IsSound configured.plan) }

@@ -1,7 +1,7 @@
 //! The text of one file of the configuration folder. It reads that file once, and may take memory.
 
-ghost use Rattle.std.specs.Prelude.{◌≡◌, ◌≤◌, ◌++◌, [], IfOk, IfErr, IfSome, IsErrOf, OnOk, take, unwrap_or};
-ghost use Rattle.acq_outside.specs.Count.{Rose};
+ghost use Rattle.std.specs.Prelude.{◌≡◌, ◌++◌, [], IfOk, IfErr, IfSome, take, unwrap_or};
+ghost use Rattle.acq_outside.specs.Looks.{LooksCounting};
 ghost use Rattle.configuration.specs.Answers.{IsOutside};
 ghost use Rattle.configuration.specs.Folder.{text_at};
 
@@ -53,10 +53,7 @@ pub fn read_text<E: Etc>(
     etc: &mut E,
     file: &File,
 ) -> Result<Bytes, ConfigurationError>
-    ensures count { E.faults etc.old ≤ E.faults etc.new }
-    ensures fault { IsErrOf result ConfigurationError.Fault → Rose (E.faults etc.old) (E.faults etc.new) }
-    ensures quiet { OnOk result (E.faults etc.new ≡ E.faults etc.old) }
-    ensures same { E.files etc.new ≡ E.files etc.old }
+    ensures frame { LooksCounting ConfigurationError.Fault E.Etc etc.old etc.new result }
     ensures told { IfSome (E.files etc.old) (λ files. IfOk result (λ text. text ≡ take 1048577 (text_at files file.now.place file.now.name))) }
     ensures outside { IfErr result IsOutside }
 {

@@ -1,8 +1,8 @@
 //! The entries of sources.list and of the files of sources.list.d, in this order. It reads each file once, and may take
 //! memory.
 
-ghost use Rattle.std.specs.Prelude.{◌≡◌, ◌⊎◌, ◌≤◌, ◌++◌, [], All, Err, IfOk, IsErrOf, OnOk};
-ghost use Rattle.acq_outside.specs.Count.{Rose};
+ghost use Rattle.std.specs.Prelude.{◌≡◌, ◌⊎◌, ◌++◌, [], All, Err, IfOk, IsErrOf, OnOk};
+ghost use Rattle.acq_outside.specs.Looks.{LooksCounting};
 ghost use Rattle.acq_outside.specs.declared.etc.Place.TheVariants.{SourcesList as list_place, SourcesParts as list_parts};
 ghost use Rattle.configuration.specs.Answers.{Adds, AddsParts, AddsText, ReadsEntries};
 ghost use Rattle.configuration.specs.Configured as spec;
@@ -24,10 +24,7 @@ pub fn read_entries<E: Etc>(
     etc: &mut E,
     arch: &Text,
 ) -> Result<Row<Entry>, ConfigurationError>
-    ensures count { E.faults etc.old ≤ E.faults etc.new }
-    ensures fault { IsErrOf result ConfigurationError.Fault → Rose (E.faults etc.old) (E.faults etc.new) }
-    ensures quiet { OnOk result (E.faults etc.new ≡ E.faults etc.old) }
-    ensures same { E.files etc.new ≡ E.files etc.old }
+    ensures frame { LooksCounting ConfigurationError.Fault E.Etc etc.old etc.new result }
     ensures read { ReadsEntries (E.files etc.old) arch.now result }
     ensures sound { IfOk result (All IsSound) }
 {
@@ -45,10 +42,7 @@ fn add_single<E: Etc>(
     arch: &Text,
     entries: &mut Row<Entry>,
 ) -> Result<(), ConfigurationError>
-    ensures count { E.faults etc.old ≤ E.faults etc.new }
-    ensures fault { IsErrOf result ConfigurationError.Fault → Rose (E.faults etc.old) (E.faults etc.new) }
-    ensures quiet { OnOk result (E.faults etc.new ≡ E.faults etc.old) }
-    ensures same { E.files etc.new ≡ E.files etc.old }
+    ensures frame { LooksCounting ConfigurationError.Fault E.Etc etc.old etc.new result }
     ensures read { AddsText (E.files etc.old) list_place [] (spec.list_text arch.now) entries.old entries.new result }
     ensures sound { All IsSound entries.old → OnOk result (All IsSound entries.new) }
 {
@@ -64,10 +58,7 @@ fn add_parts<E: Etc>(
     names: &[Text],
     entries: &mut Row<Entry>,
 ) -> Result<(), ConfigurationError>
-    ensures count { E.faults etc.old ≤ E.faults etc.new }
-    ensures fault { IsErrOf result ConfigurationError.Fault → Rose (E.faults etc.old) (E.faults etc.new) }
-    ensures quiet { OnOk result (E.faults etc.new ≡ E.faults etc.old) }
-    ensures same { E.files etc.new ≡ E.files etc.old }
+    ensures frame { LooksCounting ConfigurationError.Fault E.Etc etc.old etc.new result }
     ensures read { AddsParts (E.files etc.old) list_parts names.now (spec.list_part arch.now) entries.old entries.new result }
     ensures sound { All IsSound entries.old → OnOk result (All IsSound entries.new) }
 {
@@ -85,10 +76,7 @@ fn add_part<E: Etc>(
     name: &Text,
     entries: &mut Row<Entry>,
 ) -> Result<(), ConfigurationError>
-    ensures count { E.faults etc.old ≤ E.faults etc.new }
-    ensures fault { IsErrOf result ConfigurationError.Fault → Rose (E.faults etc.old) (E.faults etc.new) }
-    ensures quiet { OnOk result (E.faults etc.new ≡ E.faults etc.old) }
-    ensures same { E.files etc.new ≡ E.files etc.old }
+    ensures frame { LooksCounting ConfigurationError.Fault E.Etc etc.old etc.new result }
     ensures read { AddsText (E.files etc.old) list_parts name.now (λ text. spec.list_part arch.now (name.now, text)) entries.old entries.new result }
     ensures sound { All IsSound entries.old → OnOk result (All IsSound entries.new) }
 {
@@ -105,10 +93,7 @@ fn add_file<E: Etc>(
     form: Option<Form>,
     entries: &mut Row<Entry>,
 ) -> Result<(), ConfigurationError>
-    ensures count { E.faults etc.old ≤ E.faults etc.new }
-    ensures fault { IsErrOf result ConfigurationError.Fault → Rose (E.faults etc.old) (E.faults etc.new) }
-    ensures quiet { OnOk result (E.faults etc.new ≡ E.faults etc.old) }
-    ensures same { E.files etc.new ≡ E.files etc.old }
+    ensures frame { LooksCounting ConfigurationError.Fault E.Etc etc.old etc.new result }
     ensures read { AddsText (E.files etc.old) file.place file.name (λ text. in_list file.label (spec.entries_by form file.label arch.now text)) entries.old entries.new result }
     ensures sound { All IsSound entries.old → OnOk result (All IsSound entries.new) }
 {

@@ -1,9 +1,9 @@
 //! Which files of a folder count, and in which order. It asks the folder once, and may take memory.
 
-ghost use Rattle.std.specs.Prelude.{◌≡◌, ◌==◌, ◌≤◌, filter, IfOk, IfErr, IsErrOf, OnOk};
+ghost use Rattle.std.specs.Prelude.{◌≡◌, ◌==◌, filter, IfOk, IfErr};
 ghost use Rattle.std.specs.List.{list_all, list_any};
 ghost use Rattle.source_lists.specs.Files.{is_file_character};
-ghost use Rattle.acq_outside.specs.Count.{Rose};
+ghost use Rattle.acq_outside.specs.Looks.{LooksCounting};
 ghost use Rattle.configuration.specs.Answers.{AreNames, IsOutside};
 ghost use Rattle.configuration.specs.Names as spec;
 
@@ -19,10 +19,7 @@ pub fn counted_names<E: Etc>(
     etc: &mut E,
     place: Place,
 ) -> Result<Vec<Text>, ConfigurationError>
-    ensures count { E.faults etc.old ≤ E.faults etc.new }
-    ensures fault { IsErrOf result ConfigurationError.Fault → Rose (E.faults etc.old) (E.faults etc.new) }
-    ensures quiet { OnOk result (E.faults etc.new ≡ E.faults etc.old) }
-    ensures same { E.files etc.new ≡ E.files etc.old }
+    ensures frame { LooksCounting ConfigurationError.Fault E.Etc etc.old etc.new result }
     ensures names { IfOk result (λ names. AreNames (E.files etc.old) place names.items) }
     ensures outside { IfErr result IsOutside }
 {

@@ -4,7 +4,7 @@ use Rattle.std.proofs.lemmas.List.{length-take-le, take-append-le}
 use Rattle.acq_base.specs.Sum.{sum_of}
 use Rattle.acq_base.specs.declared.sum.Sum.{Sum}
 use Rattle.acq_outside.specs.Crash.{State}
-use Rattle.acq_outside.specs.Going.{no_time, onward}
+use Rattle.acq_outside.proofs.Going.{no_time, onward}
 use Rattle.acq_outside.specs.Moments.{IsTold, Since, Stands, From}
 use Rattle.hash_gate.specs.Pieces.{HasSummed, size_so_far}
 use Rattle.journal_model.specs.Rest.{IsPartSynced, IsPartThere, KeepsRest, StaysAtRest, bytes_in, part_bytes}

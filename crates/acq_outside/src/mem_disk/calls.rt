@@ -14,7 +14,7 @@ const MOST_NAMES: usize = 2_147_483_648;
 impl Disk for MemDisk {
     ghost use Rattle.std.specs.Prelude.{◌≡◌, ◌≤◌, ◌<◌, ◌^◌, ℕ, [], Bool, true, false, length, All, IsTrue, IsErrOf, IsOkUnless, Ok, Err, IfOk, OnOk, OnErr, IsSomeAnd, if◌then◌else◌, option_map, unwrap_or};
     ghost use Rattle.acq_outside.specs.Crash.{Goes, trace_of};
-    ghost use Rattle.acq_outside.specs.Traces.{trace_sound, trace_shown};
+    ghost use Rattle.acq_outside.proofs.Traces.{trace_sound, trace_shown};
     ghost use Rattle.acq_outside.specs.Disk.{IsName, IsNames, IsRead, IsTornWrite, IsTornCut, IsDoneOrNot, after_write, after_cut, after_rename, after_remove};
     ghost use Rattle.acq_outside.specs.Failing.{is_listed, counted, FailsAsListed, FailsDryAlone};
     ghost use Rattle.acq_outside.specs.Frame.{CountsOnly, StaysBy, ReadsBy, ReadsCountingBy};

@@ -1,4 +1,4 @@
-use Rattle.acq_outside.specs.Crashes.{may_be_lost, leaves_within}
+use Rattle.acq_outside.proofs.Crashes.{may_be_lost, leaves_within}
 use Rattle.acq_outside.proofs.crash.calls_may_be_lost.Goals as goal
 
 pub returns-clause-lost : goal.returns-clause-lost

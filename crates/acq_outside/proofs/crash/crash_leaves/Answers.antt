@@ -1,4 +1,4 @@
-use Rattle.acq_outside.specs.Crashes.{reads_left, leaves_apart}
+use Rattle.acq_outside.proofs.Crashes.{reads_left, leaves_apart}
 use Rattle.acq_outside.proofs.crash.crash_leaves.Goals as goal
 
 pub returns-clause-reads : goal.returns-clause-reads

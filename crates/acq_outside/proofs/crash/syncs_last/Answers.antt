@@ -1,4 +1,4 @@
-use Rattle.acq_outside.specs.Crashes.{sync_lasts, names_last, syncs_shrink}
+use Rattle.acq_outside.proofs.Crashes.{sync_lasts, names_last, syncs_shrink}
 use Rattle.acq_outside.proofs.crash.syncs_last.Goals as goal
 
 pub returns-clause-file : goal.returns-clause-file

@@ -1,4 +1,4 @@
-use Rattle.acq_outside.specs.Crashes.{leaves_as_done}
+use Rattle.acq_outside.proofs.Crashes.{leaves_as_done}
 use Rattle.acq_outside.proofs.crash.torn_is_done.Goals as goal
 
 pub returns : goal.returns
