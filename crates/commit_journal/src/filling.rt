@@ -1,5 +1,5 @@
 //! What a commit's Puts hold is laid under `partial/`.
-ghost use Rattle.std.specs.Prelude.{◌≡◌, ◌≤◌, ◌+◌, ◌<◌, ◌^◌, ◌++◌, [], ◌∷◌, length, OnOk, OnErr};
+ghost use Rattle.std.specs.Prelude.{◌≡◌, ◌+◌, ◌<◌, ◌^◌, ◌++◌, [], ◌∷◌, length, OnOk};
 ghost use Rattle.acq_outside.specs.Stays.{Stays};
 ghost use Rattle.acq_outside.specs.Moments.{IsTold, Stands, Since};
 ghost use Rattle.journal_model.specs.Names.{IsPutName};

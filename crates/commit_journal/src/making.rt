@@ -1,6 +1,6 @@
 //! A new journal is made beside one that isn't open, or where there is none. It is never written in place, since a byte
 //! that is being written may stand as 1 in what a crash leaves.
-ghost use Rattle.std.specs.Prelude.{◌≡◌, ◌≤◌, [], ◌∷◌, OnOk, OnErr, IsTrue};
+ghost use Rattle.std.specs.Prelude.{◌≡◌, [], ◌∷◌, OnOk, IsTrue};
 ghost use Rattle.acq_outside.specs.Stays.{Stays};
 ghost use Rattle.acq_outside.specs.Disk.{after_cut, after_write, after_rename};
 ghost use Rattle.acq_outside.specs.Moments.{Stands, Since, From};

@@ -1,5 +1,5 @@
 //! A record is written behind the closed gate.
-ghost use Rattle.std.specs.Prelude.{◌≡◌, ◌≤◌, [], ◌∷◌, OnOk, OnErr};
+ghost use Rattle.std.specs.Prelude.{[], ◌∷◌, OnOk};
 ghost use Rattle.acq_outside.specs.Stays.{Stays};
 ghost use Rattle.acq_outside.specs.Moments.{Stands, Since};
 ghost use Rattle.journal_model.specs.Rest.{IsIdle, KeepsRest};

@@ -1,5 +1,5 @@
 //! Opening a journal that a stop may have left in any state.
-ghost use Rattle.std.specs.Prelude.{◌≡◌, ◌≢◌, ◌≤◌, ℕ, [], IsTrue, IsErrOf, IfOk, OnOk, OnErr, Err, true, false};
+ghost use Rattle.std.specs.Prelude.{◌≡◌, ◌≢◌, ℕ, [], IsTrue, IfOk, OnOk, Err, true, false};
 ghost use Rattle.acq_outside.specs.Stays.{Reads, ReadsCounting, Stays, StaysCounting};
 ghost use Rattle.acq_outside.specs.Moments.{Stands, Since, From};
 ghost use Rattle.journal_model.specs.Names.{journal};

@@ -1,5 +1,5 @@
 //! A commit is prepared: all that it puts is laid under `partial/`, and its record behind the closed gate.
-ghost use Rattle.std.specs.Prelude.{◌≡◌, ◌≢◌, ◌≤◌, ◌∷◌, OnOk, OnErr, IfOk, IsErrOf, Err, ℕ};
+ghost use Rattle.std.specs.Prelude.{◌≡◌, ◌≢◌, ◌∷◌, OnOk, IfOk, IsErrOf, Err, ℕ};
 ghost use Rattle.acq_outside.specs.Stays.{Stays, StaysCounting};
 ghost use Rattle.acq_outside.specs.Moments.{Stands, Since};
 ghost use Rattle.journal_model.specs.Rest.{IsIdle, IsSettled, KeepsRest, part_bytes};

@@ -1,6 +1,7 @@
 //! A fetch whose pieces are joined in memory.
-ghost use Rattle.std.specs.Prelude.{◌≡◌, ◌≤◌, [], false, IfOk, OnErr};
+ghost use Rattle.std.specs.Prelude.{◌≡◌, [], false, IfOk, OnErr};
 ghost use Rattle.acq_base.specs.Uri.{IsSound};
+ghost use Rattle.acq_outside.specs.Fetches.{Fetches};
 ghost use Rattle.job_fetch.specs.Fetched.{IsAnswer, IsCounted, IsHeld, IsSoundEnd};
 
 use crate::closing::closed_of;
@@ -15,8 +16,7 @@ use update_model::{Body, Closed};
 pub fn fetch_held<M: Method>(alloc: Global, method: &mut M, job: &Job) -> Result<Closed, NoMemory>
     requires sound { IsSound job.now.uri }
     requires from { job.now.from ≡ 0 }
-    ensures count { M.faults method.old ≤ M.faults method.new }
-    ensures world { M.world method.new ≡ M.world method.old }
+    ensures frame { Fetches M.Method method.old method.new }
     ensures counted { IfOk result (IsCounted (M.faults method.old) (M.faults method.new)) }
     ensures dry { OnErr result (M.faults method.new ≡ M.faults method.old) }
     ensures sound { IfOk result IsSoundEnd }

@@ -1,7 +1,8 @@
 //! A fetch whose pieces go into the list's file under `partial/` as they come.
-ghost use Rattle.std.specs.Prelude.{◌≡◌, ◌≢◌, ◌<◌, ◌≤◌, ◌^◌, true, length, IfOk, OnOk, OnErr, IsErrOf};
+ghost use Rattle.std.specs.Prelude.{◌≡◌, ◌≢◌, ◌<◌, ◌≤◌, ◌^◌, true, length, IfOk, OnOk, OnErr};
 ghost use Rattle.acq_base.specs.Uri.{IsSound};
 ghost use Rattle.acq_base.specs.declared.fetch.Reply.{Reply};
+ghost use Rattle.acq_outside.specs.Fetches.{Fetches};
 ghost use Rattle.acq_outside.specs.declared.word.Word.TheVariants.{Other};
 ghost use Rattle.acq_outside.specs.Stays.{StaysCounting};
 ghost use Rattle.acq_outside.specs.Moments.{IsTold};
@@ -37,9 +38,8 @@ pub fn fetch_staged<D: Disk, M: Method>(
     requires from { CanBegin job.now }
     requires keep { IsTold (D.trace disk.old) → job.now.from ≤ length (part_bytes (D.trace disk.old) name.now.0) }
     ensures frame { StaysCounting OutError.Fault D.Disk disk.old disk.new result }
-    ensures method_count { M.faults method.old ≤ M.faults method.new }
+    ensures method { Fetches M.Method method.old method.new }
     ensures method_dry { OnErr result (M.faults method.new ≡ M.faults method.old) }
-    ensures world { M.world method.new ≡ M.world method.old }
     ensures counted { IfOk result (IsCounted (M.faults method.old) (M.faults method.new)) }
     ensures sound { IfOk result IsSoundEnd }
     ensures staging { Staging name.now.0 (D.trace disk.old) (D.trace disk.new) }
@@ -76,9 +76,8 @@ fn fill<D: Disk, M: Method>(
     requires opens { (reply : Reply) → first ≢ Other reply }
     requires word { IsWord (M.faults method.old) (M.faults method.old) (M.world method.old) (fetch_at job.now job.now.from) (M.under method.old) first }
     ensures frame { StaysCounting OutError.Fault D.Disk disk.old disk.new result }
-    ensures method_count { M.faults method.old ≤ M.faults method.new }
+    ensures method { Fetches M.Method method.old method.new }
     ensures method_dry { OnErr result (M.faults method.new ≡ M.faults method.old) }
-    ensures world { M.world method.new ≡ M.world method.old }
     ensures counted { IfOk result (IsCounted (M.faults method.old) (M.faults method.new)) }
     ensures sound { IfOk result IsSoundEnd }
     ensures staging { Staging name.now.0 (D.trace disk.old) (D.trace disk.new) }
@@ -110,9 +109,8 @@ fn receive<D: Disk, M: Method>(
     requires opens { (reply : Reply) → first ≢ Other reply }
     requires word { IsWord (M.faults method.old) (M.faults method.old) (M.world method.old) (fetch_at job.now opened.part.len) (M.under method.old) first }
     ensures frame { StaysCounting OutError.Fault D.Disk disk.old disk.new result }
-    ensures method_count { M.faults method.old ≤ M.faults method.new }
+    ensures method { Fetches M.Method method.old method.new }
     ensures method_dry { OnErr result (M.faults method.new ≡ M.faults method.old) }
-    ensures world { M.world method.new ≡ M.world method.old }
     ensures counted { IfOk result (IsCounted (M.faults method.old) (M.faults method.new)) }
     ensures sound { IfOk result IsSoundEnd }
     ensures staging { Staging opened.part.name (D.trace disk.old) (D.trace disk.new) }

@@ -1,7 +1,7 @@
 //! One commit, from its changes to its end.
-ghost use Rattle.std.specs.Prelude.{◌≡◌, ◌≢◌, ◌≤◌, ℕ, OnOk, OnErr, IsErrOf, Err};
-ghost use Rattle.acq_outside.specs.Count.{Rose};
+ghost use Rattle.std.specs.Prelude.{◌≡◌, ◌≢◌, ℕ, OnOk, OnErr, IsErrOf, Err};
 ghost use Rattle.acq_outside.specs.Moments.{Stands};
+ghost use Rattle.acq_outside.specs.Stays.{StaysCounting};
 ghost use Rattle.journal_model.specs.Rest.{IsIdle, IsSettled, part_bytes};
 ghost use Rattle.commit_journal.specs.Changes.{filled_all, CanRecord, AreAllStaged};
 ghost use Rattle.commit_journal.specs.Commits.{KeepsUnnamed};
@@ -27,14 +27,9 @@ pub fn commit_groups<D: Disk>(
     requires changes { CanRecord groups }
     requires staged { Stands (AreAllStaged groups) (D.trace disk.old) }
     requires idle { Stands IsIdle (D.trace disk.old) }
-    ensures count { D.faults disk.old ≤ D.faults disk.new }
-    ensures fault { IsErrOf result JournalError.DiskFault → Rose (D.faults disk.old) (D.faults disk.new) }
-    ensures quiet { OnOk result (D.faults disk.new ≡ D.faults disk.old) }
+    ensures frame { StaysCounting JournalError.DiskFault D.Disk disk.old disk.new result }
     ensures undamaged { (at : ℕ) → result ≢ Err (JournalError.BadJournal at) }
     ensures dry { IsErrOf result JournalError.NoMemory → D.trace disk.new ≡ D.trace disk.old }
-    ensures dry_faults { IsErrOf result JournalError.NoMemory → D.faults disk.new ≡ D.faults disk.old }
-    ensures held { D.held disk.new ≡ D.held disk.old }
-    ensures telling { D.tells disk.new ≡ D.tells disk.old }
     ensures settled { Stands IsSettled (D.trace disk.old) → Stands IsSettled (D.trace disk.new) }
     ensures idle { OnOk result (Stands IsIdle (D.trace disk.new)) }
     ensures others { KeepsUnnamed groups (D.trace disk.old) (D.trace disk.new) }

@@ -1,10 +1,10 @@
 //! The names of the lists folder that belong to no source.
-ghost use Rattle.std.specs.Prelude.{◌≡◌, ◌↔◌, ◌++◌, ◌∷◌, [], ◌≤◌, ◌<◌, ◌^◌, ℕ, All, Contains, List, filter, length, map, not, IfOk, OnOk, IsErrOf, IsTrue};
+ghost use Rattle.std.specs.Prelude.{◌≡◌, ◌↔◌, ◌++◌, ◌∷◌, [], ◌≤◌, ◌<◌, ◌^◌, ℕ, All, Contains, List, filter, length, not, IfOk, OnOk, IsTrue};
 ghost use Rattle.std.specs.BTreeSet.{contains};
 ghost use Rattle.std.specs.Cmp.Lexicographic.{slice_cmp};
 ghost use Rattle.std.specs.Ordering.{nat_cmp};
-ghost use Rattle.acq_outside.specs.Count.{Rose};
 ghost use Rattle.acq_outside.specs.Disk.{IsName};
+ghost use Rattle.acq_outside.specs.Stays.{ReadsCounting};
 ghost use Rattle.journal_model.specs.Names.{partial};
 ghost use Rattle.list_commits.specs.Loose.{AreLooseNames, AreSorted, IsLoose, kept_names, kept_of};
 
@@ -22,14 +22,7 @@ pub fn loose_names<D: Disk>(
     disk: &mut D,
     sources: &[Source],
 ) -> Result<Row<Text>, OutError>
-    ensures count { D.faults disk.old ≤ D.faults disk.new }
-    ensures fault { IsErrOf result OutError.Fault → Rose (D.faults disk.old) (D.faults disk.new) }
-    ensures quiet { OnOk result (D.faults disk.new ≡ D.faults disk.old) }
-    ensures dry { IsErrOf result OutError.NoMemory → D.faults disk.new ≡ D.faults disk.old }
-    ensures held { D.held disk.new ≡ D.held disk.old }
-    ensures telling { D.tells disk.new ≡ D.tells disk.old }
-    ensures same { D.files disk.new ≡ D.files disk.old }
-    ensures still { D.trace disk.new ≡ D.trace disk.old }
+    ensures frame { ReadsCounting OutError.Fault D.Disk disk.old disk.new result }
     ensures sorted { IfOk result AreSorted }
     ensures loose { IfOk result (All (IsLoose sources.now)) }
     ensures named { IfOk result (All IsName) }

@@ -4,7 +4,6 @@ ghost use Rattle.std.specs.Prelude.{◌≡◌, ◌↔◌, [], length, unwrap_or,
 ghost use Rattle.acq_base.specs.Sum.{Fits};
 ghost use Rattle.acq_outside.specs.Disk.{IsName};
 ghost use Rattle.acq_outside.specs.Stays.{Reads};
-ghost use Rattle.hash_gate.specs.Pieces.{HasTaken};
 ghost use Rattle.lists_dir.specs.Verified.{TakesOn};
 
 use acq_base::{ListName, Sum};

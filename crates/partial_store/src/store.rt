@@ -2,7 +2,7 @@
 
 ghost use Rattle.std.specs.Prelude.{◌≡◌, ◌+◌, ◌<◌, ◌≤◌, ◌^◌, ◌++◌, Some, take, length, IfOk, OnOk, OnErr};
 ghost use Rattle.acq_outside.specs.Disk.{IsRead};
-ghost use Rattle.acq_outside.specs.Stays.{Stays, Reads};
+ghost use Rattle.acq_outside.specs.Stays.{Reads, Stays};
 ghost use Rattle.acq_outside.specs.Moments.{IsTold, Since, Stands};
 ghost use Rattle.journal_model.specs.Names.{IsPutName};
 ghost use Rattle.journal_model.specs.Rest.{IsPartSynced, IsPartThere, KeepsOthers, KeepsRest, part_bytes, size_below};

@@ -1,7 +1,8 @@
 //! One job of a run: it goes out, is fetched, and its answer comes in.
-ghost use Rattle.std.specs.Prelude.{◌≡◌, ◌≢◌, ◌≤◌, ◌+◌, ℕ, true, false, length, None, Err, IfOk, OnOk, IsErrOf};
-ghost use Rattle.acq_outside.specs.Count.{Rose};
+ghost use Rattle.std.specs.Prelude.{◌≡◌, ◌≢◌, ◌+◌, ℕ, true, false, length, None, Err, IfOk, OnOk};
+ghost use Rattle.acq_outside.specs.Fetches.{Fetches};
 ghost use Rattle.acq_outside.specs.Moments.{Since};
+ghost use Rattle.acq_outside.specs.Stays.{StaysCounting};
 ghost use Rattle.board_model.specs.Boards.{staged_name};
 ghost use Rattle.board_model.specs.Jobs.{NoneAsks};
 ghost use Rattle.job_fetch.specs.Fetched.{IsCounted, IsSoundEnd};
@@ -32,13 +33,8 @@ fn fetch<D: Disk, M: Method>(
     job: &Job,
 ) -> Result<Closed, OutError>
     requires { CanFetch (staged_name (board_of board.now) job.now.no) job.now (D.trace disk.old) }
-    ensures count { D.faults disk.old ≤ D.faults disk.new }
-    ensures fault { IsErrOf result OutError.Fault → Rose (D.faults disk.old) (D.faults disk.new) }
-    ensures quiet { OnOk result (D.faults disk.new ≡ D.faults disk.old) }
-    ensures held { D.held disk.new ≡ D.held disk.old }
-    ensures telling { D.tells disk.new ≡ D.tells disk.old }
-    ensures method_count { M.faults method.old ≤ M.faults method.new }
-    ensures world { M.world method.new ≡ M.world method.old }
+    ensures frame { StaysCounting OutError.Fault D.Disk disk.old disk.new result }
+    ensures method { Fetches M.Method method.old method.new }
     ensures counted { IfOk result (IsCounted (M.faults method.old) (M.faults method.new)) }
     ensures sound { IfOk result IsSoundEnd }
     ensures fetched { IsFetched (staged_name (board_of board.now) job.now.no) (D.trace disk.old) (D.trace disk.new) }
@@ -64,14 +60,9 @@ pub fn ask_one<D: Disk, M: Method>(
 ) -> Result<bool, RunError>
     requires ready { IsReady (M.world method.old) (M.faults method.old) (board_of board.old) (D.trace disk.old) }
     requires change { judge.now.change ≡ (board_of board.old).config.change }
-    ensures count { D.faults disk.old ≤ D.faults disk.new }
-    ensures fault { IsErrOf result RunError.DiskFault → Rose (D.faults disk.old) (D.faults disk.new) }
-    ensures quiet { OnOk result (D.faults disk.new ≡ D.faults disk.old) }
+    ensures frame { StaysCounting RunError.DiskFault D.Disk disk.old disk.new result }
     ensures undamaged { (at : ℕ) → result ≢ Err (RunError.BadJournal at) }
-    ensures held { D.held disk.new ≡ D.held disk.old }
-    ensures telling { D.tells disk.new ≡ D.tells disk.old }
-    ensures method_count { M.faults method.old ≤ M.faults method.new }
-    ensures world { M.world method.new ≡ M.world method.old }
+    ensures method { Fetches M.Method method.old method.new }
     ensures moments { Since (D.trace disk.old) (D.trace disk.new) (KeepsRest (D.trace disk.old)) }
     ensures goes { OnOk result (GoesOn (M.world method.old) (M.faults method.old) (M.faults method.new)
         (board_of board.old) (board_of board.new) (D.trace disk.old) (D.trace disk.new)) }

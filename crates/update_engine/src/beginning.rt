@@ -1,7 +1,7 @@
 //! The beginning of a run over an open journal.
-ghost use Rattle.std.specs.Prelude.{◌≡◌, ◌≤◌, Bool, IfOk, IsErrOf, OnOk};
+ghost use Rattle.std.specs.Prelude.{Bool, IfOk};
 ghost use Rattle.acq_base.specs.Plan.{IsSound};
-ghost use Rattle.acq_outside.specs.Count.{Rose};
+ghost use Rattle.acq_outside.specs.Stays.{ReadsCounting};
 ghost use Rattle.update_core.specs.Standing.{board_of};
 ghost use Rattle.update_engine.specs.Run.{run_of};
 ghost use Rattle.update_engine.specs.Session.{Starts};
@@ -27,13 +27,7 @@ pub fn begin<D: Disk>(
     now: i64,
 ) -> Result<Board, OutError>
     requires { IsSound plan }
-    ensures count { D.faults disk.old ≤ D.faults disk.new }
-    ensures fault { IsErrOf result OutError.Fault → Rose (D.faults disk.old) (D.faults disk.new) }
-    ensures quiet { OnOk result (D.faults disk.new ≡ D.faults disk.old) }
-    ensures held { D.held disk.new ≡ D.held disk.old }
-    ensures telling { D.tells disk.new ≡ D.tells disk.old }
-    ensures same { D.files disk.new ≡ D.files disk.old }
-    ensures still { D.trace disk.new ≡ D.trace disk.old }
+    ensures frame { ReadsCounting OutError.Fault D.Disk disk.old disk.new result }
     ensures starts { (together : Bool) → IfOk result (λ board. Starts (run_of plan settings change now together) (D.trace disk.old) (board_of board)) }
 {
     beginnings_are_known();

@@ -1,8 +1,8 @@
 //! The end of a run: what is left to be committed, and the clean-up.
-ghost use Rattle.std.specs.Prelude.{◌≡◌, ◌≢◌, ◌≤◌, ◌++◌, [], ℕ, Bool, Err, IfOk, IsErrOf, None, OnErr, OnOk, not, true, false};
+ghost use Rattle.std.specs.Prelude.{◌≡◌, ◌≢◌, ◌++◌, [], ℕ, Bool, Err, IfOk, None, OnErr, OnOk, not, true, false};
 ghost use Rattle.std.specs.List.{list_all};
-ghost use Rattle.acq_outside.specs.Count.{Rose};
 ghost use Rattle.acq_outside.specs.Moments.{Stands};
+ghost use Rattle.acq_outside.specs.Stays.{StaysCounting};
 ghost use Rattle.board_model.specs.Boards.{first_ready, is_finished, log_of};
 ghost use Rattle.board_model.specs.Jobs.{NoneAsks};
 ghost use Rattle.commit_journal.specs.Changes.{AreAllStaged, CanRecord, filled_all};
@@ -38,12 +38,8 @@ pub fn settle_last<D: Disk>(
     board: &mut Board,
 ) -> Result<Row<Row<Change>>, RunError>
     requires { IsStanding (board_of board.old) (D.trace disk.old) }
-    ensures count { D.faults disk.old ≤ D.faults disk.new }
-    ensures fault { IsErrOf result RunError.DiskFault → Rose (D.faults disk.old) (D.faults disk.new) }
-    ensures quiet { OnOk result (D.faults disk.new ≡ D.faults disk.old) }
+    ensures frame { StaysCounting RunError.DiskFault D.Disk disk.old disk.new result }
     ensures undamaged { (at : ℕ) → result ≢ Err (RunError.BadJournal at) }
-    ensures held { D.held disk.new ≡ D.held disk.old }
-    ensures telling { D.tells disk.new ≡ D.tells disk.old }
     ensures none { OnOk result (first_ready (board_of board.new).slots ≡ None) }
     ensures only { OnOk result (OnlySettles (board_of board.old) (board_of board.new)) }
     ensures bare { together ≡ true → D.trace disk.new ≡ D.trace disk.old }
@@ -124,12 +120,8 @@ pub fn commit_last<D: Disk>(
     requires changes { CanRecord groups }
     requires staged { Stands (AreAllStaged groups) (D.trace disk.old) }
     requires idle { Stands IsIdle (D.trace disk.old) }
-    ensures count { D.faults disk.old ≤ D.faults disk.new }
-    ensures fault { IsErrOf result RunError.DiskFault → Rose (D.faults disk.old) (D.faults disk.new) }
-    ensures quiet { OnOk result (D.faults disk.new ≡ D.faults disk.old) }
+    ensures frame { StaysCounting RunError.DiskFault D.Disk disk.old disk.new result }
     ensures undamaged { (at : ℕ) → result ≢ Err (RunError.BadJournal at) }
-    ensures held { D.held disk.new ≡ D.held disk.old }
-    ensures telling { D.tells disk.new ≡ D.tells disk.old }
     ensures settled { Stands IsSettled (D.trace disk.old) → Stands IsSettled (D.trace disk.new) }
     ensures idle { OnOk result (Stands IsIdle (D.trace disk.new)) }
     ensures none { groups ≡ [] → D.trace disk.new ≡ D.trace disk.old }
@@ -158,12 +150,8 @@ pub fn finish<D: Disk>(
 ) -> Result<RunLog, RunError>
     requires stands { IsStanding (board_of board) (D.trace disk.old) }
     requires quiet { NoneAsks (board_of board) }
-    ensures count { D.faults disk.old ≤ D.faults disk.new }
-    ensures fault { IsErrOf result RunError.DiskFault → Rose (D.faults disk.old) (D.faults disk.new) }
-    ensures quiet { OnOk result (D.faults disk.new ≡ D.faults disk.old) }
+    ensures frame { StaysCounting RunError.DiskFault D.Disk disk.old disk.new result }
     ensures undamaged { (at : ℕ) → result ≢ Err (RunError.BadJournal at) }
-    ensures held { D.held disk.new ≡ D.held disk.old }
-    ensures telling { D.tells disk.new ≡ D.tells disk.old }
     ensures idle { OnOk result (Stands IsIdle (D.trace disk.new)) }
     ensures ends { IfOk result (Ends cleanup (board_of board) (D.trace disk.old)) }
     ensures stops { OnErr result (StopsLast together cleanup (board_of board) (D.trace disk.old) (D.trace disk.new)) }

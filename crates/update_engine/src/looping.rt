@@ -1,7 +1,8 @@
 //! The loop of a run over one method.
-ghost use Rattle.std.specs.Prelude.{◌≡◌, ◌≢◌, ◌≤◌, ℕ, true, Err, OnErr, OnOk, IsErrOf};
-ghost use Rattle.acq_outside.specs.Count.{Rose};
+ghost use Rattle.std.specs.Prelude.{◌≡◌, ◌≢◌, ℕ, true, Err, OnErr, OnOk};
+ghost use Rattle.acq_outside.specs.Fetches.{Fetches};
 ghost use Rattle.acq_outside.specs.Moments.{Since, Stands};
+ghost use Rattle.acq_outside.specs.Stays.{StaysCounting};
 ghost use Rattle.board_model.specs.Jobs.{NoneAsks};
 ghost use Rattle.journal_model.specs.Rest.{IsIdle, KeepsRest};
 ghost use Rattle.update_core.specs.Standing.{board_of};
@@ -34,14 +35,9 @@ pub fn run_items<D: Disk, M: Method>(
 ) -> Result<(), RunError>
     requires ready { IsReady (M.world method.old) (M.faults method.old) (board_of board.old) (D.trace disk.old) }
     requires change { judge.now.change ≡ (board_of board.old).config.change }
-    ensures count { D.faults disk.old ≤ D.faults disk.new }
-    ensures fault { IsErrOf result RunError.DiskFault → Rose (D.faults disk.old) (D.faults disk.new) }
-    ensures quiet { OnOk result (D.faults disk.new ≡ D.faults disk.old) }
+    ensures frame { StaysCounting RunError.DiskFault D.Disk disk.old disk.new result }
     ensures undamaged { (at : ℕ) → result ≢ Err (RunError.BadJournal at) }
-    ensures held { D.held disk.new ≡ D.held disk.old }
-    ensures telling { D.tells disk.new ≡ D.tells disk.old }
-    ensures method_count { M.faults method.old ≤ M.faults method.new }
-    ensures world { M.world method.new ≡ M.world method.old }
+    ensures method { Fetches M.Method method.old method.new }
     ensures bare { together ≡ true → Since (D.trace disk.old) (D.trace disk.new) (KeepsRest (D.trace disk.old)) }
     ensures unsettled { together ≡ true → OnOk result ((board_of board.new).settled ≡ (board_of board.old).settled) }
     ensures none { OnOk result (NoneAsks (board_of board.new)) }
@@ -70,12 +66,8 @@ fn install_between<D: Disk>(
     board: &mut Board,
 ) -> Result<(), RunError>
     requires { IsStanding (board_of board.old) (D.trace disk.old) }
-    ensures count { D.faults disk.old ≤ D.faults disk.new }
-    ensures fault { IsErrOf result RunError.DiskFault → Rose (D.faults disk.old) (D.faults disk.new) }
-    ensures quiet { OnOk result (D.faults disk.new ≡ D.faults disk.old) }
+    ensures frame { StaysCounting RunError.DiskFault D.Disk disk.old disk.new result }
     ensures undamaged { (at : ℕ) → result ≢ Err (RunError.BadJournal at) }
-    ensures held { D.held disk.new ≡ D.held disk.old }
-    ensures telling { D.tells disk.new ≡ D.tells disk.old }
     ensures bare { together ≡ true → D.trace disk.new ≡ D.trace disk.old }
     ensures unsettled { together ≡ true → OnOk result ((board_of board.new).settled ≡ (board_of board.old).settled) }
     ensures only { OnOk result (OnlySettles (board_of board.old) (board_of board.new)) }

@@ -1,8 +1,8 @@
 //! What a run reads before it asks: what is installed, and from where lists on their way may be resumed.
-ghost use Rattle.std.specs.Prelude.{◌≡◌, ◌≤◌, ◌++◌, ◌∷◌, [], All, IfOk, IsErrOf, IsTrue, OnOk, length, map};
+ghost use Rattle.std.specs.Prelude.{◌≡◌, ◌++◌, ◌∷◌, [], All, IfOk, IsTrue, OnOk, length, map};
 ghost use Rattle.acq_base.specs.Plan.{IsPlanned};
-ghost use Rattle.acq_outside.specs.Count.{Rose};
 ghost use Rattle.acq_outside.specs.Moments.{IsTold};
+ghost use Rattle.acq_outside.specs.Stays.{ReadsCounting};
 ghost use Rattle.journal_model.specs.Names.{IsPutName};
 ghost use Rattle.lists_dir.specs.Installed.{installed_of};
 ghost use Rattle.update_engine.specs.Reading.{size_of, sizes_in, sizes_of};
@@ -23,13 +23,7 @@ pub fn read_installed<D: Disk>(
     sources: &[Source],
 ) -> Result<Row<Old>, OutError>
     requires { All IsPlanned sources.now }
-    ensures count { D.faults disk.old ≤ D.faults disk.new }
-    ensures fault { IsErrOf result OutError.Fault → Rose (D.faults disk.old) (D.faults disk.new) }
-    ensures quiet { OnOk result (D.faults disk.new ≡ D.faults disk.old) }
-    ensures held { D.held disk.new ≡ D.held disk.old }
-    ensures telling { D.tells disk.new ≡ D.tells disk.old }
-    ensures same { D.files disk.new ≡ D.files disk.old }
-    ensures still { D.trace disk.new ≡ D.trace disk.old }
+    ensures frame { ReadsCounting OutError.Fault D.Disk disk.old disk.new result }
     ensures each { IfOk result (λ olds. length olds ≡ length sources.now) }
     ensures told { IsTrue (D.tells disk.old) → IfOk result (λ olds. olds ≡ map (installed_of (D.files disk.old)) sources.now) }
 {
@@ -49,13 +43,7 @@ fn read_size<D: Disk>(
     sizes: &mut Row<(ListName, u64)>,
 ) -> Result<(), OutError>
     requires { IsPutName target.now.name.0 }
-    ensures count { D.faults disk.old ≤ D.faults disk.new }
-    ensures fault { IsErrOf result OutError.Fault → Rose (D.faults disk.old) (D.faults disk.new) }
-    ensures quiet { OnOk result (D.faults disk.new ≡ D.faults disk.old) }
-    ensures held { D.held disk.new ≡ D.held disk.old }
-    ensures telling { D.tells disk.new ≡ D.tells disk.old }
-    ensures same { D.files disk.new ≡ D.files disk.old }
-    ensures still { D.trace disk.new ≡ D.trace disk.old }
+    ensures frame { ReadsCounting OutError.Fault D.Disk disk.old disk.new result }
     ensures told { IsTold (D.trace disk.old) → OnOk result (sizes.new ≡ sizes.old ++ size_of (D.trace disk.old) target.now ∷ []) }
 {
     let size = resume_from(disk, &target.name, u64::MAX)?;
@@ -72,13 +60,7 @@ fn read_targets<D: Disk>(
     sizes: &mut Row<(ListName, u64)>,
 ) -> Result<(), OutError>
     requires { All (λ target. IsPutName target.name.0) targets.now }
-    ensures count { D.faults disk.old ≤ D.faults disk.new }
-    ensures fault { IsErrOf result OutError.Fault → Rose (D.faults disk.old) (D.faults disk.new) }
-    ensures quiet { OnOk result (D.faults disk.new ≡ D.faults disk.old) }
-    ensures held { D.held disk.new ≡ D.held disk.old }
-    ensures telling { D.tells disk.new ≡ D.tells disk.old }
-    ensures same { D.files disk.new ≡ D.files disk.old }
-    ensures still { D.trace disk.new ≡ D.trace disk.old }
+    ensures frame { ReadsCounting OutError.Fault D.Disk disk.old disk.new result }
     ensures told { IsTold (D.trace disk.old) → OnOk result (sizes.new ≡ sizes.old ++ map (size_of (D.trace disk.old)) targets.now) }
 {
     for target in targets {
@@ -95,13 +77,7 @@ fn read_source<D: Disk>(
     sizes: &mut Row<(ListName, u64)>,
 ) -> Result<(), OutError>
     requires { IsPlanned source.now }
-    ensures count { D.faults disk.old ≤ D.faults disk.new }
-    ensures fault { IsErrOf result OutError.Fault → Rose (D.faults disk.old) (D.faults disk.new) }
-    ensures quiet { OnOk result (D.faults disk.new ≡ D.faults disk.old) }
-    ensures held { D.held disk.new ≡ D.held disk.old }
-    ensures telling { D.tells disk.new ≡ D.tells disk.old }
-    ensures same { D.files disk.new ≡ D.files disk.old }
-    ensures still { D.trace disk.new ≡ D.trace disk.old }
+    ensures frame { ReadsCounting OutError.Fault D.Disk disk.old disk.new result }
     ensures told { IsTold (D.trace disk.old) → OnOk result (sizes.new ≡ sizes.old ++ sizes_in (D.trace disk.old) source.now) }
 {
     planned_names_are_put_names();
@@ -118,13 +94,7 @@ pub fn read_sizes<D: Disk>(
     sources: &[Source],
 ) -> Result<Row<(ListName, u64)>, OutError>
     requires { All IsPlanned sources.now }
-    ensures count { D.faults disk.old ≤ D.faults disk.new }
-    ensures fault { IsErrOf result OutError.Fault → Rose (D.faults disk.old) (D.faults disk.new) }
-    ensures quiet { OnOk result (D.faults disk.new ≡ D.faults disk.old) }
-    ensures held { D.held disk.new ≡ D.held disk.old }
-    ensures telling { D.tells disk.new ≡ D.tells disk.old }
-    ensures same { D.files disk.new ≡ D.files disk.old }
-    ensures still { D.trace disk.new ≡ D.trace disk.old }
+    ensures frame { ReadsCounting OutError.Fault D.Disk disk.old disk.new result }
     ensures told { IsTold (D.trace disk.old) → IfOk result (λ sizes. sizes ≡ sizes_of (D.trace disk.old) sources.now) }
 {
     let mut sizes = Row::new(alloc);

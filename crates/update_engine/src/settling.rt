@@ -1,8 +1,8 @@
 //! Sources that are ready are settled, and their new sets committed.
-ghost use Rattle.std.specs.Prelude.{◌≡◌, ◌≢◌, ◌≤◌, ◌∷◌, [], ℕ, Err, IfOk, IsErrOf, IsSome, None, OnErr, OnOk, Some, slice_get};
+ghost use Rattle.std.specs.Prelude.{◌≡◌, ◌≢◌, ◌∷◌, [], ℕ, Err, IfOk, IsSome, None, OnErr, OnOk, Some, slice_get};
 ghost use Rattle.acq_base.specs.declared.plan.Source.{Source as AnySource};
-ghost use Rattle.acq_outside.specs.Count.{Rose};
 ghost use Rattle.acq_outside.specs.Moments.{Stands};
+ghost use Rattle.acq_outside.specs.Stays.{StaysCounting};
 ghost use Rattle.board_model.specs.Boards.{first_ready};
 ghost use Rattle.journal_model.specs.Rest.{IsIdle};
 ghost use Rattle.list_commits.specs.Changes.{changes_for};
@@ -68,12 +68,8 @@ pub fn install_ready<D: Disk>(
 ) -> Result<(), RunError>
     requires ready { first_ready (board_of board.old).slots ≡ Some place }
     requires stands { IsStanding (board_of board.old) (D.trace disk.old) }
-    ensures count { D.faults disk.old ≤ D.faults disk.new }
-    ensures fault { IsErrOf result RunError.DiskFault → Rose (D.faults disk.old) (D.faults disk.new) }
-    ensures quiet { OnOk result (D.faults disk.new ≡ D.faults disk.old) }
+    ensures frame { StaysCounting RunError.DiskFault D.Disk disk.old disk.new result }
     ensures undamaged { (at : ℕ) → result ≢ Err (RunError.BadJournal at) }
-    ensures held { D.held disk.new ≡ D.held disk.old }
-    ensures telling { D.tells disk.new ≡ D.tells disk.old }
     ensures settled { OnOk result (HasSettled place (board_of board.old) (board_of board.new)) }
     ensures idle { OnOk result (Stands IsIdle (D.trace disk.new)) }
     ensures goes { OnOk result (GoesAside (board_of board.old) (board_of board.new) (D.trace disk.old) (D.trace disk.new)) }
@@ -102,12 +98,8 @@ pub fn install_all<D: Disk>(
     board: &mut Board,
 ) -> Result<(), RunError>
     requires { IsStanding (board_of board.old) (D.trace disk.old) }
-    ensures count { D.faults disk.old ≤ D.faults disk.new }
-    ensures fault { IsErrOf result RunError.DiskFault → Rose (D.faults disk.old) (D.faults disk.new) }
-    ensures quiet { OnOk result (D.faults disk.new ≡ D.faults disk.old) }
+    ensures frame { StaysCounting RunError.DiskFault D.Disk disk.old disk.new result }
     ensures undamaged { (at : ℕ) → result ≢ Err (RunError.BadJournal at) }
-    ensures held { D.held disk.new ≡ D.held disk.old }
-    ensures telling { D.tells disk.new ≡ D.tells disk.old }
     ensures none { OnOk result (first_ready (board_of board.new).slots ≡ None) }
     ensures only { OnOk result (OnlySettles (board_of board.old) (board_of board.new)) }
     ensures idle { OnOk result (Stands IsIdle (D.trace disk.new)) }

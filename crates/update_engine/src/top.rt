@@ -1,7 +1,8 @@
 //! A run.
-ghost use Rattle.std.specs.Prelude.{◌≡◌, ◌≤◌, ◌∷◌, [], ℕ, Err, List, IfOk, IsErrOf, IsTrue, OnOk, length, vec_len};
+ghost use Rattle.std.specs.Prelude.{◌≡◌, ◌≤◌, ◌∷◌, ℕ, Err, List, IfOk, IsTrue, length, vec_len};
 ghost use Rattle.acq_base.specs.Plan.{IsSound};
-ghost use Rattle.acq_outside.specs.Count.{Rose};
+ghost use Rattle.acq_outside.specs.Fetches.{Fetches};
+ghost use Rattle.acq_outside.specs.Stays.{StaysCounting};
 ghost use Rattle.commit_journal.specs.Opening.{damage_of};
 ghost use Rattle.update_engine.specs.Run.{FindsDamage, KeepsMethods, Logged, StaysSafe, engine, run_of};
 
@@ -35,11 +36,7 @@ pub fn run_update<D: Disk, M: Method>(
 ) -> Result<RunLog, RunError>
     requires methods { (1 ≤ vec_len methods.old) × (vec_len methods.old ≤ 9) }
     requires plan { IsSound plan }
-    ensures held { D.held disk.new ≡ D.held disk.old }
-    ensures telling { D.tells disk.new ≡ D.tells disk.old }
-    ensures disk_count { D.faults disk.old ≤ D.faults disk.new }
-    ensures fault { IsErrOf result RunError.DiskFault → Rose (D.faults disk.old) (D.faults disk.new) }
-    ensures quiet { OnOk result (D.faults disk.new ≡ D.faults disk.old) }
+    ensures frame { StaysCounting RunError.DiskFault D.Disk disk.old disk.new result }
     ensures methods { KeepsMethods (engine D.Disk M.Method disk.old methods.old.items) (engine D.Disk M.Method disk.new methods.new.items) }
     ensures damage { IsTrue (D.tells disk.old) → FindsDamage (damage_of (D.files disk.old)) result }
     ensures unchanged { (at : ℕ) → result ≡ Err (RunError.BadJournal at) → D.files disk.new ≡ D.files disk.old }
@@ -65,13 +62,8 @@ fn run_over<D: Disk, M: Method>(
     judge: &Judge,
 ) -> Result<RunLog, RunError>
     requires { IsSound plan }
-    ensures held { D.held disk.new ≡ D.held disk.old }
-    ensures telling { D.tells disk.new ≡ D.tells disk.old }
-    ensures disk_count { D.faults disk.old ≤ D.faults disk.new }
-    ensures fault { IsErrOf result RunError.DiskFault → Rose (D.faults disk.old) (D.faults disk.new) }
-    ensures quiet { OnOk result (D.faults disk.new ≡ D.faults disk.old) }
-    ensures method_count { M.faults method.old ≤ M.faults method.new }
-    ensures world { M.world method.new ≡ M.world method.old }
+    ensures frame { StaysCounting RunError.DiskFault D.Disk disk.old disk.new result }
+    ensures method { Fetches M.Method method.old method.new }
     ensures damage { IsTrue (D.tells disk.old) → FindsDamage (damage_of (D.files disk.old)) result }
     ensures unchanged { (at : ℕ) → result ≡ Err (RunError.BadJournal at) → D.files disk.new ≡ D.files disk.old }
     ensures verdicts { IfOk result (λ log. length log.verdicts ≡ length plan.sources) }

@@ -32,5 +32,5 @@ loop-group-preserved g c = record {
       group_fills c.args.groups.now c.loop-group.group-index c.group-item.result c.as_slice.result.now (g.D.Disk.trace c.args.disk.now) (g.D.Disk.trace c.loop-group.disk) (g.D.Disk.trace c.fill_group.new.disk) c.loop-group-test.true c.group-item.is c.as_slice.ensures
       (group_comes c.args.groups.now c.loop-group.group-index c.group-item.result c.as_slice.result.now (g.D.Disk.trace c.args.disk.now) (g.D.Disk.trace c.loop-group.disk) c.loop-group-test.true c.group-item.is c.as_slice.ensures c.requires.allowed c.requires.apart c.requires.staged c.requires.idle c.loop-group.invariant.fills)
       c.loop-group.invariant.fills c.fill_group.ensures.moments c.fill_group.ensures.others c.in_ok-fill_group.ensures.filled;
-  stays = stayed_on c.loop-group.invariant.stays c.in_ok-fill_group.ensures.frame;
+  frame = stayed_on c.loop-group.invariant.frame c.in_ok-fill_group.ensures.frame;
 }

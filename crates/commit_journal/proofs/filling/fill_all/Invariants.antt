@@ -7,5 +7,5 @@ use Rattle.commit_journal.proofs.filling.fill_all.Given as goal
 abbrev pub invariant-loop-group : goal.invariant-loop-group
 invariant-loop-group g l = record {
   fills : Fills (all_changes (take l.group-index l.groups)) (g.D.Disk.trace l.fn.disk) (g.D.Disk.trace l.disk);
-  stays : HasStayed g.D.Disk l.fn.disk l.disk;
+  frame : HasStayed g.D.Disk l.fn.disk l.disk;
 }

@@ -28,5 +28,5 @@ loop-change-preserved g c = record {
       change_fills c.args.changes.now c.loop-change.change-index c.change-item.result (g.D.Disk.trace c.args.disk.now) (g.D.Disk.trace c.loop-change.disk) (g.D.Disk.trace c.fill_one.new.disk) c.loop-change-test.true c.change-item.is
       (change_comes c.args.changes.now c.loop-change.change-index c.change-item.result (g.D.Disk.trace c.args.disk.now) (g.D.Disk.trace c.loop-change.disk) c.loop-change-test.true c.change-item.is c.requires.allowed c.requires.apart c.requires.staged c.requires.idle c.loop-change.invariant.fills)
       c.loop-change.invariant.fills c.fill_one.ensures.moments c.fill_one.ensures.others c.in_ok-fill_one.ensures.filled;
-  stays = stayed_on c.loop-change.invariant.stays c.in_ok-fill_one.ensures.frame;
+  frame = stayed_on c.loop-change.invariant.frame c.in_ok-fill_one.ensures.frame;
 }

@@ -6,5 +6,5 @@ use Rattle.commit_journal.proofs.filling.fill_group.Given as goal
 abbrev pub invariant-loop-change : goal.invariant-loop-change
 invariant-loop-change g l = record {
   fills : Fills (take l.change-index l.changes) (g.D.Disk.trace l.fn.disk) (g.D.Disk.trace l.disk);
-  stays : HasStayed g.D.Disk l.fn.disk l.disk;
+  frame : HasStayed g.D.Disk l.fn.disk l.disk;
 }

@@ -24,7 +24,7 @@ loop-step-preserved g c =
       moments = next.0;
       others = step_leaves c.args.steps.now c.loop-step.step-index c.step-item.result _ _ _ c.carry_one.result (g.met.D.Disk.sound c.loop-step.disk) (omega (arith, c.loop-step-test.true)) c.step-item.is c.loop-step.invariant.others c.carry_one.ensures.step;
       done = MatchResult-at_ok _ _ c.in_ok-carry_one.field-0 c.in_ok-carry_one.was next.1;
-      stays = stayed_on c.loop-step.invariant.stays c.in_ok-carry_one.ensures.frame;
+      frame = stayed_on c.loop-step.invariant.frame c.in_ok-carry_one.ensures.frame;
       told = λ told. told_turn c.args.steps.now c.loop-step.step-index c.step-item.result (g.D.Disk.files c.args.disk.now) (g.D.Disk.files c.loop-step.disk) _ (omega (arith, c.loop-step-test.true)) c.step-item.is (c.loop-step.invariant.told told)
           (MatchResult-at_ok _ _ c.in_ok-carry_one.field-0 c.in_ok-carry_one.was (c.carry_one.ensures.told (subst (λ (b : Bool). IsTrue b) (sym c.loop-step.invariant.stays.telling) told)));
     }

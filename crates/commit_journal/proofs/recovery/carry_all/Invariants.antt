@@ -12,6 +12,6 @@ invariant-loop-step g l = record {
   moments : Since (g.D.Disk.trace l.fn.disk) (g.D.Disk.trace l.disk) (From Recovers (g.D.Disk.trace l.fn.disk));
   others : LeavesOthers (IsOfCommit l.steps) (g.D.Disk.trace l.fn.disk) (g.D.Disk.trace l.disk);
   done : Stands (IsCarrying l.steps (take l.step-index l.steps)) (g.D.Disk.trace l.disk);
-  stays : HasStayed g.D.Disk l.fn.disk l.disk;
+  frame : HasStayed g.D.Disk l.fn.disk l.disk;
   told : IsTrue (g.D.Disk.tells l.fn.disk) → g.D.Disk.files l.disk ≡ carried (g.D.Disk.files l.fn.disk) (take l.step-index l.steps);
 }

@@ -7,7 +7,7 @@ use Rattle.job_fetch.proofs.filling.sum_front.Given as goal
 
 abbrev pub invariant-loop-at : goal.invariant-loop-at
 invariant-loop-at g l = record {
-  stays : HasStayed g.D.Disk l.fn.disk l.disk;
+  frame : HasStayed g.D.Disk l.fn.disk l.disk;
   still : g.D.Disk.trace l.disk ≡ g.D.Disk.trace l.fn.disk;
   inside : l.at ≤ l.keep;
   size : size_so_far l.total ≡ l.at;

@@ -1,4 +1,4 @@
-use Rattle.std.proofs.Common.{◌≡◌, ◌≤◌, ℕ, ◌+◌, List, [], ◌++◌, length, length-append, sym, ap, ◌∙◌, subst, arith}
+use Rattle.std.proofs.Common.{◌≡◌, ℕ, ◌+◌, List, [], ◌++◌, length, length-append, sym, ap, ◌∙◌, subst, arith}
 use Rattle.acq_outside.specs.Word.{IsPiece, IsOther, IsWord}
 use Rattle.job_fetch.specs.Pieces.{HasCome, fetch_at}
 use Rattle.job_fetch.proofs.Fronts.{more_came}
@@ -17,12 +17,11 @@ loop-word-preserved g c =
     let grown : c.append.new.self ≡ c.loop-word.joined ++ c.in-Piece.bytes = c.in_ok-append-in-Piece.ensures ∙ ap (λ l. c.loop-word.joined ++ l) c.as_slice.ensures in
     let long : length c.append.new.self ≡ length c.loop-word.joined + length c.in-Piece.bytes = ap length grown ∙ length-append c.loop-word.joined c.in-Piece.bytes in
     record {
-      count = omega (arith, c.loop-word.invariant.count, c.more-word.ensures.count);
-      world = c.more-word.ensures.same ∙ c.loop-word.invariant.world;
+      frame = record { count = omega (arith, c.loop-word.invariant.frame.count, c.more-word.ensures.frame.count); same = c.more-word.ensures.frame.same ∙ c.loop-word.invariant.frame.same };
       sound = c.more-word.ensures.sound;
       word = subst (λ n. IsWord (g.M.Method.faults c.args.method.now) (g.M.Method.faults c.more-word.new.self) world (fetch_at c.args.job.now n) (g.M.Method.under c.more-word.new.self) c.more-word.result) (sym long)
           (next_word (g.M.Method.faults c.args.method.now) (g.M.Method.faults c.loop-word.method) (g.M.Method.faults c.more-word.new.self) world (g.M.Method.world c.loop-word.method) (fetch_at c.args.job.now (length c.loop-word.joined))
-          (g.M.Method.under c.loop-word.method) (g.M.Method.under c.more-word.new.self) c.in-Piece.at c.in-Piece.bytes c.more-word.result piece c.loop-word.invariant.world c.more-word.ensures.word);
+          (g.M.Method.under c.loop-word.method) (g.M.Method.under c.more-word.new.self) c.in-Piece.at c.in-Piece.bytes c.more-word.result piece c.loop-word.invariant.frame.same c.more-word.ensures.word);
       come = subst (λ n. HasCome world [] c.args.job.now n c.append.new.self) (sym long)
           (subst (λ l. HasCome world [] c.args.job.now (length c.loop-word.joined + length c.in-Piece.bytes) l) (sym grown)
           (more_came world [] c.args.job.now (length c.loop-word.joined) c.loop-word.joined c.in-Piece.bytes (omega (arith, c.requires.from)) piece.told c.loop-word.invariant.come));

@@ -1,12 +1,12 @@
-use Rattle.std.proofs.Common.{◌≡◌, ◌-◌, ◌≤◌, [], length}
+use Rattle.std.proofs.Common.{◌-◌, [], length}
+use Rattle.acq_outside.specs.Fetches.{Fetches}
 use Rattle.acq_outside.specs.Word.{IsSoundWord, IsWord}
 use Rattle.job_fetch.specs.Pieces.{HasCome, fetch_at}
 use Rattle.job_fetch.proofs.held.fetch_held.Given as goal
 
 abbrev pub invariant-loop-word : goal.invariant-loop-word
 invariant-loop-word g l = record {
-  count : g.M.Method.faults l.fn.method ≤ g.M.Method.faults l.method;
-  world : g.M.Method.world l.method ≡ g.M.Method.world l.fn.method;
+  frame : Fetches g.M.Method l.fn.method l.method;
   sound : IsSoundWord l.word;
   word : IsWord (g.M.Method.faults l.fn.method) (g.M.Method.faults l.method) (g.M.Method.world l.fn.method) (fetch_at l.job (length l.joined)) (g.M.Method.under l.method) l.word;
   come : HasCome (g.M.Method.world l.fn.method) [] l.job (length l.joined) l.joined;

@@ -61,9 +61,8 @@ loop-word-preserved g c =
     let bytes = bytes_named c.loop-word.filling.part.name c.args.opened.part.name (g.D.Disk.trace c.loop-word.disk) (g.D.Disk.trace c.add.new.disk) c.in-Piece.bytes inv.name
     (λ told. c.in_ok-add-in-Piece.ensures.bytes told ∙ ap (λ l. part_bytes (g.D.Disk.trace c.loop-word.disk) c.loop-word.filling.part.name ++ l) given) in
     record {
-      stays = stayed_on inv.stays c.in_ok-add-in-Piece.ensures.frame;
-      method_count = omega (arith, inv.method_count, c.more-word.ensures.count);
-      world = c.more-word.ensures.same ∙ inv.world;
+      frame = stayed_on inv.frame c.in_ok-add-in-Piece.ensures.frame;
+      method = record { count = omega (arith, inv.method.count, c.more-word.ensures.frame.count); same = c.more-word.ensures.frame.same ∙ inv.method.same };
       name = name ∙ inv.name;
       past = omega (arith, inv.past, len);
       filling = c.in_ok-add-in-Piece.ensures.filling;
@@ -73,7 +72,7 @@ loop-word-preserved g c =
       sound = c.more-word.ensures.sound;
       word = subst (λ n. IsWord (g.M.Method.faults c.args.method.now) (g.M.Method.faults c.more-word.new.self) world (fetch_at job n) (g.M.Method.under c.more-word.new.self) c.more-word.result) (sym len)
           (next_word (g.M.Method.faults c.args.method.now) (g.M.Method.faults c.loop-word.method) (g.M.Method.faults c.more-word.new.self) world (g.M.Method.world c.loop-word.method) (fetch_at job c.loop-word.filling.part.len)
-          (g.M.Method.under c.loop-word.method) (g.M.Method.under c.more-word.new.self) c.in-Piece.at c.in-Piece.bytes c.more-word.result piece inv.world c.more-word.ensures.word);
+          (g.M.Method.under c.loop-word.method) (g.M.Method.under c.more-word.new.self) c.in-Piece.at c.in-Piece.bytes c.more-word.result piece inv.method.same c.more-word.ensures.word);
       come = come_more world c.args.opened.part.name (g.D.Disk.trace c.args.disk.now) (g.D.Disk.trace c.loop-word.disk) (g.D.Disk.trace c.add.new.disk) job c.loop-word.filling.part.len c.add.new.filling.part.len c.in-Piece.bytes
           inv.past len before bytes piece.told inv.come;
     }

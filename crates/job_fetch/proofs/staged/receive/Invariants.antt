@@ -1,5 +1,6 @@
 use Rattle.std.proofs.Common.{◌≡◌, ◌-◌, ◌<◌, ◌≤◌}
 use Rattle.acq_base.specs.declared.fetch.Reply.{Reply}
+use Rattle.acq_outside.specs.Fetches.{Fetches}
 use Rattle.acq_outside.specs.Stays.{HasStayed}
 use Rattle.acq_outside.specs.Word.{IsSoundWord, IsWord}
 use Rattle.acq_outside.specs.declared.word.Word.TheVariants.{Other}
@@ -9,9 +10,8 @@ use Rattle.job_fetch.proofs.staged.receive.Given as goal
 
 abbrev pub invariant-loop-word : goal.invariant-loop-word
 invariant-loop-word g l = record {
-  stays : HasStayed g.D.Disk l.fn.disk l.disk;
-  method_count : g.M.Method.faults l.fn.method ≤ g.M.Method.faults l.method;
-  world : g.M.Method.world l.method ≡ g.M.Method.world l.fn.method;
+  frame : HasStayed g.D.Disk l.fn.disk l.disk;
+  method : Fetches g.M.Method l.fn.method l.method;
   name : l.filling.part.name ≡ l.fn.opened.part.name;
   past : l.job.from ≤ l.filling.part.len;
   filling : IsFilling (g.D.Disk.trace l.disk) l.filling;

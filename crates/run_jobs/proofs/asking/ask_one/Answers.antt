@@ -28,7 +28,7 @@ returns-in_ok-absorb-in-Some-clause-goes g c =
     goes_job
     (record { stand = c.boards_walk_routes.ensures.stand; issued = c.calls_are_events.ensures.issued; absorbed = c.calls_are_events.ensures.absorbed; rest = c.boards_rest.ensures.absorbed; asks = c.named_lists_rest.ensures.asks; fetched = c.asks_may_be_fetched.ensures.asks; put = c.planned_names_are_put_names.ensures.put })
     _ _ _ _ (board_of c.issue.new.self) _ c.in-Some.job c.in_ok-closed-in-Some.closed _ _ (sym c.in_ok-issue.ensures.job ∙ c.in-Some.is) c.in_ok-issue.ensures.board c.in_ok-absorb-in-Some.ensures
-    c.fetch.ensures.fetched c.in_ok-closed-in-Some.ensures.kept c.in_ok-closed-in-Some.ensures.comes c.in_ok-closed-in-Some.ensures.answers c.in_ok-closed-in-Some.ensures.counted c.fetch.ensures.method_count c.in_ok-closed-in-Some.ensures.sound
+    c.fetch.ensures.fetched c.in_ok-closed-in-Some.ensures.kept c.in_ok-closed-in-Some.ensures.comes c.in_ok-closed-in-Some.ensures.answers c.in_ok-closed-in-Some.ensures.counted c.fetch.ensures.method.count c.in_ok-closed-in-Some.ensures.sound
 
 pub returns-in_ok-absorb-in-Some-clause-more : goal.returns-in_ok-absorb-in-Some-clause-more
 returns-in_ok-absorb-in-Some-clause-more g c = λ yes. one_more

@@ -1,5 +1,7 @@
-use Rattle.std.proofs.Common.{◌≡◌, true, ◌≤◌, ◌-◌, length}
+use Rattle.std.proofs.Common.{◌≡◌, true, ◌-◌, length}
+use Rattle.acq_outside.specs.Fetches.{Fetches}
 use Rattle.acq_outside.specs.Moments.{Since}
+use Rattle.acq_outside.specs.Stays.{HasStayed}
 use Rattle.board_model.specs.CountLaws.{most_asks}
 use Rattle.journal_model.specs.Rest.{KeepsRest}
 use Rattle.update_core.specs.Standing.{board_of}
@@ -14,12 +16,8 @@ invariant-asks g l = record {
   bare : l.together ≡ true → Since (g.D.Disk.trace l.fn.disk) (g.D.Disk.trace l.disk) (KeepsRest (g.D.Disk.trace l.fn.disk));
   unsettled : l.together ≡ true → (board_of l.board).settled ≡ (board_of l.fn.board).settled;
   config : (board_of l.board).config ≡ (board_of l.fn.board).config;
-  count : g.D.Disk.faults l.fn.disk ≤ g.D.Disk.faults l.disk;
-  quiet : g.D.Disk.faults l.disk ≡ g.D.Disk.faults l.fn.disk;
-  held : g.D.Disk.held l.disk ≡ g.D.Disk.held l.fn.disk;
-  telling : g.D.Disk.tells l.disk ≡ g.D.Disk.tells l.fn.disk;
-  method_count : g.M.Method.faults l.fn.method ≤ g.M.Method.faults l.method;
-  world : g.M.Method.world l.method ≡ g.M.Method.world l.fn.method;
+  frame : HasStayed g.D.Disk l.fn.disk l.disk;
+  method : Fetches g.M.Method l.fn.method l.method;
 }
 
 abbrev pub decreases-asks : goal.decreases-asks

@@ -1,15 +1,11 @@
-use Rattle.std.proofs.Common.{◌≡◌, ◌≤◌, ◌++◌, map, take}
+use Rattle.std.proofs.Common.{◌≡◌, ◌++◌, map, take}
 use Rattle.acq_outside.specs.Moments.{IsTold}
+use Rattle.acq_outside.specs.Stays.{HasRead}
 use Rattle.update_engine.specs.Reading.{size_of}
 use Rattle.update_engine.proofs.reading.read_targets.Given as goal
 
 abbrev pub invariant-loop-target : goal.invariant-loop-target
 invariant-loop-target g l = record {
-  count : g.D.Disk.faults l.fn.disk ≤ g.D.Disk.faults l.disk;
-  quiet : g.D.Disk.faults l.disk ≡ g.D.Disk.faults l.fn.disk;
-  held : g.D.Disk.held l.disk ≡ g.D.Disk.held l.fn.disk;
-  still : g.D.Disk.trace l.disk ≡ g.D.Disk.trace l.fn.disk;
-  telling : g.D.Disk.tells l.disk ≡ g.D.Disk.tells l.fn.disk;
-  same : g.D.Disk.files l.disk ≡ g.D.Disk.files l.fn.disk;
+  frame : HasRead g.D.Disk l.fn.disk l.disk;
   told : IsTold (g.D.Disk.trace l.fn.disk) → l.sizes ≡ l.fn.sizes ++ map (size_of (g.D.Disk.trace l.fn.disk)) (take l.target-index l.targets);
 }
