@@ -1,5 +1,5 @@
 -- What a call writes, and its status.
-use Rattle.std.specs.Prelude.{◌≡◌, ◌⊎◌, ℕ, Bool, true, false, if◌then◌else◌, List, Option, Some, None, IsNone}
+use Rattle.std.specs.Prelude.{◌≡◌, ◌≢◌, ◌≤◌, ◌⊎◌, ℕ, Bool, true, false, if◌then◌else◌, List, Option, Some, None, IsNone}
 use Rattle.std.specs.List.{list_any}
 use Rattle.acq_base.specs.declared.plan.Plan.{Plan}
 use Rattle.acq_outside.specs.Count.{Rose, one_more}
@@ -18,6 +18,13 @@ abbrev pub SaidBy : Output → Output → List ℕ → ℕ → ℕ → Type 0
 SaidBy before after text status result =
     ((result ≡ status) × Wrote before.written text after.written)
     ⊎ ((result ≡ 105) × Rose before.faults after.faults × WrotePart before.written text after.written)
+
+-- The frame of a call that writes: status 105 comes only where the output failed within the call, and any other status only
+-- where it did not.
+pub record BlamesOutput (before after status : ℕ) : Type 0 where
+  pub count : before ≤ after
+  pub fault : status ≡ 105 → Rose before after
+  pub quiet : status ≢ 105 → after ≡ before
 
 -- ---- lines of faults
 

@@ -2,10 +2,10 @@
 
 ghost use Rattle.std.specs.Prelude.{◌≡◌, ◌≢◌, ◌++◌, IfOk, OnOk};
 ghost use Rattle.std.specs.Fmt.{decimal};
-ghost use Rattle.acq_outside.specs.Count.{Rose};
 ghost use Rattle.generated_days.specs.Days.{AreDaysOf};
 ghost use Rattle.update_program.specs.Generated.{IsGenerated, day_text, days_line, days_status};
 ghost use Rattle.update_program.specs.Objects.{output};
+ghost use Rattle.update_program.specs.Said.{BlamesOutput};
 
 use crate::Status;
 use crate::say::{say, say_fixed};
@@ -18,8 +18,7 @@ use std::alloc::Global;
 /// Updates from the mirror of a number on both days, and writes one line. The status is 0 where four sources got a new set
 /// on each day, 100 where fewer did, 103 for want of memory and 105 where the output fails.
 pub fn generate<S: Sink>(alloc: Global, number: u64, out: &mut S) -> Status
-    ensures fault { result.0 ≡ 105 → Rose (S.faults out.old) (S.faults out.new) }
-    ensures quiet { result.0 ≢ 105 → S.faults out.new ≡ S.faults out.old }
+    ensures frame { BlamesOutput (S.faults out.old) (S.faults out.new) result.0 }
     ensures days { IsGenerated number (output S.Sink out.old) (output S.Sink out.new) result.0 }
 {
     match both_days(alloc, number) {
@@ -31,8 +30,7 @@ pub fn generate<S: Sink>(alloc: Global, number: u64, out: &mut S) -> Status
 /// Writes the line of both days.
 fn tell_days<S: Sink>(alloc: Global, number: u64, first: &Day, second: &Day, out: &mut S) -> Status
     requires { AreDaysOf number first.now second.now }
-    ensures fault { result.0 ≡ 105 → Rose (S.faults out.old) (S.faults out.new) }
-    ensures quiet { result.0 ≢ 105 → S.faults out.new ≡ S.faults out.old }
+    ensures frame { BlamesOutput (S.faults out.old) (S.faults out.new) result.0 }
     ensures days { IsGenerated number (output S.Sink out.old) (output S.Sink out.new) result.0 }
 {
     match line_of(alloc, number, first, second) {

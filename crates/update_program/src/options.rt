@@ -7,7 +7,7 @@ ghost use Rattle.update_engine.specs.Run.{KeepsMethods, engine};
 ghost use Rattle.update_program.specs.Ending.{EndsByOptions};
 ghost use Rattle.update_program.specs.Headline.{Promises};
 ghost use Rattle.update_program.specs.Objects.{objects, output};
-ghost use Rattle.update_program.specs.Said.{ReadsOnce, SaysFault};
+ghost use Rattle.update_program.specs.Said.{BlamesOutput, ReadsOnce, SaysFault};
 
 use crate::Ran;
 use crate::held::run_held;
@@ -89,8 +89,7 @@ fn run_configured<E: Etc, D: Disk, M: Method, C: Clock, S: Sink>(
 
 /// Writes the line of a configuration that is refused.
 fn refuse<S: Sink>(alloc: Global, refusal: ConfigurationError, out: &mut S) -> Ran
-    ensures fault { result.status.0 ≡ 105 → Rose (S.faults out.old) (S.faults out.new) }
-    ensures quiet { result.status.0 ≢ 105 → S.faults out.new ≡ S.faults out.old }
+    ensures frame { BlamesOutput (S.faults out.old) (S.faults out.new) result.status.0 }
     ensures no_disk_fault { result.status.0 ≢ 102 }
     ensures not_held { result.status.0 ≢ 104 }
     ensures etc_fault { result.status.0 ≡ 106 → refusal ≡ ConfigurationError.Fault }

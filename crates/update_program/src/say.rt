@@ -1,12 +1,11 @@
 //! Lines and reports, written to the output. The one line that stands in place of a report takes memory only where it has
 //! something to name.
 
-ghost use Rattle.std.specs.Prelude.{◌≡◌, ◌≢◌, ◌≤◌, true, length};
-ghost use Rattle.acq_outside.specs.Count.{Rose};
+ghost use Rattle.std.specs.Prelude.{◌≡◌, ◌≢◌, true, length};
 ghost use Rattle.std.specs.List.{list_any};
 ghost use Rattle.update_program.specs.Objects.{output};
 ghost use Rattle.update_program.specs.Said as spec;
-ghost use Rattle.update_program.specs.Said.{Reports, SaidBy, Says, SaysFault, fault_status, is_bare, status_of_verdicts};
+ghost use Rattle.update_program.specs.Said.{BlamesOutput, Reports, SaidBy, Says, SaysFault, fault_status, is_bare, status_of_verdicts};
 
 use crate::Status;
 use acq_base::{NoMemory, Plan};
@@ -18,9 +17,7 @@ use update_model::{RunLog, Verdict2};
 /// Writes a text and answers its status, or 105 where the output fails.
 pub fn say<S: Sink>(out: &mut S, text: &[u8], status: u8) -> Status
     requires { status ≢ 105 }
-    ensures count { S.faults out.old ≤ S.faults out.new }
-    ensures fault { result.0 ≡ 105 → Rose (S.faults out.old) (S.faults out.new) }
-    ensures quiet { result.0 ≢ 105 → S.faults out.new ≡ S.faults out.old }
+    ensures frame { BlamesOutput (S.faults out.old) (S.faults out.new) result.0 }
     ensures said { SaidBy (output S.Sink out.old) (output S.Sink out.new) text.now status result.0 }
 {
     match out.write(text) {
@@ -33,9 +30,7 @@ pub fn say<S: Sink>(out: &mut S, text: &[u8], status: u8) -> Status
 #[tactic(auto, using(crate::proofs::Lines::bare_is_fixed))]
 pub fn say_fixed<S: Sink>(out: &mut S, fault: &FaultLine) -> Status
     requires { is_bare fault.now ≡ true }
-    ensures count { S.faults out.old ≤ S.faults out.new }
-    ensures fault { result.0 ≡ 105 → Rose (S.faults out.old) (S.faults out.new) }
-    ensures quiet { result.0 ≢ 105 → S.faults out.new ≡ S.faults out.old }
+    ensures frame { BlamesOutput (S.faults out.old) (S.faults out.new) result.0 }
     ensures said { Says (output S.Sink out.old) (output S.Sink out.new) fault.now result.0 }
 {
     let Some(line) = fault.fixed() else {
@@ -46,9 +41,7 @@ pub fn say_fixed<S: Sink>(out: &mut S, fault: &FaultLine) -> Status
 
 /// Writes the line of a fault and answers its status, or `E memory` and 103 where memory for the line ran out.
 pub fn say_fault<S: Sink>(alloc: Global, out: &mut S, fault: &FaultLine) -> Status
-    ensures count { S.faults out.old ≤ S.faults out.new }
-    ensures fault { result.0 ≡ 105 → Rose (S.faults out.old) (S.faults out.new) }
-    ensures quiet { result.0 ≢ 105 → S.faults out.new ≡ S.faults out.old }
+    ensures frame { BlamesOutput (S.faults out.old) (S.faults out.new) result.0 }
     ensures said { SaysFault (output S.Sink out.old) (output S.Sink out.new) fault.now result.0 }
 {
     match fault.text(alloc) {
@@ -74,9 +67,7 @@ fn status_of(fault: &FaultLine) -> u8
 /// Writes the report of a run and answers its status, or `E memory` and 103 where memory for the report ran out.
 pub fn tell<S: Sink>(alloc: Global, plan: &Plan, log: &RunLog, out: &mut S) -> Status
     requires { length log.now.verdicts ≡ length plan.now.sources }
-    ensures count { S.faults out.old ≤ S.faults out.new }
-    ensures fault { result.0 ≡ 105 → Rose (S.faults out.old) (S.faults out.new) }
-    ensures quiet { result.0 ≢ 105 → S.faults out.new ≡ S.faults out.old }
+    ensures frame { BlamesOutput (S.faults out.old) (S.faults out.new) result.0 }
     ensures told { Reports (output S.Sink out.old) (output S.Sink out.new) plan.now log.now result.0 }
 {
     match report(alloc, plan, log) {

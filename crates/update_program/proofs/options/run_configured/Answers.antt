@@ -8,15 +8,15 @@ returns-in-Err g c =
     let by = c.refuse.ensures in
     let read = c.in-Err.ensures in
     record {
-      configuration = read.same;
+      configuration = read.frame.same;
       methods = record { mirrors = refl; counts = none_fell _ };
       moment = inr (rw by.log refl, refl);
       disk_fault = λ e. absurd (by.no_disk_fault e);
       quiet_disk = λ some. let never = rw by.log at some in absurd cc;
-      sink_fault = by.fault;
-      quiet_sink = by.quiet;
+      sink_fault = by.frame.fault;
+      quiet_sink = by.frame.quiet;
       held_fault = λ e. absurd (by.not_held e);
-      etc_fault = λ e. read.fault (ap Err (by.etc_fault e));
+      etc_fault = λ e. read.frame.fault (ap Err (by.etc_fault e));
       quiet_etc = λ some. let never = rw by.log at some in absurd cc;
       ended = refusal_ends _ _ _ c.in-Err.refusal _ _ _ _ read.answer by.said (record { no_log = by.log; still = refl; files = refl; mirrors = refl; methods = refl });
     }
