@@ -17,7 +17,9 @@ use acq_outside::{Disk, Fault};
 /// Writes the gate's byte as 1.
 fn write_gate<D: Disk>(disk: &mut D, prepared: &Prepared) -> Result<(), Fault>
     requires { Stands (IsReady prepared.now.groups) (D.trace disk.old) }
+
     ensures frame { Stays D.Disk disk.old disk.new result }
+
     ensures moments { Since (D.trace disk.old) (D.trace disk.new)
         (KeepsOrSteps prepared.now.groups (filled_all (part_bytes (D.trace disk.old)) prepared.now.groups) (D.trace disk.old)) }
     ensures once { length (D.trace disk.new) ≤ length (D.trace disk.old) + 1 }
@@ -34,7 +36,9 @@ fn write_gate<D: Disk>(disk: &mut D, prepared: &Prepared) -> Result<(), Fault>
 /// Makes the open gate lasting.
 fn lay_gate<D: Disk>(disk: &mut D, prepared: &Prepared) -> Result<(), Fault>
     requires { Stands (IsOpening prepared.now.groups) (D.trace disk.old) }
+
     ensures frame { Stays D.Disk disk.old disk.new result }
+
     ensures recovers { Since (D.trace disk.old) (D.trace disk.new) (From Recovers (D.trace disk.old)) }
     ensures opens { Since (D.trace disk.old) (D.trace disk.new) (OpensAt prepared.now.groups (D.trace disk.old)) }
     ensures new { OnOk result (Stands (OpensAt prepared.now.groups (D.trace disk.old)) (D.trace disk.new)) }
@@ -48,7 +52,9 @@ fn lay_gate<D: Disk>(disk: &mut D, prepared: &Prepared) -> Result<(), Fault>
 #[tactic(auto, using(crate::proofs::Others::others_on))]
 fn open_gate<D: Disk>(disk: &mut D, prepared: &Prepared) -> Result<(), Fault>
     requires { Stands (IsReady prepared.now.groups) (D.trace disk.old) }
+
     ensures frame { Stays D.Disk disk.old disk.new result }
+
     ensures moments { Since (D.trace disk.old) (D.trace disk.new)
         (KeepsOrSteps prepared.now.groups (filled_all (part_bytes (D.trace disk.old)) prepared.now.groups) (D.trace disk.old)) }
     ensures turns { Turns prepared.now.groups (filled_all (part_bytes (D.trace disk.old)) prepared.now.groups) (D.trace disk.old) (D.trace disk.new) }
@@ -87,8 +93,11 @@ pub fn commit<D: Disk>(
     prepared: Prepared,
 ) -> Result<(), JournalError>
     requires ready { Stands (IsReady prepared.groups) (D.trace disk.old) }
+
     ensures frame { Stays D.Disk disk.old disk.new result }
+
     ensures only { OnErr result (result ≡ Err JournalError.DiskFault) }
+
     ensures moments { Since (D.trace disk.old) (D.trace disk.new)
         (KeepsOrSteps prepared.groups (filled_all (part_bytes (D.trace disk.old)) prepared.groups) (D.trace disk.old)) }
     ensures turns { Turns prepared.groups (filled_all (part_bytes (D.trace disk.old)) prepared.groups) (D.trace disk.old) (D.trace disk.new) }

@@ -19,10 +19,13 @@ fn put_some<D: Disk>(disk: &mut D, part: &mut Part, bytes: &[u8]) -> Result<(), 
     requires len { IsTold (D.trace disk.old) → length (part_bytes (D.trace disk.old) part.old.name) ≡ part.old.len }
     requires room { part.old.len + length bytes.now < 2 ^ 64 }
     requires idle { Stands IsIdle (D.trace disk.old) }
+
     ensures frame { Stays D.Disk disk.old disk.new result }
+
+    ensures part { OnOk result (part.new ≡ part_of part.old.name (part.old.len + length bytes.now)) }
+
     ensures moments { Since (D.trace disk.old) (D.trace disk.new) (KeepsRest (D.trace disk.old)) }
     ensures others { KeepsOthers part.old.name (D.trace disk.old) (D.trace disk.new) }
-    ensures part { OnOk result (part.new ≡ part_of part.old.name (part.old.len + length bytes.now)) }
     ensures there { OnOk result (Stands (IsPartThere part.old.name) (D.trace disk.new)) }
     ensures bytes { OnOk result (IsTold (D.trace disk.new)
         → part_bytes (D.trace disk.new) part.old.name ≡ part_bytes (D.trace disk.old) part.old.name ++ bytes.now) }

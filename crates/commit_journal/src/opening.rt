@@ -113,13 +113,16 @@ fn judge<D: Disk>(alloc: Global, disk: &mut D) -> Result<Gate, JournalError>
 #[tactic(auto, using(crate::proofs::Recovers::onwards))]
 fn open_gate<D: Disk>(alloc: Global, disk: &mut D) -> Result<(), JournalError>
     requires { Stands IsLaid (D.trace disk.old) }
+
     ensures frame { StaysCounting JournalError.DiskFault D.Disk disk.old disk.new result }
+    ensures unchanged { (at : ℕ) → result ≡ Err (JournalError.BadJournal at) → D.files disk.new ≡ D.files disk.old }
+
+    ensures lists { IsTrue (D.tells disk.old) → OnOk result (reopened (D.files disk.new) ≡ reopened (D.files disk.old)) }
+    ensures damage { IsTrue (D.tells disk.old) → FindsDamage (damage_of (D.files disk.old)) result }
+
     ensures moments { Since (D.trace disk.old) (D.trace disk.new) (From Recovers (D.trace disk.old)) }
     ensures others { IsTrue (D.tells disk.old) → is_open (D.files disk.old journal) ≡ true → LeavesOthers (IsOfOpening (D.files disk.old journal)) (D.trace disk.old) (D.trace disk.new) }
     ensures done { OnOk result (Stands IsIdle (D.trace disk.new)) }
-    ensures lists { IsTrue (D.tells disk.old) → OnOk result (reopened (D.files disk.new) ≡ reopened (D.files disk.old)) }
-    ensures damage { IsTrue (D.tells disk.old) → FindsDamage (damage_of (D.files disk.old)) result }
-    ensures unchanged { (at : ℕ) → result ≡ Err (JournalError.BadJournal at) → D.files disk.new ≡ D.files disk.old }
 {
     let gate = judge(alloc, disk)?;
     match gate {
@@ -139,13 +142,15 @@ fn open_gate<D: Disk>(alloc: Global, disk: &mut D) -> Result<(), JournalError>
 #[tactic(auto, using(crate::proofs::Recovers::onwards))]
 fn open_whole<D: Disk>(alloc: Global, disk: &mut D) -> Result<Journal, JournalError>
     ensures frame { StaysCounting JournalError.DiskFault D.Disk disk.old disk.new result }
+    ensures unchanged { (at : ℕ) → result ≡ Err (JournalError.BadJournal at) → D.files disk.new ≡ D.files disk.old }
+
+    ensures lists { IsTrue (D.tells disk.old) → OnOk result (reopened (D.files disk.new) ≡ reopened (D.files disk.old)) }
+    ensures damage { IsTrue (D.tells disk.old) → FindsDamage (damage_of (D.files disk.old)) result }
+    ensures thrifty { IsTrue (D.tells disk.old) → is_open (D.files disk.old journal) ≡ false → result ≢ Err JournalError.NoMemory }
+
     ensures recovers { Since (D.trace disk.old) (D.trace disk.new) (From Recovers (D.trace disk.old)) }
     ensures others { IsTrue (D.tells disk.old) → LeavesOthers (IsOfOpening (D.files disk.old journal)) (D.trace disk.old) (D.trace disk.new) }
     ensures idle { OnOk result (Stands IsIdle (D.trace disk.new)) }
-    ensures lists { IsTrue (D.tells disk.old) → OnOk result (reopened (D.files disk.new) ≡ reopened (D.files disk.old)) }
-    ensures damage { IsTrue (D.tells disk.old) → FindsDamage (damage_of (D.files disk.old)) result }
-    ensures unchanged { (at : ℕ) → result ≡ Err (JournalError.BadJournal at) → D.files disk.new ≡ D.files disk.old }
-    ensures thrifty { IsTrue (D.tells disk.old) → is_open (D.files disk.old journal) ≡ false → result ≢ Err JournalError.NoMemory }
 {
     lay(disk)?;
     let found = first_byte(disk)?;
@@ -168,15 +173,17 @@ fn open_whole<D: Disk>(alloc: Global, disk: &mut D) -> Result<Journal, JournalEr
 /// `BadJournal` comes just where the first byte is 1 and the others are no record. Where it isn't 1, no memory is taken.
 pub fn open_journal<D: Disk>(alloc: Global, disk: &mut D) -> Result<Journal, JournalError>
     ensures frame { StaysCounting JournalError.DiskFault D.Disk disk.old disk.new result }
+    ensures unchanged { (at : ℕ) → result ≡ Err (JournalError.BadJournal at) → D.files disk.new ≡ D.files disk.old }
+
+    ensures lists { IsTrue (D.tells disk.old) → OnOk result (reopened (D.files disk.new) ≡ reopened (D.files disk.old)) }
+    ensures damage { IsTrue (D.tells disk.old) → FindsDamage (damage_of (D.files disk.old)) result }
+    ensures thrifty { IsTrue (D.tells disk.old) → is_open (D.files disk.old journal) ≡ false → result ≢ Err JournalError.NoMemory }
+
     ensures recovers { Since (D.trace disk.old) (D.trace disk.new) (From Recovers (D.trace disk.old)) }
     ensures settled { Stands IsSettled (D.trace disk.old) → Stands IsSettled (D.trace disk.new) }
     ensures others { IsTrue (D.tells disk.old) → LeavesOthers (IsOfOpening (D.files disk.old journal)) (D.trace disk.old) (D.trace disk.new) }
     ensures idle { OnOk result (Stands IsIdle (D.trace disk.new)) }
-    ensures lists { IsTrue (D.tells disk.old) → OnOk result (reopened (D.files disk.new) ≡ reopened (D.files disk.old)) }
     ensures rests { Stands IsSettled (D.trace disk.old) → OnOk result (Stands (IsAtRest (lists_now (D.trace disk.old))) (D.trace disk.new)) }
-    ensures damage { IsTrue (D.tells disk.old) → FindsDamage (damage_of (D.files disk.old)) result }
-    ensures unchanged { (at : ℕ) → result ≡ Err (JournalError.BadJournal at) → D.files disk.new ≡ D.files disk.old }
-    ensures thrifty { IsTrue (D.tells disk.old) → is_open (D.files disk.old journal) ≡ false → result ≢ Err JournalError.NoMemory }
 {
     open_whole(alloc, disk)
 }

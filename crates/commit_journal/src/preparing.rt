@@ -47,16 +47,19 @@ pub fn prepare<D: Disk>(
     requires changes { CanRecord groups }
     requires staged { Stands (AreAllStaged groups) (D.trace disk.old) }
     requires idle { Stands IsIdle (D.trace disk.old) }
+
     ensures frame { StaysCounting JournalError.DiskFault D.Disk disk.old disk.new result }
     ensures undamaged { (at : ℕ) → result ≢ Err (JournalError.BadJournal at) }
     ensures dry { IsErrOf result JournalError.NoMemory → D.trace disk.new ≡ D.trace disk.old }
+
     ensures dry_files { IsErrOf result JournalError.NoMemory → D.files disk.new ≡ D.files disk.old }
+    ensures record { IfOk result (λ prepared. prepared.groups ≡ groups) }
+
     ensures moments { Since (D.trace disk.old) (D.trace disk.new) (KeepsLists (D.trace disk.old)) }
     ensures rests { Since (D.trace disk.old) (D.trace disk.new) (KeepsRest (D.trace disk.old)) }
     ensures settled { Stands IsSettled (D.trace disk.old) → Stands IsSettled (D.trace disk.new) }
     ensures can_commit { OnOk result (Stands (IsReady groups) (D.trace disk.new)) }
     ensures ready { OnOk result (Stands (ReadyAfter groups (D.trace disk.old)) (D.trace disk.new)) }
-    ensures record { IfOk result (λ prepared. prepared.groups ≡ groups) }
     ensures bytes { OnOk result (filled_all (part_bytes (D.trace disk.new)) groups ≡ filled_all (part_bytes (D.trace disk.old)) groups) }
     ensures others { KeepsUnnamed groups (D.trace disk.old) (D.trace disk.new) }
 {

@@ -16,9 +16,11 @@ use update_model::{Body, Closed};
 pub fn fetch_held<M: Method>(alloc: Global, method: &mut M, job: &Job) -> Result<Closed, NoMemory>
     requires sound { IsSound job.now.uri }
     requires from { job.now.from ≡ 0 }
+
     ensures frame { Fetches M.Method method.old method.new }
-    ensures counted { IfOk result (IsCounted (M.faults method.old) (M.faults method.new)) }
     ensures dry { OnErr result (M.faults method.new ≡ M.faults method.old) }
+
+    ensures counted { IfOk result (IsCounted (M.faults method.old) (M.faults method.new)) }
     ensures sound { IfOk result IsSoundEnd }
     ensures held { IfOk result IsHeld }
     ensures answer { IfOk result (IsAnswer (M.world method.old) [] false job.now) }

@@ -37,11 +37,14 @@ pub fn fetch_staged<D: Disk, M: Method>(
     requires sound { IsSound job.now.uri }
     requires from { CanBegin job.now }
     requires keep { IsTold (D.trace disk.old) → job.now.from ≤ length (part_bytes (D.trace disk.old) name.now.0) }
+
     ensures frame { StaysCounting OutError.Fault D.Disk disk.old disk.new result }
     ensures method { Fetches M.Method method.old method.new }
     ensures method_dry { OnErr result (M.faults method.new ≡ M.faults method.old) }
+
     ensures counted { IfOk result (IsCounted (M.faults method.old) (M.faults method.new)) }
     ensures sound { IfOk result IsSoundEnd }
+
     ensures staging { Staging name.now.0 (D.trace disk.old) (D.trace disk.new) }
     ensures front { OnOk result (KeepsFront name.now.0 job.now.from (D.trace disk.old) (D.trace disk.new)) }
     ensures left { IfOk result (LeavesFile job.now.from name.now.0 (D.trace disk.old) (D.trace disk.new)) }
@@ -75,11 +78,14 @@ fn fill<D: Disk, M: Method>(
     requires sound { IsSoundWord first }
     requires opens { (reply : Reply) → first ≢ Other reply }
     requires word { IsWord (M.faults method.old) (M.faults method.old) (M.world method.old) (fetch_at job.now job.now.from) (M.under method.old) first }
+
     ensures frame { StaysCounting OutError.Fault D.Disk disk.old disk.new result }
     ensures method { Fetches M.Method method.old method.new }
     ensures method_dry { OnErr result (M.faults method.new ≡ M.faults method.old) }
+
     ensures counted { IfOk result (IsCounted (M.faults method.old) (M.faults method.new)) }
     ensures sound { IfOk result IsSoundEnd }
+
     ensures staging { Staging name.now.0 (D.trace disk.old) (D.trace disk.new) }
     ensures front { OnOk result (KeepsFront name.now.0 job.now.from (D.trace disk.old) (D.trace disk.new)) }
     ensures left { IfOk result (LeavesFile job.now.from name.now.0 (D.trace disk.old) (D.trace disk.new)) }
@@ -108,11 +114,14 @@ fn receive<D: Disk, M: Method>(
     requires sound { IsSoundWord first }
     requires opens { (reply : Reply) → first ≢ Other reply }
     requires word { IsWord (M.faults method.old) (M.faults method.old) (M.world method.old) (fetch_at job.now opened.part.len) (M.under method.old) first }
+
     ensures frame { StaysCounting OutError.Fault D.Disk disk.old disk.new result }
     ensures method { Fetches M.Method method.old method.new }
     ensures method_dry { OnErr result (M.faults method.new ≡ M.faults method.old) }
+
     ensures counted { IfOk result (IsCounted (M.faults method.old) (M.faults method.new)) }
     ensures sound { IfOk result IsSoundEnd }
+
     ensures staging { Staging opened.part.name (D.trace disk.old) (D.trace disk.new) }
     ensures front { OnOk result (KeepsFront opened.part.name job.now.from (D.trace disk.old) (D.trace disk.new)) }
     ensures more { IfOk result (HasMore job.now.from opened.part.name (D.trace disk.new)) }

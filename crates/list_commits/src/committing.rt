@@ -27,9 +27,11 @@ pub fn commit_groups<D: Disk>(
     requires changes { CanRecord groups }
     requires staged { Stands (AreAllStaged groups) (D.trace disk.old) }
     requires idle { Stands IsIdle (D.trace disk.old) }
+
     ensures frame { StaysCounting JournalError.DiskFault D.Disk disk.old disk.new result }
     ensures undamaged { (at : ℕ) → result ≢ Err (JournalError.BadJournal at) }
     ensures dry { IsErrOf result JournalError.NoMemory → D.trace disk.new ≡ D.trace disk.old }
+
     ensures settled { Stands IsSettled (D.trace disk.old) → Stands IsSettled (D.trace disk.new) }
     ensures idle { OnOk result (Stands IsIdle (D.trace disk.new)) }
     ensures others { KeepsUnnamed groups (D.trace disk.old) (D.trace disk.new) }

@@ -23,6 +23,7 @@ pub fn loose_names<D: Disk>(
     sources: &[Source],
 ) -> Result<Row<Text>, OutError>
     ensures frame { ReadsCounting OutError.Fault D.Disk disk.old disk.new result }
+
     ensures sorted { IfOk result AreSorted }
     ensures loose { IfOk result (All (IsLoose sources.now)) }
     ensures named { IfOk result (All IsName) }

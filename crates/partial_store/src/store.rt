@@ -20,10 +20,13 @@ use journal_model::PartialName;
 pub fn begin<D: Disk>(disk: &mut D, name: &ListName, keep: u64) -> Result<Part, Fault>
     requires name { IsPutName name.now.0 }
     requires keep { IsTold (D.trace disk.old) → keep ≤ length (part_bytes (D.trace disk.old) name.now.0) }
+
     ensures frame { Stays D.Disk disk.old disk.new result }
+
+    ensures part { IfOk result (λ part. part ≡ part_of name.now.0 keep) }
+
     ensures moments { Since (D.trace disk.old) (D.trace disk.new) (KeepsRest (D.trace disk.old)) }
     ensures others { KeepsOthers name.now.0 (D.trace disk.old) (D.trace disk.new) }
-    ensures part { IfOk result (λ part. part ≡ part_of name.now.0 keep) }
     ensures there { OnOk result (Stands (IsPartThere name.now.0) (D.trace disk.new)) }
     ensures bytes { OnOk result (IsTold (D.trace disk.new)
         → part_bytes (D.trace disk.new) name.now.0 ≡ take keep (part_bytes (D.trace disk.old) name.now.0)) }
@@ -41,11 +44,14 @@ pub fn put<D: Disk>(disk: &mut D, part: &mut Part, piece: &[u8]) -> Result<(), F
     requires there { Stands (IsPartThere part.old.name) (D.trace disk.old) }
     requires len { IsTold (D.trace disk.old) → length (part_bytes (D.trace disk.old) part.old.name) ≡ part.old.len }
     requires room { part.old.len + length piece.now < 2 ^ 64 }
+
     ensures frame { Stays D.Disk disk.old disk.new result }
+    ensures unchanged { OnErr result (part.new ≡ part.old) }
+
+    ensures part { OnOk result (part.new ≡ part_of part.old.name (part.old.len + length piece.now)) }
+
     ensures moments { Since (D.trace disk.old) (D.trace disk.new) (KeepsRest (D.trace disk.old)) }
     ensures others { KeepsOthers part.old.name (D.trace disk.old) (D.trace disk.new) }
-    ensures part { OnOk result (part.new ≡ part_of part.old.name (part.old.len + length piece.now)) }
-    ensures unchanged { OnErr result (part.new ≡ part.old) }
     ensures there { OnOk result (Stands (IsPartThere part.old.name) (D.trace disk.new)) }
     ensures bytes { OnOk result (IsTold (D.trace disk.new)
         → part_bytes (D.trace disk.new) part.old.name ≡ part_bytes (D.trace disk.old) part.old.name ++ piece.now) }

@@ -33,10 +33,13 @@ fn fetch<D: Disk, M: Method>(
     job: &Job,
 ) -> Result<Closed, OutError>
     requires { CanFetch (staged_name (board_of board.now) job.now.no) job.now (D.trace disk.old) }
+
     ensures frame { StaysCounting OutError.Fault D.Disk disk.old disk.new result }
     ensures method { Fetches M.Method method.old method.new }
+
     ensures counted { IfOk result (IsCounted (M.faults method.old) (M.faults method.new)) }
     ensures sound { IfOk result IsSoundEnd }
+
     ensures fetched { IsFetched (staged_name (board_of board.now) job.now.no) (D.trace disk.old) (D.trace disk.new) }
     ensures kept { OnOk result (KeepsBytes (staged_name (board_of board.now) job.now.no) job.now.from (D.trace disk.old) (D.trace disk.new)) }
     ensures comes { IfOk result (ComesTo (staged_name (board_of board.now) job.now.no) (D.trace disk.new)) }
@@ -60,15 +63,18 @@ pub fn ask_one<D: Disk, M: Method>(
 ) -> Result<bool, RunError>
     requires ready { IsReady (M.world method.old) (M.faults method.old) (board_of board.old) (D.trace disk.old) }
     requires change { judge.now.change ≡ (board_of board.old).config.change }
+
     ensures frame { StaysCounting RunError.DiskFault D.Disk disk.old disk.new result }
     ensures undamaged { (at : ℕ) → result ≢ Err (RunError.BadJournal at) }
     ensures method { Fetches M.Method method.old method.new }
-    ensures moments { Since (D.trace disk.old) (D.trace disk.new) (KeepsRest (D.trace disk.old)) }
-    ensures goes { OnOk result (GoesOn (M.world method.old) (M.faults method.old) (M.faults method.new)
-        (board_of board.old) (board_of board.new) (D.trace disk.old) (D.trace disk.new)) }
+
     ensures same { OnOk result (SameBoard (board_of board.old) (board_of board.new)) }
     ensures more { IfOk result (λ more. more ≡ true → length (board_of board.new).asks ≡ length (board_of board.old).asks + 1) }
     ensures none { IfOk result (λ more. more ≡ false → NoneAsks (board_of board.new)) }
+
+    ensures moments { Since (D.trace disk.old) (D.trace disk.new) (KeepsRest (D.trace disk.old)) }
+    ensures goes { OnOk result (GoesOn (M.world method.old) (M.faults method.old) (M.faults method.new)
+        (board_of board.old) (board_of board.new) (D.trace disk.old) (D.trace disk.new)) }
 {
     calls_are_events();
     boards_walk_routes();

@@ -38,10 +38,13 @@ pub fn settle_last<D: Disk>(
     board: &mut Board,
 ) -> Result<Row<Row<Change>>, RunError>
     requires { IsStanding (board_of board.old) (D.trace disk.old) }
+
     ensures frame { StaysCounting RunError.DiskFault D.Disk disk.old disk.new result }
     ensures undamaged { (at : ℕ) → result ≢ Err (RunError.BadJournal at) }
+
     ensures none { OnOk result (first_ready (board_of board.new).slots ≡ None) }
     ensures only { OnOk result (OnlySettles (board_of board.old) (board_of board.new)) }
+
     ensures bare { together ≡ true → D.trace disk.new ≡ D.trace disk.old }
     ensures leaves { IfOk result (LeavesLast together (board_of board.old) (board_of board.new) (D.trace disk.old) (D.trace disk.new)) }
     ensures idle { OnOk result (Stands IsIdle (D.trace disk.new)) }
@@ -120,14 +123,17 @@ pub fn commit_last<D: Disk>(
     requires changes { CanRecord groups }
     requires staged { Stands (AreAllStaged groups) (D.trace disk.old) }
     requires idle { Stands IsIdle (D.trace disk.old) }
+
     ensures frame { StaysCounting RunError.DiskFault D.Disk disk.old disk.new result }
     ensures undamaged { (at : ℕ) → result ≢ Err (RunError.BadJournal at) }
+
+    ensures some { OnErr result (groups ≢ []) }
+
     ensures settled { Stands IsSettled (D.trace disk.old) → Stands IsSettled (D.trace disk.new) }
     ensures idle { OnOk result (Stands IsIdle (D.trace disk.new)) }
     ensures none { groups ≡ [] → D.trace disk.new ≡ D.trace disk.old }
     ensures others { groups ≢ [] → KeepsUnnamed groups (D.trace disk.old) (D.trace disk.new) }
     ensures done { groups ≢ [] → OnOk result (HasCommitted (filled_all (part_bytes (D.trace disk.old)) groups) (D.trace disk.old) (D.trace disk.new)) }
-    ensures some { OnErr result (groups ≢ []) }
     ensures stopped { OnErr result (IsStopped (filled_all (part_bytes (D.trace disk.old)) groups) (D.trace disk.old) (D.trace disk.new)) }
 {
     if groups.is_empty() {
@@ -150,8 +156,10 @@ pub fn finish<D: Disk>(
 ) -> Result<RunLog, RunError>
     requires stands { IsStanding (board_of board) (D.trace disk.old) }
     requires quiet { NoneAsks (board_of board) }
+
     ensures frame { StaysCounting RunError.DiskFault D.Disk disk.old disk.new result }
     ensures undamaged { (at : ℕ) → result ≢ Err (RunError.BadJournal at) }
+
     ensures idle { OnOk result (Stands IsIdle (D.trace disk.new)) }
     ensures ends { IfOk result (Ends cleanup (board_of board) (D.trace disk.old)) }
     ensures stops { OnErr result (StopsLast together cleanup (board_of board) (D.trace disk.old) (D.trace disk.new)) }

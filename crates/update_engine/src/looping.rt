@@ -35,13 +35,16 @@ pub fn run_items<D: Disk, M: Method>(
 ) -> Result<(), RunError>
     requires ready { IsReady (M.world method.old) (M.faults method.old) (board_of board.old) (D.trace disk.old) }
     requires change { judge.now.change ≡ (board_of board.old).config.change }
+
     ensures frame { StaysCounting RunError.DiskFault D.Disk disk.old disk.new result }
     ensures undamaged { (at : ℕ) → result ≢ Err (RunError.BadJournal at) }
     ensures method { Fetches M.Method method.old method.new }
-    ensures bare { together ≡ true → Since (D.trace disk.old) (D.trace disk.new) (KeepsRest (D.trace disk.old)) }
+
     ensures unsettled { together ≡ true → OnOk result ((board_of board.new).settled ≡ (board_of board.old).settled) }
     ensures none { OnOk result (NoneAsks (board_of board.new)) }
     ensures config { OnOk result ((board_of board.new).config ≡ (board_of board.old).config) }
+
+    ensures bare { together ≡ true → Since (D.trace disk.old) (D.trace disk.new) (KeepsRest (D.trace disk.old)) }
     ensures idle { OnOk result (Stands IsIdle (D.trace disk.new)) }
     ensures stops { OnErr result (StopsFar (M.world method.old) (M.faults method.old) (board_of board.old) (D.trace disk.old) (D.trace disk.new)) }
     ensures goes { OnOk result (GoesFar (M.world method.old) (M.faults method.old) (M.faults method.new)
@@ -66,11 +69,14 @@ fn install_between<D: Disk>(
     board: &mut Board,
 ) -> Result<(), RunError>
     requires { IsStanding (board_of board.old) (D.trace disk.old) }
+
     ensures frame { StaysCounting RunError.DiskFault D.Disk disk.old disk.new result }
     ensures undamaged { (at : ℕ) → result ≢ Err (RunError.BadJournal at) }
-    ensures bare { together ≡ true → D.trace disk.new ≡ D.trace disk.old }
+
     ensures unsettled { together ≡ true → OnOk result ((board_of board.new).settled ≡ (board_of board.old).settled) }
     ensures only { OnOk result (OnlySettles (board_of board.old) (board_of board.new)) }
+
+    ensures bare { together ≡ true → D.trace disk.new ≡ D.trace disk.old }
     ensures idle { OnOk result (Stands IsIdle (D.trace disk.new)) }
     ensures goes { OnOk result (GoesAside (board_of board.old) (board_of board.new) (D.trace disk.old) (D.trace disk.new)) }
     ensures stops { OnErr result (StopsAside (board_of board.old) (D.trace disk.old) (D.trace disk.new)) }

@@ -68,9 +68,12 @@ pub fn install_ready<D: Disk>(
 ) -> Result<(), RunError>
     requires ready { first_ready (board_of board.old).slots ≡ Some place }
     requires stands { IsStanding (board_of board.old) (D.trace disk.old) }
+
     ensures frame { StaysCounting RunError.DiskFault D.Disk disk.old disk.new result }
     ensures undamaged { (at : ℕ) → result ≢ Err (RunError.BadJournal at) }
+
     ensures settled { OnOk result (HasSettled place (board_of board.old) (board_of board.new)) }
+
     ensures idle { OnOk result (Stands IsIdle (D.trace disk.new)) }
     ensures goes { OnOk result (GoesAside (board_of board.old) (board_of board.new) (D.trace disk.old) (D.trace disk.new)) }
     ensures stops { OnErr result (StopsAside (board_of board.old) (D.trace disk.old) (D.trace disk.new)) }
@@ -98,10 +101,13 @@ pub fn install_all<D: Disk>(
     board: &mut Board,
 ) -> Result<(), RunError>
     requires { IsStanding (board_of board.old) (D.trace disk.old) }
+
     ensures frame { StaysCounting RunError.DiskFault D.Disk disk.old disk.new result }
     ensures undamaged { (at : ℕ) → result ≢ Err (RunError.BadJournal at) }
+
     ensures none { OnOk result (first_ready (board_of board.new).slots ≡ None) }
     ensures only { OnOk result (OnlySettles (board_of board.old) (board_of board.new)) }
+
     ensures idle { OnOk result (Stands IsIdle (D.trace disk.new)) }
     ensures goes { OnOk result (GoesAside (board_of board.old) (board_of board.new) (D.trace disk.old) (D.trace disk.new)) }
     ensures stops { OnErr result (StopsAside (board_of board.old) (D.trace disk.old) (D.trace disk.new)) }

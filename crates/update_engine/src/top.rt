@@ -36,15 +36,18 @@ pub fn run_update<D: Disk, M: Method>(
 ) -> Result<RunLog, RunError>
     requires methods { (1 ≤ vec_len methods.old) × (vec_len methods.old ≤ 9) }
     requires plan { IsSound plan }
+
     ensures frame { StaysCounting RunError.DiskFault D.Disk disk.old disk.new result }
     ensures methods { KeepsMethods (engine D.Disk M.Method disk.old methods.old.items) (engine D.Disk M.Method disk.new methods.new.items) }
-    ensures damage { IsTrue (D.tells disk.old) → FindsDamage (damage_of (D.files disk.old)) result }
     ensures unchanged { (at : ℕ) → result ≡ Err (RunError.BadJournal at) → D.files disk.new ≡ D.files disk.old }
+
+    ensures damage { IsTrue (D.tells disk.old) → FindsDamage (damage_of (D.files disk.old)) result }
     ensures verdicts { IfOk result (λ log. length log.verdicts ≡ length plan.sources) }
-    ensures crash { StaysSafe (run_of plan settings judge.now.change now together)
-        (engine D.Disk M.Method disk.old methods.old.items) (engine D.Disk M.Method disk.new methods.new.items) }
     ensures log { IfOk result (Logged (run_of plan settings judge.now.change now together)
         (engine D.Disk M.Method disk.old methods.old.items) (engine D.Disk M.Method disk.new methods.new.items)) }
+
+    ensures crash { StaysSafe (run_of plan settings judge.now.change now together)
+        (engine D.Disk M.Method disk.old methods.old.items) (engine D.Disk M.Method disk.new methods.new.items) }
 {
     let method = &mut methods.as_mut_slice()[0];
     run_over(alloc, plan, settings, now, together, disk, method, judge)
@@ -62,15 +65,18 @@ fn run_over<D: Disk, M: Method>(
     judge: &Judge,
 ) -> Result<RunLog, RunError>
     requires { IsSound plan }
+
     ensures frame { StaysCounting RunError.DiskFault D.Disk disk.old disk.new result }
     ensures method { Fetches M.Method method.old method.new }
-    ensures damage { IsTrue (D.tells disk.old) → FindsDamage (damage_of (D.files disk.old)) result }
     ensures unchanged { (at : ℕ) → result ≡ Err (RunError.BadJournal at) → D.files disk.new ≡ D.files disk.old }
+
+    ensures damage { IsTrue (D.tells disk.old) → FindsDamage (damage_of (D.files disk.old)) result }
     ensures verdicts { IfOk result (λ log. length log.verdicts ≡ length plan.sources) }
-    ensures crash { (others : List M) → StaysSafe (run_of plan settings judge.now.change now together)
-        (engine D.Disk M.Method disk.old (method.old ∷ others)) (engine D.Disk M.Method disk.new (method.new ∷ others)) }
     ensures log { (others : List M) → IfOk result (Logged (run_of plan settings judge.now.change now together)
         (engine D.Disk M.Method disk.old (method.old ∷ others)) (engine D.Disk M.Method disk.new (method.new ∷ others))) }
+
+    ensures crash { (others : List M) → StaysSafe (run_of plan settings judge.now.change now together)
+        (engine D.Disk M.Method disk.old (method.old ∷ others)) (engine D.Disk M.Method disk.new (method.new ∷ others)) }
 {
     commits_are_known();
     let cleanup = settings.cleanup;
