@@ -3,8 +3,9 @@ use Rattle.std.proofs.Common.{◌≡◌, ◌≢◌, inl, inr, refl, sym, ap, ◌
 use Rattle.journal_model.specs.Names.{partial}
 use Rattle.journal_model.specs.Reading.{is_name_of, is_allowed, clashes, step_named}
 use Rattle.journal_model.specs.Spelling.{all_steps, AreAllowed}
-use Rattle.journal_model.specs.Fine.{AreFine, IsFit, both, fit_name, fine_push, none_fine}
-use Rattle.journal_model.specs.Twice.{Apart, IsIn, Touches, partial_other}
+use Rattle.journal_model.proofs.Fine.{AreFine, IsFit, both, fit_name, fine_push, none_fine}
+use Rattle.journal_model.proofs.Twice.{Apart, partial_other}
+use Rattle.journal_model.specs.Steps.{IsIn, Touches}
 use Rattle.journal_model.specs.declared.step.Step.{Step}
 use Rattle.journal_model.specs.declared.step.Step.TheVariants as steps
 use Rattle.std.specs.List.{list_any}

@@ -18,10 +18,10 @@ use Rattle.acq_outside.specs.declared.state.NameChange.TheVariants.{Made, Moved}
 use Rattle.journal_model.specs.Names.{journal, beside, is_list}
 use Rattle.journal_model.specs.Reading.{gate_in}
 use Rattle.journal_model.specs.Reopen.{lists, opened, LeavesAsOf}
-use Rattle.journal_model.specs.Rest.{IsClosed, IsSettled, IsIdle}
-use Rattle.journal_model.specs.Twice.{with_same, with_other}
-use Rattle.journal_model.specs.Views.{view, apart_names, list_not_aside, list_not_journal, lists_same, settled_names}
-use Rattle.journal_model.specs.Aside.{IsQuiet, quiet_gate, ChangesOnly, IsOn, call_changes, torn_changes, stays_quiet, leaves_as, stays_settled}
+use Rattle.journal_model.specs.Rest.{IsClosed, IsSettled, IsIdle, IsQuiet}
+use Rattle.journal_model.proofs.Twice.{with_same, with_other}
+use Rattle.journal_model.proofs.Views.{view, apart_names, list_not_aside, list_not_journal, lists_same, settled_names}
+use Rattle.journal_model.proofs.Aside.{quiet_gate, ChangesOnly, IsOn, call_changes, torn_changes, stays_quiet, leaves_as, stays_settled}
 use Rattle.journal_model.specs.declared.step.Gate.TheVariants.{Shut}
 use Rattle.commit_journal.specs.Opening.{Recovers}
 use Rattle.commit_journal.specs.Phases.{IsUnset, MayBeMade, IsBeside, LastsBeside, IsNamed}

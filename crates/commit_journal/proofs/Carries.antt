@@ -15,13 +15,13 @@ use Rattle.acq_outside.specs.declared.change.Change.TheVariants.{Write, Sync, Sy
 use Rattle.acq_outside.specs.declared.state.FileState.{FileState}
 use Rattle.acq_outside.specs.declared.state.NameChange.{NameChange}
 use Rattle.journal_model.specs.Names.{journal, partial, is_list}
-use Rattle.journal_model.specs.Steps.{moved_at, stepped, carried}
+use Rattle.journal_model.specs.Steps.{moved_at, stepped, carried, IsIn, change_of, AreOf}
 use Rattle.journal_model.specs.Reading.{gate_of, gate_in, gate_with, steps_of_body}
 use Rattle.journal_model.specs.Reopen.{lists, opened, reopened, LeavesAsOf}
 use Rattle.journal_model.specs.Rest.{AllAside, IsClosed, PutsFrom, IsSettled, IsIdle}
-use Rattle.journal_model.specs.Twice.{IsIn, change_of, AreOf, carried_again, partly_all, part_of, none_yet, carried_from_part, are_push, carried_push, renamed_is, NamesNothing, idle}
-use Rattle.journal_model.specs.Views.{view, image_view, view_image, settled_names, map_carried, gated_view, lists_same, list_not_journal, instead, instead_same, instead_other}
-use Rattle.journal_model.specs.Fine.{AreFine, open_bytes, open_fine}
+use Rattle.journal_model.proofs.Twice.{carried_again, partly_all, part_of, none_yet, carried_from_part, are_push, carried_push, renamed_is, NamesNothing, idle}
+use Rattle.journal_model.proofs.Views.{view, image_view, view_image, settled_names, map_carried, gated_view, lists_same, list_not_journal, instead, instead_same, instead_other}
+use Rattle.journal_model.proofs.Fine.{AreFine, open_bytes, open_fine}
 use Rattle.journal_model.specs.declared.step.Step.{Step}
 use Rattle.journal_model.specs.declared.step.Step.TheVariants.{Put, Drop}
 use Rattle.journal_model.specs.declared.step.Gate.TheVariants.{Open, Shut}

@@ -12,10 +12,10 @@ use Rattle.journal_model.specs.Steps.{moved_at, stepped, carried}
 use Rattle.journal_model.specs.Reading.{gate_of, gate_in}
 use Rattle.journal_model.specs.Reopen.{lists, opened, reopened, lists_now}
 use Rattle.journal_model.specs.Rest.{IsIdle, IsSettled, IsAtRest}
-use Rattle.journal_model.specs.Twice.{with_same, with_other, carried_other}
-use Rattle.journal_model.specs.Views.{apart_names, list_not_aside, list_not_journal, files_same, reads_view, lists_same}
-use Rattle.journal_model.specs.Aside.{idle_quiet, quiet_gate, quiet_view, leads_now}
-use Rattle.journal_model.specs.Fine.{open_bytes, open_fine}
+use Rattle.journal_model.proofs.Twice.{with_same, with_other, carried_other}
+use Rattle.journal_model.proofs.Views.{apart_names, list_not_aside, list_not_journal, files_same, reads_view, lists_same}
+use Rattle.journal_model.proofs.Aside.{idle_quiet, quiet_gate, quiet_view, leads_now}
+use Rattle.journal_model.proofs.Fine.{open_bytes, open_fine}
 use Rattle.journal_model.specs.declared.step.Step.{Step}
 use Rattle.journal_model.specs.declared.step.Step.TheVariants.{Put, Drop}
 use Rattle.journal_model.specs.declared.step.Gate.TheVariants.{Open, Shut}

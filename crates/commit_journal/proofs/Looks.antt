@@ -12,8 +12,8 @@ use Rattle.acq_outside.specs.declared.state.NameChange.{NameChange}
 use Rattle.journal_model.specs.Names.{journal}
 use Rattle.journal_model.specs.Reading.{gate_of, gate_in}
 use Rattle.journal_model.specs.Rest.{AllAside, IsClosed, IsIdle}
-use Rattle.journal_model.specs.Twice.{AreOf}
-use Rattle.journal_model.specs.Views.{settled_names}
+use Rattle.journal_model.specs.Steps.{AreOf}
+use Rattle.journal_model.proofs.Views.{settled_names}
 use Rattle.journal_model.specs.declared.step.Step.{Step}
 use Rattle.journal_model.specs.declared.step.Gate.TheVariants.{Open, Shut}
 use Rattle.commit_journal.specs.Opening.{Recovers}

@@ -12,8 +12,8 @@ use Rattle.acq_outside.specs.declared.state.FileState.{FileState}
 use Rattle.acq_outside.specs.declared.state.NameChange.{NameChange}
 use Rattle.journal_model.specs.Names.{journal, is_list}
 use Rattle.journal_model.specs.Rest.{AllAside, IsClosed, IsIdle, StaysAtRest, KeepsRest, file_named}
-use Rattle.journal_model.specs.Views.{list_not_aside, list_not_journal}
-use Rattle.journal_model.specs.Aside.{idle_quiet, quiet_unrecorded, leads_now, changed_by, first_kept, reads_named}
+use Rattle.journal_model.proofs.Views.{list_not_aside, list_not_journal}
+use Rattle.journal_model.proofs.Aside.{idle_quiet, quiet_unrecorded, leads_now, changed_by, first_kept, reads_named}
 use Rattle.commit_journal.specs.Laying.{IsIdleUnmoved, IsNoted, IsNotedLastingly}
 use Rattle.commit_journal.proofs.Carries.{turned_state, kept_closed}
 use Rattle.commit_journal.proofs.Recovers.{names_recover}

@@ -20,8 +20,8 @@ use Rattle.journal_model.specs.Reading.{gate_of, gate_in, gate_with}
 use Rattle.journal_model.specs.Spelling.{body_of, all_steps}
 use Rattle.journal_model.specs.Reopen.{lists, opened, reopened, Leaves, LeavesEither}
 use Rattle.journal_model.specs.Rest.{IsSettled, IsRecorded, PutsFrom, file_named, bytes_in, part_bytes}
-use Rattle.journal_model.specs.Twice.{AreOf}
-use Rattle.journal_model.specs.Views.{view, view_image, settled_names, lists_same, list_not_journal, partial_aside, apart_names, instead, instead_same, instead_other}
+use Rattle.journal_model.specs.Steps.{AreOf}
+use Rattle.journal_model.proofs.Views.{view, view_image, settled_names, lists_same, list_not_journal, partial_aside, apart_names, instead, instead_same, instead_other}
 use Rattle.journal_model.specs.declared.step.Step.{Step}
 use Rattle.journal_model.specs.declared.step.Gate.TheVariants.{Shut, Open}
 use Rattle.commit_journal.specs.declared.changing.Change.{Change}

@@ -9,8 +9,9 @@ use Rattle.acq_outside.specs.declared.state.NameChange.{NameChange}
 use Rattle.acq_outside.specs.declared.state.NameChange.TheVariants.{Moved, Removed}
 use Rattle.journal_model.specs.Names.{journal, beside}
 use Rattle.journal_model.specs.Rest.{file_named, file_now}
-use Rattle.journal_model.specs.Twice.{IsIn, with_other}
-use Rattle.journal_model.specs.Aside.{IsOn, call_changes, torn_changes, other_file}
+use Rattle.journal_model.proofs.Twice.{with_other}
+use Rattle.journal_model.specs.Steps.{IsIn}
+use Rattle.journal_model.proofs.Aside.{IsOn, call_changes, torn_changes, other_file}
 use Rattle.journal_model.specs.declared.step.Step.{Step}
 use Rattle.journal_model.specs.declared.step.Step.TheVariants.{Put, Drop}
 use Rattle.commit_journal.specs.Opening.{LeavesOthers}

@@ -8,8 +8,8 @@ use Rattle.journal_model.specs.Names.{journal, partial}
 use Rattle.journal_model.specs.Spelling.{body_of, all_steps, AreShort, AreAllowed}
 use Rattle.journal_model.specs.Reopen.{lists}
 use Rattle.journal_model.specs.Rest.{IsIdle, IsSettled, IsAtRest, StaysAtRest, KeepsRest, file_named, part_file, part_bytes, bytes_in}
-use Rattle.journal_model.specs.Resting.{rests}
-use Rattle.journal_model.specs.Views.{apart_names, partial_aside}
+use Rattle.journal_model.proofs.Resting.{rests}
+use Rattle.journal_model.proofs.Views.{apart_names, partial_aside}
 use Rattle.commit_journal.specs.declared.changing.Change.{Change}
 use Rattle.commit_journal.specs.declared.changing.Change.TheVariants.{Put, Drop}
 use Rattle.commit_journal.specs.declared.changing.Content.{Content}

@@ -8,7 +8,7 @@ use Rattle.acq_outside.specs.Disk.{IsName, same_name}
 use Rattle.journal_model.specs.Names.{lock, journal, partial}
 use Rattle.journal_model.specs.Reading.{clashes, is_name_of, is_allowed, most_long, steps_of_body}
 use Rattle.journal_model.specs.Spelling.{body_of, all_steps, AreAllowed, AreShort}
-use Rattle.journal_model.specs.Again.{new_again}
+use Rattle.journal_model.proofs.Again.{new_again}
 use Rattle.journal_model.specs.declared.step.Step.{Step}
 use Rattle.journal_model.specs.declared.step.Step.TheVariants as steps
 use Rattle.commit_journal.specs.declared.changing.Change.{Change}

@@ -12,7 +12,7 @@ use Rattle.acq_outside.specs.declared.state.FileState.{FileState}
 use Rattle.acq_outside.specs.declared.state.NameChange.{NameChange}
 use Rattle.journal_model.specs.Names.{journal, is_aside, is_list}
 use Rattle.journal_model.specs.Rest.{IsRecorded, IsSettled, PutsFrom}
-use Rattle.journal_model.specs.Views.{as_self, as_by_steps, partial_aside, list_not_journal}
+use Rattle.journal_model.proofs.Views.{as_self, as_by_steps, partial_aside, list_not_journal}
 use Rattle.journal_model.specs.declared.step.Step.{Step}
 use Rattle.journal_model.specs.declared.step.Step.TheVariants.{Put, Drop}
 use Rattle.commit_journal.specs.Opening.{Recovers}

@@ -10,11 +10,11 @@ use Rattle.acq_outside.specs.declared.state.FileState.{FileState}
 use Rattle.acq_outside.specs.declared.state.NameChange.{NameChange}
 use Rattle.journal_model.specs.Names.{partial, is_list}
 use Rattle.journal_model.specs.Spelling.{all_steps}
-use Rattle.journal_model.specs.Steps.{moved_at, stepped, carried}
+use Rattle.journal_model.specs.Steps.{moved_at, stepped, carried, Touches}
 use Rattle.journal_model.specs.Reopen.{lists}
 use Rattle.journal_model.specs.Rest.{file_named}
-use Rattle.journal_model.specs.Twice.{Touches, with_same, with_other, step_untouched}
-use Rattle.journal_model.specs.Views.{apart_names, partial_aside, list_not_aside, settled_names}
+use Rattle.journal_model.proofs.Twice.{with_same, with_other, step_untouched}
+use Rattle.journal_model.proofs.Views.{apart_names, partial_aside, list_not_aside, settled_names}
 use Rattle.journal_model.specs.declared.step.Step.{Step}
 use Rattle.commit_journal.specs.declared.changing.Change.{Change}
 use Rattle.commit_journal.specs.declared.changing.Change.TheVariants.{Put, Drop}

@@ -9,8 +9,8 @@ use Rattle.journal_model.specs.Names.{journal, partial}
 use Rattle.journal_model.specs.Spelling.{all_steps}
 use Rattle.journal_model.specs.Reopen.{lists, Leaves, LeavesEither}
 use Rattle.journal_model.specs.Rest.{IsIdle, IsSettled, IsAtRest}
-use Rattle.journal_model.specs.Twice.{IsIn, Touches}
-use Rattle.journal_model.specs.Views.{apart_names, partial_aside}
+use Rattle.journal_model.specs.Steps.{IsIn, Touches}
+use Rattle.journal_model.proofs.Views.{apart_names, partial_aside}
 use Rattle.journal_model.specs.declared.step.Step.{Step}
 use Rattle.commit_journal.specs.declared.changing.Change.{Change}
 use Rattle.commit_journal.specs.declared.changing.Change.TheVariants.{Put, Drop}

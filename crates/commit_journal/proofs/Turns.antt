@@ -6,10 +6,10 @@ use Rattle.acq_outside.specs.Crash.{State, AllSound, Goes}
 use Rattle.acq_outside.specs.Moments.{Stands, Since, From}
 use Rattle.journal_model.specs.Names.{partial}
 use Rattle.journal_model.specs.Reading.{gate_of}
-use Rattle.journal_model.specs.Steps.{stepped, carried}
-use Rattle.journal_model.specs.Twice.{IsIn, carried_push}
-use Rattle.journal_model.specs.Fine.{IsNamedStep, open_fine}
-use Rattle.journal_model.specs.Literals.{partial_named}
+use Rattle.journal_model.specs.Steps.{stepped, carried, IsIn, IsNamedStep}
+use Rattle.journal_model.proofs.Twice.{carried_push}
+use Rattle.journal_model.proofs.Fine.{open_fine}
+use Rattle.journal_model.proofs.Literals.{partial_named}
 use Rattle.journal_model.specs.declared.step.Step.{Step}
 use Rattle.journal_model.specs.declared.step.Gate.{Gate}
 use Rattle.journal_model.specs.declared.step.Gate.TheVariants.{Open, Damaged, Shut}

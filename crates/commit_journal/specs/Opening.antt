@@ -6,7 +6,7 @@ use Rattle.journal_model.specs.Names.{journal, beside}
 use Rattle.journal_model.specs.Reading.{gate_in}
 use Rattle.journal_model.specs.Reopen.{LeavesAsOf}
 use Rattle.journal_model.specs.Rest.{IsSettled, file_now}
-use Rattle.journal_model.specs.Twice.{Touches, IsIn}
+use Rattle.journal_model.specs.Steps.{Touches, IsIn}
 use Rattle.journal_model.specs.declared.step.Step.{Step}
 use Rattle.journal_model.specs.declared.step.Gate.{Gate}
 use Rattle.journal_model.specs.declared.step.Gate.TheVariants.{Open, Damaged, Shut}

@@ -6,12 +6,10 @@ use Rattle.acq_outside.specs.declared.state.FileState.{FileState}
 use Rattle.acq_outside.specs.declared.state.NameChange.TheVariants.{Made}
 use Rattle.acq_outside.specs.declared.change.Change.{Change}
 use Rattle.acq_outside.specs.declared.change.Change.TheVariants.{Rename, Remove}
-use Rattle.journal_model.specs.Fine.{IsNamedStep}
 use Rattle.journal_model.specs.Names.{journal, beside, partial}
-use Rattle.journal_model.specs.Steps.{carried}
+use Rattle.journal_model.specs.Steps.{carried, IsNamedStep, Touches, IsIn, AreOf}
 use Rattle.journal_model.specs.Reading.{gate_of}
-use Rattle.journal_model.specs.Twice.{Touches, IsIn, AreOf}
-use Rattle.journal_model.specs.Aside.{IsQuiet}
+use Rattle.journal_model.specs.Rest.{IsQuiet}
 use Rattle.journal_model.specs.declared.step.Step.{Step}
 use Rattle.journal_model.specs.declared.step.Step.TheVariants.{Put, Drop}
 use Rattle.journal_model.specs.declared.step.Gate.{Gate}

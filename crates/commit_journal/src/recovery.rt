@@ -4,8 +4,7 @@ ghost use Rattle.acq_outside.specs.Stays.{Stays};
 ghost use Rattle.acq_outside.specs.Crash.{Goes};
 ghost use Rattle.acq_outside.specs.Moments.{Stands, Since, From};
 ghost use Rattle.journal_model.specs.Rest.{IsIdle};
-ghost use Rattle.journal_model.specs.Steps.{stepped, carried};
-ghost use Rattle.journal_model.specs.Fine.{IsNamedStep};
+ghost use Rattle.journal_model.specs.Steps.{stepped, carried, IsNamedStep};
 ghost use Rattle.commit_journal.specs.Opening.{Recovers, LeavesOthers};
 ghost use Rattle.commit_journal.specs.Phases.{IsCarrying, IsDone, IsTurned, IsOfCommit, AllNamed, call_of, closed_files};
 

@@ -4,7 +4,7 @@ use Rattle.std.proofs.lemmas.List.{take_all, append-nil}
 use Rattle.journal_model.specs.Reading.{is_allowed}
 use Rattle.journal_model.specs.Spelling.{step_bytes, steps_bytes, group_bytes, groups_bytes, all_steps, AreAllowed, AreShort}
 use Rattle.journal_model.specs.Writing.{IsShortStep, AreShortSteps, AreShortGroups}
-use Rattle.journal_model.specs.Fine.{allowed_short}
+use Rattle.journal_model.proofs.Fine.{allowed_short}
 use Rattle.journal_model.specs.declared.step.Step.{Step}
 use Rattle.journal_model.specs.declared.step.Step.TheVariants.{Put, Drop}
 

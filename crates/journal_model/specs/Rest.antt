@@ -1,17 +1,17 @@
 -- A disk between two commits, and the lists on their way.
 use Rattle.std.specs.Prelude.{◌≡◌, ◌≢◌, ◌⊎◌, ℕ, ◌≤◌, true, nat_lt, if◌then◌else◌, List, [], ◌∷◌, Option, Some, None, option_map}
 use Rattle.acq_outside.specs.Disk.{Files}
-use Rattle.acq_outside.specs.Crash.{State, IsImage, reads, names_of, file_at, synced}
+use Rattle.acq_outside.specs.Crash.{State, IsOutcome, IsImage, reads, names_of, file_at, synced}
 use Rattle.acq_outside.specs.Moments.{From}
 use Rattle.acq_outside.specs.declared.state.FileState.{FileState}
 use Rattle.acq_outside.specs.declared.state.NameChange.{NameChange}
 use Rattle.acq_outside.specs.declared.state.NameChange.TheVariants.{Made, Moved, Removed}
 use Rattle.journal_model.specs.Names.{journal, partial, is_aside, is_list}
-use Rattle.journal_model.specs.Reading.{gate_in}
+use Rattle.journal_model.specs.Reading.{gate_of, gate_in}
 use Rattle.journal_model.specs.Reopen.{Leaves}
 use Rattle.journal_model.specs.declared.step.Step.{Step}
 use Rattle.journal_model.specs.declared.step.Step.TheVariants.{Put, Drop}
-use Rattle.journal_model.specs.declared.step.Gate.TheVariants.{Open}
+use Rattle.journal_model.specs.declared.step.Gate.TheVariants.{Open, Shut}
 
 -- a change of names that changes no list and no journal
 abbrev pub IsAside : NameChange → Type 0
@@ -36,6 +36,11 @@ pub record IsIdle (s : State) : Type 0 where
   pub number : ℕ
   pub leads : s.base journal ≡ Some number
   pub closed : IsClosed (file_at s.files number)
+
+-- no change of a list's name or of the journal's is pending, and a crash leaves no gate open
+pub record IsQuiet (s : State) : Type 0 where
+  pub aside : AllAside s.pending
+  pub shut : (i : ℕ) → s.base journal ≡ Some i → (bytes : List ℕ) → IsOutcome (file_at s.files i) bytes → gate_of bytes ≡ Shut
 
 -- whatever a crash leaves, the journal is there and its gate is 0
 abbrev pub LeavesClosed : State → Type 0

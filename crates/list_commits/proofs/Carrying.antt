@@ -5,7 +5,7 @@ use Rattle.acq_base.specs.declared.plan.Source.{Source}
 use Rattle.acq_outside.specs.Disk.{Files, with_file}
 use Rattle.journal_model.specs.Names.{is_list}
 use Rattle.journal_model.specs.Reopen.{lists}
-use Rattle.journal_model.specs.Twice.{with_other}
+use Rattle.journal_model.proofs.Twice.{with_other}
 use Rattle.update_model.specs.declared.settled.Settled.{Settled}
 use Rattle.commit_journal.specs.declared.changing.Change.{Change}
 use Rattle.commit_journal.specs.Changes.{Filled, PutFile, DropFile, filled, filled_all, folder_step, folder_steps, stepped_all}

@@ -5,7 +5,7 @@ use Rattle.acq_base.specs.Sum.{sum_of}
 use Rattle.acq_base.specs.declared.uri.ListName.{ListName}
 use Rattle.acq_outside.specs.Disk.{Files, with_file}
 use Rattle.journal_model.specs.Names.{is_list}
-use Rattle.journal_model.specs.Twice.{with_same, with_other}
+use Rattle.journal_model.proofs.Twice.{with_same, with_other}
 use Rattle.update_model.specs.Files.{sum_of_body}
 use Rattle.update_model.specs.declared.ask.Body.{Body}
 use Rattle.update_model.specs.declared.ask.Body.TheVariants as bodies

@@ -9,8 +9,8 @@ use Rattle.acq_base.specs.declared.plan.Source.{Source}
 use Rattle.acq_outside.specs.Disk.{Files, same_name, with_file}
 use Rattle.journal_model.specs.Names.{journal, lock, partial, is_aside, is_list}
 use Rattle.journal_model.specs.Reopen.{lists}
-use Rattle.journal_model.specs.Twice.{with_same}
-use Rattle.journal_model.specs.Views.{list_not_aside, partial_aside}
+use Rattle.journal_model.proofs.Twice.{with_same}
+use Rattle.journal_model.proofs.Views.{list_not_aside, partial_aside}
 use Rattle.update_model.specs.Carried.{AreLoose, Does}
 use Rattle.update_model.specs.Next.{CleansUp}
 use Rattle.commit_journal.specs.Changes.{DropFile, filled, folder_step, folder_steps}

@@ -11,9 +11,9 @@ use Rattle.acq_outside.specs.declared.state.FileState.{FileState}
 use Rattle.acq_outside.specs.declared.state.NameChange.TheVariants.{Made}
 use Rattle.journal_model.specs.Names.{partial}
 use Rattle.journal_model.specs.Rest.{IsPartThere, KeepsRest, KeepsOthers, file_named, part_bytes, bytes_in}
-use Rattle.journal_model.specs.Twice.{with_same}
-use Rattle.journal_model.specs.Views.{partial_aside}
-use Rattle.journal_model.specs.Aside.{IsOn, aside_stays, parts_stay}
+use Rattle.journal_model.proofs.Twice.{with_same}
+use Rattle.journal_model.proofs.Views.{partial_aside}
+use Rattle.journal_model.proofs.Aside.{IsOn, aside_stays, parts_stay}
 
 -- ---- one state
 

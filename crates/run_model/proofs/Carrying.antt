@@ -15,7 +15,7 @@ use Rattle.board_model.specs.RunLaws.{IsSourceAt}
 use Rattle.board_model.specs.Runs.{Note}
 use Rattle.commit_journal.specs.Changes.{AreApart, Filled, DropFile, folder_step, folder_steps, stepped_all}
 use Rattle.journal_model.specs.Names.{is_list}
-use Rattle.journal_model.specs.Twice.{with_other}
+use Rattle.journal_model.proofs.Twice.{with_other}
 use Rattle.list_commits.specs.Made.{after_all}
 use Rattle.list_commits.specs.SetLaws.{OwnsChanges}
 use Rattle.run_model.specs.Begun.{Begun}

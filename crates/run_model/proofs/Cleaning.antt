@@ -7,7 +7,7 @@ use Rattle.acq_outside.specs.Disk.{Files, same_name, with_file}
 use Rattle.board_model.specs.Runs.{Note}
 use Rattle.commit_journal.specs.Changes.{DropFile, folder_step, folder_steps}
 use Rattle.journal_model.specs.Names.{is_list}
-use Rattle.journal_model.specs.Twice.{with_same}
+use Rattle.journal_model.proofs.Twice.{with_same}
 use Rattle.update_model.specs.declared.log.RunLog.{RunLog}
 use Rattle.run_model.specs.Begun.{Begun}
 use Rattle.run_model.specs.Groups.{Group, OfSource, OfNone, AreGroups, IsNewSet, all_groups, removed_in}

@@ -1,4 +1,4 @@
-use Rattle.journal_model.specs.Literals.{journal_named}
+use Rattle.journal_model.proofs.Literals.{journal_named}
 use Rattle.journal_model.specs.Spelling.{all_steps}
 use Rattle.commit_journal.specs.Changes.{steps_in}
 use Rattle.commit_journal.proofs.Others.{journal_sync}

@@ -1,6 +1,6 @@
 use Rattle.std.proofs.Common.{subst, sym, ℕ, ◌≤◌, List, [], ◌∷◌, length, IsSomeAnd}
 use Rattle.journal_model.specs.Names.{journal}
-use Rattle.journal_model.specs.Literals.{journal_named}
+use Rattle.journal_model.proofs.Literals.{journal_named}
 use Rattle.journal_model.specs.Spelling.{all_steps}
 use Rattle.acq_outside.specs.declared.change.Change.TheVariants.{Write}
 use Rattle.commit_journal.specs.Changes.{steps_in}

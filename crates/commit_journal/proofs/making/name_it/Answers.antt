@@ -1,4 +1,4 @@
-use Rattle.journal_model.specs.Literals as literals
+use Rattle.journal_model.proofs.Literals as literals
 use Rattle.commit_journal.proofs.Besides.{name_goes}
 use Rattle.std.proofs.Common.{◌≡◌, subst, List, ℕ, OnOk}
 use Rattle.acq_outside.specs.Disk.{after_rename}

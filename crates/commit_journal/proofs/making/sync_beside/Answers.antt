@@ -1,4 +1,4 @@
-use Rattle.journal_model.specs.Literals.{beside_named}
+use Rattle.journal_model.proofs.Literals.{beside_named}
 use Rattle.commit_journal.proofs.Besides.{sync_goes}
 use Rattle.commit_journal.proofs.Others.{beside_sync}
 use Rattle.commit_journal.proofs.making.sync_beside.Goals as goal

@@ -1,4 +1,4 @@
-use Rattle.journal_model.specs.Literals.{beside_named}
+use Rattle.journal_model.proofs.Literals.{beside_named}
 use Rattle.std.proofs.Common.{◌≡◌, subst, sym, ℕ, ◌≤◌, List, [], ◌∷◌, length, IsSomeAnd, OnOk}
 use Rattle.journal_model.specs.Names.{beside}
 use Rattle.commit_journal.specs.Phases.{IsBeside}

@@ -1,5 +1,5 @@
 use Rattle.std.proofs.Common.{[]}
-use Rattle.journal_model.specs.Literals.{journal_named}
+use Rattle.journal_model.proofs.Literals.{journal_named}
 use Rattle.commit_journal.proofs.Others.{journal_sync}
 use Rattle.commit_journal.proofs.Notes.{sync_noted}
 use Rattle.commit_journal.proofs.noting.sync_journal.Goals as goal

@@ -1,7 +1,7 @@
 use Rattle.std.proofs.Common.{[], ◌∷◌, ◌≤◌, List, ℕ, length, subst, sym, IsSomeAnd}
 use Rattle.acq_outside.specs.Disk.{Files}
 use Rattle.journal_model.specs.Names.{journal}
-use Rattle.journal_model.specs.Literals.{journal_named}
+use Rattle.journal_model.proofs.Literals.{journal_named}
 use Rattle.commit_journal.specs.Laying.{IsNoted}
 use Rattle.commit_journal.proofs.Others.{journal_write}
 use Rattle.commit_journal.proofs.Notes.{write_noted, told_in, noted_there}

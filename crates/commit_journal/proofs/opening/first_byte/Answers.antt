@@ -1,4 +1,4 @@
-use Rattle.journal_model.specs.Literals.{journal_named}
+use Rattle.journal_model.proofs.Literals.{journal_named}
 use Rattle.commit_journal.proofs.opening.first_byte.Goals as goal
 
 pub read_at-requires : goal.read_at-requires

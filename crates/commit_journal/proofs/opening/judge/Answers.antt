@@ -1,4 +1,4 @@
-use Rattle.journal_model.specs.Literals.{journal_named}
+use Rattle.journal_model.proofs.Literals.{journal_named}
 use Rattle.commit_journal.proofs.opening.judge.Goals as goal
 
 pub read_whole-requires : goal.read_whole-requires

@@ -1,4 +1,4 @@
-use Rattle.journal_model.specs.Literals.{journal_named}
+use Rattle.journal_model.proofs.Literals.{journal_named}
 use Rattle.commit_journal.proofs.Looks.{lay_journal_goes}
 use Rattle.std.proofs.Common.{[]}
 use Rattle.commit_journal.proofs.Others.{journal_sync}

@@ -1,7 +1,7 @@
 use Rattle.std.proofs.Common.{◌∙◌, subst, sym, arith, Bool, IsTrue}
 use Rattle.std.proofs.lemmas.Result.{MatchResult-at_ok}
 use Rattle.acq_outside.proofs.Framed.{stayed_on}
-use Rattle.journal_model.specs.Fine.{IsNamedStep}
+use Rattle.journal_model.specs.Steps.{IsNamedStep}
 use Rattle.journal_model.specs.declared.step.Step.{Step}
 use Rattle.commit_journal.proofs.Turns.{named_at, turn, step_leaves, all_done, told_turn, told_done}
 use Rattle.commit_journal.proofs.recovery.carry_all.Goals as goal

@@ -1,4 +1,4 @@
-use Rattle.journal_model.specs.Literals.{journal_named}
+use Rattle.journal_model.proofs.Literals.{journal_named}
 use Rattle.commit_journal.proofs.Carries.{close_goes}
 use Rattle.commit_journal.proofs.Others.{journal_sync}
 use Rattle.commit_journal.proofs.recovery.close.Goals as goal

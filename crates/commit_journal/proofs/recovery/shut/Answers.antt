@@ -1,4 +1,4 @@
-use Rattle.journal_model.specs.Literals.{journal_named}
+use Rattle.journal_model.proofs.Literals.{journal_named}
 use Rattle.commit_journal.proofs.Carries.{shut_goes}
 use Rattle.std.proofs.Common.{◌≡◌, subst, List, ℕ, [], ◌∷◌, OnOk}
 use Rattle.acq_outside.specs.Disk.{after_write}

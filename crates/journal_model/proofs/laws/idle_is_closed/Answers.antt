@@ -1,4 +1,4 @@
-use Rattle.journal_model.specs.Resting.{closed, idle_again}
+use Rattle.journal_model.proofs.Resting.{closed, idle_again}
 use Rattle.journal_model.proofs.laws.idle_is_closed.Goals as goal
 
 pub returns-clause-closed : goal.returns-clause-closed

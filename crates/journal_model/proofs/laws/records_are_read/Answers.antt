@@ -1,4 +1,4 @@
-use Rattle.journal_model.specs.Again.{new_again, old_again}
+use Rattle.journal_model.proofs.Again.{new_again, old_again}
 use Rattle.journal_model.proofs.laws.records_are_read.Goals as goal
 
 pub returns-clause-new : goal.returns-clause-new

@@ -9,7 +9,7 @@ use Rattle.sha2.specs.Sha256.{sha256}
 use Rattle.acq_outside.specs.Choice.{AreBytes}
 use Rattle.journal_model.specs.Reading.{◌>>=◌, number_at, kind_at, step_named, is_allowed, name_at, step_at, steps_at, group_at, groups_at, ended, sealed, old_at, new_at, steps_of_body}
 use Rattle.journal_model.specs.Spelling.{name_bytes, step_bytes, steps_bytes, group_bytes, groups_bytes, unsealed, body_of, old_body_of, all_steps, AreAllowed, AreShort, IsOldRecord, IsNewRecord, IsRecord}
-use Rattle.journal_model.specs.Fine.{ok_is, bind_ok}
+use Rattle.journal_model.proofs.Fine.{ok_is, bind_ok}
 use Rattle.journal_model.specs.declared.step.Step.{Step}
 use Rattle.journal_model.specs.declared.step.Step.TheVariants.{Put, Drop}
 

@@ -16,15 +16,10 @@ use Rattle.acq_outside.specs.declared.state.NameChange.TheVariants.{Made}
 use Rattle.journal_model.specs.Names.{journal, partial, is_aside, is_list}
 use Rattle.journal_model.specs.Reading.{gate_of, gate_in}
 use Rattle.journal_model.specs.Reopen.{lists, opened, reopened, LeavesAsOf}
-use Rattle.journal_model.specs.Rest.{AllAside, IsClosed, IsIdle, IsRecorded, IsSettled, StaysAtRest, KeepsOthers, file_named, file_now}
-use Rattle.journal_model.specs.Twice.{with_same, with_other}
-use Rattle.journal_model.specs.Views.{view, image_view, view_image, apart_names, list_not_aside, off_all, part_aside, more_aside, lists_same, instead, instead_same, instead_other}
+use Rattle.journal_model.specs.Rest.{AllAside, IsClosed, IsIdle, IsQuiet, IsRecorded, IsSettled, StaysAtRest, KeepsOthers, file_named, file_now}
+use Rattle.journal_model.proofs.Twice.{with_same, with_other}
+use Rattle.journal_model.proofs.Views.{view, image_view, view_image, apart_names, list_not_aside, off_all, part_aside, more_aside, lists_same, instead, instead_same, instead_other}
 use Rattle.journal_model.specs.declared.step.Gate.TheVariants.{Shut}
-
--- no change of a list's name or of the journal's is pending, and a crash leaves no gate open
-pub record IsQuiet (s : State) : Type 0 where
-  pub aside : AllAside s.pending
-  pub shut : (i : ℕ) → s.base journal ≡ Some i → (bytes : List ℕ) → IsOutcome (file_at s.files i) bytes → gate_of bytes ≡ Shut
 
 pub first_kept : (file : FileState) → IsClosed file → (bytes : List ℕ) → IsOutcome file bytes → (later : List ℕ) × (bytes ≡ 0 ∷ later)
 first_kept file closed [] outcome = absurd (omega (arith, closed.least, outcome.long))

@@ -4,35 +4,15 @@ use Rattle.std.proofs.lemmas.Slice.Eq.{bytes_eq-Decides}
 use Rattle.acq_outside.specs.Disk.{same_name}
 use Rattle.acq_outside.specs.Crash.{Names, moved_name, renamed, all_renamed, IsPart, none, left_out, taken}
 use Rattle.acq_outside.specs.declared.state.NameChange.{NameChange}
-use Rattle.acq_outside.specs.declared.state.NameChange.TheVariants.{Moved, Removed}
 use Rattle.journal_model.specs.Names.{partial}
-use Rattle.journal_model.specs.Steps.{with_at, moved_at, stepped, carried}
+use Rattle.journal_model.specs.Steps.{with_at, moved_at, stepped, carried, Touches, IsIn, change_of, AreOf}
 use Rattle.journal_model.specs.declared.step.Step.{Step}
 use Rattle.journal_model.specs.declared.step.Step.TheVariants.{Put, Drop}
-
--- a step changes this name
-abbrev pub Touches : Step → List ℕ → Type 0
-Touches (Put list) name = (name ≡ list) ⊎ (name ≡ partial list)
-Touches (Drop list) name = name ≡ list
-
-abbrev pub IsIn : Step → List Step → Type 0
-IsIn step [] = ⊥
-IsIn step (other ∷ steps) = (step ≡ other) ⊎ IsIn step steps
 
 -- no two change one name
 abbrev pub Apart : List Step → Type 0
 Apart [] = Unit {0}
 Apart (step ∷ steps) = ((other : Step) (name : List ℕ) → IsIn other steps → Touches step name → Touches other name → ⊥) × Apart steps
-
--- what a step is as a pending change of names
-abbrev pub change_of : Step → NameChange
-change_of (Put list) = Moved (partial list) list
-change_of (Drop list) = Removed list
-
--- each is what one of the steps is
-abbrev pub AreOf : List Step → List NameChange → Type 0
-AreOf steps [] = Unit {0}
-AreOf steps (change ∷ changes) = ((step : Step) × IsIn step steps × (change ≡ change_of step)) × AreOf steps changes
 
 abbrev pub Agree : {A : Type 0} → Step → (List ℕ → Option A) → (List ℕ → Option A) → Type 0
 Agree step a b = (name : List ℕ) → Touches step name → a name ≡ b name

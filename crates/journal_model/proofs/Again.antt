@@ -9,7 +9,7 @@ use Rattle.std.specs.Prelude.{slice_index}
 use Rattle.sha2.specs.Sha256.{sha256, digest_bytes, final_hash, initial_hash_256}
 use Rattle.journal_model.specs.Reading.{number_at, is_allowed, name_at, step_at, steps_at, group_at, groups_at, sealed, old_at, new_at, steps_of_body}
 use Rattle.journal_model.specs.Spelling.{name_bytes, step_bytes, steps_bytes, group_bytes, groups_bytes, unsealed, body_of, old_body_of, all_steps, AreAllowed, AreShort}
-use Rattle.journal_model.specs.Fine.{allowed_short}
+use Rattle.journal_model.proofs.Fine.{allowed_short}
 use Rattle.journal_model.specs.declared.step.Step.{Step}
 use Rattle.journal_model.specs.declared.step.Step.TheVariants.{Put, Drop}
 

@@ -10,15 +10,11 @@ use Rattle.sha2.specs.Sha256.{sha256}
 use Rattle.acq_outside.specs.Disk.{IsName, same_name}
 use Rattle.journal_model.specs.Names.{journal, lock, partial}
 use Rattle.journal_model.specs.Reading.{◌>>=◌, number_at, kind_at, step_named, most_long, clashes, is_name_of, is_allowed, name_at, step_at, steps_at, group_at, groups_at, ended, sealed, old_at, new_at, steps_of_body, gate_with, gate_of}
-use Rattle.journal_model.specs.Twice.{Touches, IsIn, Apart}
+use Rattle.journal_model.proofs.Twice.{Apart}
+use Rattle.journal_model.specs.Steps.{Touches, IsIn, IsNamedStep}
 use Rattle.journal_model.specs.declared.step.Step.{Step}
 use Rattle.journal_model.specs.declared.step.Step.TheVariants.{Put, Drop}
 use Rattle.journal_model.specs.declared.step.Gate.TheVariants.{Open, Shut}
-
--- the names of a step's calls
-abbrev pub IsNamedStep : Step → Type 0
-IsNamedStep (Put name) = IsName name × (length name ≤ 247)
-IsNamedStep (Drop name) = IsName name
 
 pub record AreFine (steps : List Step) : Type 0 where
   pub apart : Apart steps

@@ -11,7 +11,7 @@ use Rattle.journal_model.specs.Steps.{moved_at, stepped, carried}
 use Rattle.journal_model.specs.Reading.{gate_in}
 use Rattle.journal_model.specs.Reopen.{lists, opened, reopened, IsAsOf, LeavesAsOf}
 use Rattle.journal_model.specs.Rest.{IsAside, AllAside}
-use Rattle.journal_model.specs.Twice.{with_other}
+use Rattle.journal_model.proofs.Twice.{with_other}
 use Rattle.journal_model.specs.declared.step.Step.{Step}
 use Rattle.journal_model.specs.declared.step.Step.TheVariants.{Put, Drop}
 use Rattle.journal_model.specs.declared.step.Gate.{Gate}

@@ -8,8 +8,8 @@ use Rattle.acq_outside.specs.declared.state.FileState.{FileState}
 use Rattle.journal_model.specs.Names.{journal}
 use Rattle.journal_model.specs.Reopen.{lists}
 use Rattle.journal_model.specs.Rest.{IsIdle, IsClosed, AllAside, IsSettled, IsAtRest, LeavesClosed}
-use Rattle.journal_model.specs.Views.{view, view_image, list_not_aside, off_all, part_aside, lists_same, reads_view, instead, instead_same, instead_other}
-use Rattle.journal_model.specs.Aside.{idle_quiet, first_kept, quiet_view, leads_now}
+use Rattle.journal_model.proofs.Views.{view, view_image, list_not_aside, off_all, part_aside, lists_same, reads_view, instead, instead_same, instead_other}
+use Rattle.journal_model.proofs.Aside.{idle_quiet, first_kept, quiet_view, leads_now}
 
 pub closed : (s : State) → IsIdle s → LeavesClosed s
 closed s idle image is =
