@@ -10,9 +10,9 @@ use Rattle.acq_outside.specs.declared.change.Change.TheVariants.{Write, Cut, Syn
 use Rattle.acq_outside.specs.declared.state.FileState.{FileState}
 use Rattle.acq_outside.specs.declared.state.NameChange.{NameChange}
 use Rattle.acq_outside.specs.declared.state.NameChange.TheVariants.{Made, Moved, Removed}
-use Rattle.acq_outside.proofs.Outcomes.{only_synced, over, lay, over_is}
-use Rattle.acq_outside.proofs.NamesApart.{part_apart, part_all}
-use Rattle.acq_outside.proofs.Traces.{apart_now}
+use Rattle.acq_outside.specs.Outcomes.{only_synced, over, lay, over_is}
+use Rattle.acq_outside.specs.NamesApart.{part_apart, part_all}
+use Rattle.acq_outside.specs.Traces.{apart_now}
 
 pub none_of_none : (some all : List NameChange) → IsPart some all → all ≡ [] → some ≡ []
 none_of_none some all none is = refl

@@ -1,8 +1,5 @@
 -- Cited by the crates above too: what a crash leaves after a call, what holds at every moment of calls, and the frame of
 -- calls one after another.
-pub mod Outcomes
-pub mod NamesApart
-pub mod Traces
 pub mod Crashes
 pub mod Going
 pub mod Framed

@@ -23,6 +23,11 @@ pub mod MemEtc
 pub mod MemTree
 pub mod History
 pub mod MemDisk
+-- The laws of the disk that may crash: what its trait asks each disk to show, and the proofs for the one in memory, which have
+-- to stand here, since that disk cites them.
+pub mod Outcomes
+pub mod NamesApart
+pub mod Traces
 -- Cited by this crate's own functions and proofs alone.
 pub mod Held
 pub mod Whole

@@ -5,7 +5,7 @@ ghost use Rattle.acq_outside.specs.Moments.{SyncLasts, NamesLast, SyncsShrink, L
 
 /// What reads give may be left by a crash, and in nothing that a crash leaves do two names lead to one file.
 pub fn crash_leaves()
-    ensures frame { (s : State) → IsSound s → IsImage s (reads s) }
+    ensures reads { (s : State) → IsSound s → IsImage s (reads s) }
     ensures apart { (s : State) → IsSound s → LeavesApart s }
 {}
 

@@ -1,5 +1,5 @@
 //! The lists folder, as the rest of the program asks for it.
-ghost use Rattle.std.specs.Prelude.{◌≡◌, ℕ, ◌<◌, ◌≤◌, ◌^◌, [], Bool, All, List, IsTrue, length, Option, IfOk, OnOk, OnErr, IsErrOf, IfSome, IsSomeAnd, option_map, unwrap_or};
+ghost use Rattle.std.specs.Prelude.{◌≡◌, ℕ, ◌<◌, ◌≤◌, ◌^◌, [], Bool, All, List, IsTrue, length, Option, IfOk, OnOk, OnErr, IsSomeAnd, option_map, unwrap_or};
 ghost use Rattle.acq_outside.specs.Crash.{State, Goes, AllSound, IsShown};
 ghost use Rattle.acq_outside.specs.Disk.{Files, IsName, IsNames, IsRead, IsTornWrite, IsTornCut, IsDoneOrNot, after_write, after_cut, after_rename, after_remove};
 ghost use Rattle.acq_outside.specs.Frame.{CountsOnly, StaysBy, ReadsBy, ReadsCountingBy};

@@ -20,7 +20,7 @@ pub struct MemDisk {
 }
 
 impl MemDisk {
-    ghost use Rattle.std.specs.Prelude.{◌≡◌, ◌≤◌, ◌↔◌, [], false, IsTrue, IfOk, OnOk, OnErr, MatchResult};
+    ghost use Rattle.std.specs.Prelude.{◌≡◌, ◌↔◌, [], false, IsTrue, IfOk, OnOk, OnErr, MatchResult};
     ghost use Rattle.acq_outside.specs.Choice.{image_of};
     ghost use Rattle.acq_outside.specs.Frame.{Counts};
     ghost use Rattle.acq_outside.specs.Crash.{newest, trace_of};

@@ -1,5 +1,5 @@
 //! A file of any disk, written or read as a whole by the calls of its trait alone.
-ghost use Rattle.std.specs.Prelude.{◌≡◌, ◌≢◌, ℕ, ◌+◌, ◌<◌, ◌≤◌, ◌^◌, List, [], length, Some, IfOk, OnOk, OnErr, IsErrOf, IsTrue, unwrap_or};
+ghost use Rattle.std.specs.Prelude.{◌≡◌, ◌≢◌, ℕ, ◌+◌, ◌<◌, ◌≤◌, ◌^◌, List, [], length, Some, IfOk, OnOk, IsTrue, unwrap_or};
 ghost use Rattle.acq_outside.specs.Stays.{ReadsCounting, Stays};
 ghost use Rattle.acq_outside.specs.Disk.{IsName, with_file};
 ghost use Rattle.acq_outside.specs.Whole.{GrowsTo};

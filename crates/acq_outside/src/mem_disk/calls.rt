@@ -12,13 +12,14 @@ use std::alloc::Global;
 const MOST_NAMES: usize = 2_147_483_648;
 
 impl Disk for MemDisk {
-    ghost use Rattle.std.specs.Prelude.{◌≡◌, ◌≤◌, ◌<◌, ◌^◌, ℕ, [], Bool, true, false, length, All, IsTrue, IsErrOf, IsOkUnless, Ok, Err, IfOk, OnOk, OnErr, IsSomeAnd, if◌then◌else◌, option_map, unwrap_or};
+    ghost use Rattle.std.specs.Prelude.{◌≡◌, ◌≤◌, ◌<◌, ◌^◌, [], true, false, length, All, IsTrue, IsOkUnless, Ok, Err, IfOk, OnOk, OnErr, IsSomeAnd, if◌then◌else◌, option_map, unwrap_or};
     ghost use Rattle.acq_outside.specs.Crash.{Goes, trace_of};
     ghost use Rattle.acq_outside.specs.Disk.{IsName, IsNames, IsRead, IsTornWrite, IsTornCut, IsDoneOrNot, after_write, after_cut, after_rename, after_remove};
     ghost use Rattle.acq_outside.specs.Failing.{is_listed, counted, FailsAsListed, FailsDryAlone};
     ghost use Rattle.acq_outside.specs.Frame.{CountsOnly, StaysBy, ReadsBy, ReadsCountingBy};
     ghost use Rattle.acq_outside.specs.History.{files_of, changed};
-    ghost use Rattle.acq_outside.specs.MemDisk.{past_of, failing_of, faults_of, files_in, trace_in, trace_sound, trace_shown, held_of, times_held};
+    ghost use Rattle.acq_outside.specs.Traces.{trace_sound, trace_shown};
+    ghost use Rattle.acq_outside.specs.MemDisk.{past_of, failing_of, faults_of, files_in, trace_in, held_of, times_held};
 
     ghost faults = { faults_of };
 

@@ -6,7 +6,7 @@ use Rattle.acq_outside.proofs.whole.read_through.Given as goal
 abbrev pub invariant-loop-content : goal.invariant-loop-content
 invariant-loop-content g l =
     record {
-      reads : HasRead g.D.Disk l.fn.disk l.disk;
+      frame : HasRead g.D.Disk l.fn.disk l.disk;
       room : 1 ≤ length l.piece;
       front : IsTrue (g.D.Disk.tells l.fn.disk) → l.content.items ≡ take (length l.content.items) (unwrap_or (g.D.Disk.files l.fn.disk l.name) []);
     }

@@ -12,8 +12,8 @@ use Rattle.acq_outside.specs.declared.state.NameChange.{NameChange}
 use Rattle.acq_outside.specs.declared.state.NameChange.TheVariants.{Made, Moved, Removed}
 use Rattle.acq_outside.specs.declared.change.Change.{Change}
 use Rattle.acq_outside.specs.declared.change.Change.TheVariants.{Write, Cut, Sync, Rename, Remove, SyncNames}
-use Rattle.acq_outside.proofs.Outcomes.{synced_outcome, written_outcome, cut_outcome}
-use Rattle.acq_outside.proofs.NamesApart.{part_apart, part_all, ascends_make, ascends_move, ascends_gone}
+use Rattle.acq_outside.specs.Outcomes.{synced_outcome, written_outcome, cut_outcome}
+use Rattle.acq_outside.specs.NamesApart.{part_apart, part_all, ascends_make, ascends_move, ascends_gone}
 
 same-at : (files : Files) (name other : List ℕ) (content : Option (List ℕ)) → files name ≡ content → (b : Bool) → same_name name other ≡ b → (if b then content else files other) ≡ files other
 same-at files name other content is true same = sym is ∙ ap files ((bytes_eq-Decides name other).0 same)
