@@ -1,5 +1,5 @@
 -- What a connection in memory shows.
-use Rattle.std.specs.Prelude.{◌≡◌, ℕ, ◌==◌, Bool, false, if◌then◌else◌, List, [], ◌∷◌, IsTrue, Result, IsErr, MatchResult}
+use Rattle.std.specs.Prelude.{◌≡◌, ℕ, ◌==◌, Bool, false, if◌then◌else◌, List, [], ◌∷◌, Option, Some, IsTrue, Result, IsErr, MatchResult}
 use Rattle.std.specs.List.{flat_map, list_any}
 use Rattle.acq_outside.specs.Count.{one_more}
 use Rattle.acq_net.specs.Talk.{Talk, is_none}
@@ -17,9 +17,17 @@ talk_of link = said link.talk
 abbrev pub former_of : ScriptLink → Talk
 former_of link = said link.former
 
+-- it tells that
+abbrev pub told_former : ScriptLink → Option Talk
+told_former link = Some (former_of link)
+
 -- how its calls went, and which are to fail
 abbrev pub calls_of : ScriptLink → Calls
 calls_of link = link.calls
+
+-- how often it failed
+abbrev pub faults_of : ScriptLink → ℕ
+faults_of link = link.calls.faults
 
 abbrev pub made_of : ScriptLink → ℕ
 made_of link = link.made

@@ -3,6 +3,7 @@ ghost use Rattle.std.specs.Prelude.{◌≡◌, ◌≢◌, ℕ, ◌<◌, ◌≤�
 ghost use Rattle.acq_outside.specs.Count.{Rose};
 ghost use Rattle.acq_base.specs.Mirror.{World};
 ghost use Rattle.acq_net.specs.Due.{Came, Due, Owes, fresh};
+ghost use Rattle.acq_net.specs.LinkFrame.{LeavesBy, ListensBy, OpensBy, SaysBy};
 ghost use Rattle.acq_net.specs.Talk.{ReceivesPart, SendsPart, Talk, receives, sends, silent};
 
 use acq_base::Text;
@@ -36,38 +37,27 @@ pub trait Link: Drop {
 
     /// Opens a connection to a host's port. A former one is closed first.
     fn connect(&mut self, host: &Text, port: u16) -> Result<(), Fault>
-        ensures count { faults self.old ≤ faults self.new }
-        ensures fault { OnErr result (Rose (faults self.old) (faults self.new)) }
-        ensures quiet { OnOk result (faults self.new ≡ faults self.old) }
+        ensures frame { OpensBy faults ends world self.old self.new result }
+
         ensures made { Rose (made self.old) (made self.new) }
         ensures made_count { made self.old ≤ made self.new }
-        ensures ends { ends self.new ≡ ends self.old }
         ensures fresh { talk self.new ≡ option_map (λ _. silent) (talk self.old) }
         ensures former { former self.new ≡ talk self.old }
-        ensures same { world self.new ≡ world self.old }
         ensures due { OnOk result (IfSome (world self.old) (λ _. due self.new ≡ Some (fresh host.now port))) };
 
     /// Sends all of these bytes.
     fn send(&mut self, bytes: &[u8]) -> Result<(), Fault>
-        ensures count { faults self.old ≤ faults self.new }
-        ensures fault { OnErr result (Rose (faults self.old) (faults self.new)) }
-        ensures quiet { OnOk result (faults self.new ≡ faults self.old) }
-        ensures made { made self.new ≡ made self.old }
-        ensures ends { ends self.new ≡ ends self.old }
+        ensures frame { SaysBy faults made ends former world self.old self.new result }
         ensures sent { OnOk result (talk self.new ≡ option_map (sends bytes.now) (talk self.old)) }
         ensures part { OnErr result (SendsPart bytes.now (talk self.old) (talk self.new)) }
-        ensures former { former self.new ≡ former self.old }
-        ensures same { world self.new ≡ world self.old }
         ensures owes { OnOk result (IfSome (world self.old) (λ entries. Owes entries bytes.now (due self.old) (due self.new))) };
 
     /// Receives bytes into the front of `out` and answers how many: 0 only where the peer has ended.
     fn receive(&mut self, out: &mut [u8]) -> Result<usize, Fault>
         requires { 0 < length out.old }
-        ensures count { faults self.old ≤ faults self.new }
-        ensures fault { OnErr result (Rose (faults self.old) (faults self.new)) }
-        ensures quiet { OnOk result (faults self.new ≡ faults self.old) }
-        ensures made { made self.new ≡ made self.old }
-        ensures ends_count { ends self.old ≤ ends self.new }
+
+        ensures frame { ListensBy faults made ends former world self.old self.new result }
+
         ensures ends { IfOk result (λ n. n ≡ 0 → Rose (ends self.old) (ends self.new)) }
         ensures goes_on { IfOk result (λ n. n ≢ 0 → ends self.new ≡ ends self.old) }
         ensures failed { OnErr result (ends self.new ≡ ends self.old) }
@@ -75,17 +65,9 @@ pub trait Link: Drop {
         ensures room { length out.new ≡ length out.old }
         ensures received { IfOk result (λ n. talk self.new ≡ option_map (receives (take n out.new)) (talk self.old)) }
         ensures part { OnErr result (ReceivesPart (talk self.old) (talk self.new)) }
-        ensures former { former self.new ≡ former self.old }
-        ensures same { world self.new ≡ world self.old }
         ensures came { IfOk result (λ n. IfSome (due self.old) (λ one. Came (take n out.new) one (due self.new))) };
 
     /// Closes the connection, if there is one. What was said on it stays as it was.
     fn close(&mut self)
-        ensures faults { faults self.new ≡ faults self.old }
-        ensures made { made self.new ≡ made self.old }
-        ensures ends { ends self.new ≡ ends self.old }
-        ensures talk { talk self.new ≡ talk self.old }
-        ensures former { former self.new ≡ former self.old }
-        ensures same { world self.new ≡ world self.old }
-        ensures due { due self.new ≡ due self.old };
+        ensures frame { LeavesBy faults made ends talk former world due self.old self.new };
 }

@@ -20,17 +20,16 @@ struct Calls {
 }
 
 impl Calls {
-    ghost use Rattle.std.specs.Prelude.{◌≡◌, ◌≤◌, OnErr, OnOk, is_err};
+    ghost use Rattle.std.specs.Prelude.{◌≡◌, ◌≤◌, is_err};
     ghost use Rattle.acq_outside.specs.Count.{Rose};
+    ghost use Rattle.acq_outside.specs.Frame.{Counts};
     ghost use Rattle.acq_net.specs.ScriptLink.{counted, is_listed, starved};
 
     /// Counts a call, which is a fault exactly where its number is listed.
     fn call(&mut self) -> Result<(), Fault>
         ensures answer { is_err result ≡ is_listed self.old }
         ensures after { self.new ≡ counted self.old }
-        ensures count { self.old.faults ≤ self.new.faults }
-        ensures fault { OnErr result (Rose self.old.faults self.new.faults) }
-        ensures quiet { OnOk result (self.new.faults ≡ self.old.faults) }
+        ensures frame { Counts self.old.faults self.new.faults result }
     {
         self.made = self.made.saturating_add(1);
         if self.listed.as_slice().contains(&self.made) {
@@ -182,11 +181,12 @@ impl ScriptLink {
 impl Link for ScriptLink {
     ghost use Rattle.std.specs.Prelude.{◌≡◌, ◌≢◌, ◌<◌, ◌≤◌, ◌++◌, [], length, min, take, None, Some, IfOk, OnOk, OnErr, is_err};
     ghost use Rattle.acq_outside.specs.Count.{Rose};
+    ghost use Rattle.acq_net.specs.LinkFrame.{ListensBy, OpensBy, SaysBy};
     ghost use Rattle.acq_net.specs.Talk.{ReceivesPart, SendsPart, receives, sends, silent};
-    ghost use Rattle.acq_net.specs.ScriptLink.{talk_of, former_of, made_of, ends_of, calls_of, to_come, waiting, bytes_of, first_of, later_of};
+    ghost use Rattle.acq_net.specs.ScriptLink.{talk_of, former_of, told_former, made_of, ends_of, calls_of, faults_of, to_come, waiting, bytes_of, first_of, later_of};
     ghost use Rattle.acq_net.specs.ScriptLink.{FailsAsListed, FailsDryAlone, counted, is_listed, next_piece};
 
-    ghost faults = { λ link. (calls_of link).faults };
+    ghost faults = { faults_of };
 
     ghost made = { made_of };
 
@@ -194,19 +194,17 @@ impl Link for ScriptLink {
 
     ghost talk = { λ link. Some (talk_of link) };
 
-    ghost former = { λ link. Some (former_of link) };
+    ghost former = { told_former };
 
     ghost world = { λ _. None };
 
     ghost due = { λ _. None };
 
     fn connect(&mut self, _host: &Text, _port: u16) -> Result<(), Fault>
-        ensures count { (calls_of self.old).faults ≤ (calls_of self.new).faults }
-        ensures fault { OnErr result (Rose (calls_of self.old).faults (calls_of self.new).faults) }
-        ensures quiet { OnOk result ((calls_of self.new).faults ≡ (calls_of self.old).faults) }
+        ensures frame { OpensBy faults_of ends_of (λ _. None) self.old self.new result }
+
         ensures made { Rose (made_of self.old) (made_of self.new) }
         ensures made_count { made_of self.old ≤ made_of self.new }
-        ensures ends { ends_of self.new ≡ ends_of self.old }
         ensures fresh { Some (talk_of self.new) ≡ Some silent }
         ensures former { Some (former_of self.new) ≡ Some (talk_of self.old) }
 
@@ -223,14 +221,9 @@ impl Link for ScriptLink {
     }
 
     fn send(&mut self, bytes: &[u8]) -> Result<(), Fault>
-        ensures count { (calls_of self.old).faults ≤ (calls_of self.new).faults }
-        ensures fault { OnErr result (Rose (calls_of self.old).faults (calls_of self.new).faults) }
-        ensures quiet { OnOk result ((calls_of self.new).faults ≡ (calls_of self.old).faults) }
-        ensures made { made_of self.new ≡ made_of self.old }
-        ensures ends { ends_of self.new ≡ ends_of self.old }
+        ensures frame { SaysBy faults_of made_of ends_of told_former (λ _. None) self.old self.new result }
         ensures sent { OnOk result (Some (talk_of self.new) ≡ Some (sends bytes.now (talk_of self.old))) }
         ensures part { OnErr result (SendsPart bytes.now (Some (talk_of self.old)) (Some (talk_of self.new))) }
-        ensures former { Some (former_of self.new) ≡ Some (former_of self.old) }
 
         // A listed call fails, and another one for want of memory alone.
         ensures to_come { to_come self.new ≡ to_come self.old }
@@ -247,11 +240,9 @@ impl Link for ScriptLink {
 
     fn receive(&mut self, out: &mut [u8]) -> Result<usize, Fault>
         requires { 0 < length out.old }
-        ensures count { (calls_of self.old).faults ≤ (calls_of self.new).faults }
-        ensures fault { OnErr result (Rose (calls_of self.old).faults (calls_of self.new).faults) }
-        ensures quiet { OnOk result ((calls_of self.new).faults ≡ (calls_of self.old).faults) }
-        ensures made { made_of self.new ≡ made_of self.old }
-        ensures ends_count { ends_of self.old ≤ ends_of self.new }
+
+        ensures frame { ListensBy faults_of made_of ends_of told_former (λ _. None) self.old self.new result }
+
         ensures ends { IfOk result (λ n. n ≡ 0 → Rose (ends_of self.old) (ends_of self.new)) }
         ensures goes_on { IfOk result (λ n. n ≢ 0 → ends_of self.new ≡ ends_of self.old) }
         ensures failed { OnErr result (ends_of self.new ≡ ends_of self.old) }
@@ -259,7 +250,6 @@ impl Link for ScriptLink {
         ensures room { length out.new ≡ length out.old }
         ensures received { IfOk result (λ n. Some (talk_of self.new) ≡ Some (receives (take n out.new) (talk_of self.old))) }
         ensures part { OnErr result (ReceivesPart (Some (talk_of self.old)) (Some (talk_of self.new))) }
-        ensures former { Some (former_of self.new) ≡ Some (former_of self.old) }
 
         // The bytes come in order, as many of one piece as there is room for, and the end behind the last of them. A listed
         // call fails, and another one for want of memory alone.

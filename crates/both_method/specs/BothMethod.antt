@@ -59,6 +59,10 @@ pub record IsTheirs (their_before their_after : ℕ) (world : Option World) (fet
   pub same : word ≡ own_word before after their
   pub counted : after ≡ own_count before their
 
+-- how often it failed
+abbrev pub faults_of : {F H : Type 0} → BothState F H → ℕ
+faults_of method = method.faults
+
 -- ---- over the two methods
 
 -- the mirror that is told

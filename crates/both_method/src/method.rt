@@ -48,13 +48,14 @@ impl<F: Method, H: Method> BothMethod<F, H> {
 }
 
 impl<F: Method, H: Method> Method for BothMethod<F, H> {
-    ghost use Rattle.std.specs.Prelude.{◌≡◌, ◌≤◌, IfSome, IsSome, Some};
+    ghost use Rattle.std.specs.Prelude.{◌≡◌, IfSome, IsSome, Some};
     ghost use Rattle.acq_base.specs.declared.uri.Scheme.TheVariants.{File, Http};
     ghost use Rattle.acq_base.specs.Uri.{IsSound};
+    ghost use Rattle.acq_outside.specs.Frame.{FetchesBy};
     ghost use Rattle.acq_outside.specs.Word.{CanBegin, IsSoundWord, begun};
-    ghost use Rattle.both_method.specs.BothMethod.{IsBothWord, IsFilesWord, IsPeersWord, fetch_of, world_of};
+    ghost use Rattle.both_method.specs.BothMethod.{IsBothWord, IsFilesWord, IsPeersWord, faults_of, fetch_of, world_of};
 
-    ghost faults = { λ method. method.faults };
+    ghost faults = { faults_of };
 
     ghost world = { world_of F.Method H.Method };
 
@@ -69,8 +70,9 @@ impl<F: Method, H: Method> Method for BothMethod<F, H> {
     fn begin(&mut self, alloc: Global, job: &Job) -> Word
         requires sound { IsSound job.now.uri }
         requires from { CanBegin job.now }
-        ensures count { self.old.faults ≤ self.new.faults }
-        ensures same { world_of F.Method H.Method self.new ≡ world_of F.Method H.Method self.old }
+
+        ensures frame { FetchesBy faults_of (world_of F.Method H.Method) self.old self.new }
+
         ensures sound { IsSoundWord result }
         ensures word { IsBothWord F.Method H.Method self.old self.new (begun job.now) result }
         ensures turn { self.new.turn ≡ Some job.now.uri.scheme }
@@ -94,8 +96,9 @@ impl<F: Method, H: Method> Method for BothMethod<F, H> {
 
     fn more(&mut self, alloc: Global) -> Word
         requires { IsSome (fetch_of F.Method H.Method self.old) }
-        ensures count { self.old.faults ≤ self.new.faults }
-        ensures same { world_of F.Method H.Method self.new ≡ world_of F.Method H.Method self.old }
+
+        ensures frame { FetchesBy faults_of (world_of F.Method H.Method) self.old self.new }
+
         ensures sound { IsSoundWord result }
         ensures word { IfSome (fetch_of F.Method H.Method self.old) (λ fetch. IsBothWord F.Method H.Method self.old self.new fetch result) }
         ensures turn { self.new.turn ≡ self.old.turn }

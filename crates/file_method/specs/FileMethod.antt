@@ -3,7 +3,9 @@ use Rattle.std.specs.Prelude.{◌≡◌, ◌⊎◌, ℕ, ◌<◌, ◌≤◌, len
 use Rattle.acq_base.specs.Mirror.{World}
 use Rattle.acq_base.specs.declared.fetch.Reply.TheVariants as replies
 use Rattle.acq_outside.specs.Count.{Rose}
+use Rattle.acq_outside.specs.Frame.{FetchesBy}
 use Rattle.acq_outside.specs.Tree.{TreeFiles, file_at}
+use Rattle.acq_outside.specs.declared.tree.Tree.{Ghosts}
 use Rattle.acq_outside.specs.declared.word.Fetch.{Fetch}
 use Rattle.acq_outside.specs.declared.word.Word.{Word}
 use Rattle.acq_outside.specs.declared.word.Word.TheVariants.{Piece, Done, Other}
@@ -40,3 +42,20 @@ CountsFault before after (Other (replies.Absent status)) = after ≡ before
 CountsFault before after (Other replies.TooBig) = after ≡ before
 CountsFault before after (Other (replies.Garbled at)) = after ≡ before
 CountsFault before after (Other replies.NoMemory) = after ≡ before
+
+-- how often it failed
+abbrev pub faults_of : {T : Type 0} → FileState T → ℕ
+faults_of method = method.faults
+
+-- the mirror that it tells
+abbrev pub told_mirror : {T : Type 0} → Ghosts T → FileState T → Option World
+told_mirror g method = world_of (g.files method.tree)
+
+-- The frame of a call: that of any method; and the tree's files stay, its count never falls, and it rose exactly where the
+-- word is a fault.
+pub record FetchesOver {T : Type 0} (g : Ghosts T) (old new : FileState T) (word : Word) : Type 0 where
+  pub fetches : FetchesBy faults_of (told_mirror g) old new
+  pub open fetches use *
+  pub files : g.files new.tree ≡ g.files old.tree
+  pub tree_count : g.faults old.tree ≤ g.faults new.tree
+  pub tree_fault : CountsFault (g.faults old.tree) (g.faults new.tree) word

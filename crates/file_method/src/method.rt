@@ -35,7 +35,7 @@ impl<T: Tree> FileMethod<T> {
     ghost use Rattle.acq_outside.specs.Count.{one_more};
     ghost use Rattle.acq_outside.specs.Tree.{file_at};
     ghost use Rattle.acq_outside.specs.Word.{CanBegin, IsSoundWord, IsWord, after_word, begun};
-    ghost use Rattle.file_method.specs.FileMethod.{CountsFault, IsFetchOf, world_of};
+    ghost use Rattle.file_method.specs.FileMethod.{FetchesOver, IsFetchOf, world_of};
 
     /// A method over this tree. No fetch is under way.
     pub fn new(tree: T) -> FileMethod<T>
@@ -71,10 +71,7 @@ impl<T: Tree> FileMethod<T> {
         requires from { CanBegin job.now }
         requires file { job.now.uri.scheme ≡ File }
         requires idle { self.old.under ≡ None }
-        ensures files { T.files self.new.tree ≡ T.files self.old.tree }
-        ensures tree_count { T.faults self.old.tree ≤ T.faults self.new.tree }
-        ensures tree_fault { CountsFault (T.faults self.old.tree) (T.faults self.new.tree) result }
-        ensures count { self.old.faults ≤ self.new.faults }
+        ensures frame { FetchesOver T.Tree self.old self.new result }
         ensures sound { IsSoundWord result }
         ensures word { IsWord self.old.faults self.new.faults (world_of (T.files self.old.tree)) (begun job.now) self.new.under result }
     {
@@ -92,10 +89,7 @@ impl<T: Tree> FileMethod<T> {
         requires file { job.now.uri.scheme ≡ File }
         requires idle { self.old.under ≡ None }
         requires told { IfSome (T.files self.old.tree) (λ all. option_map length (file_at all job.now.uri.path) ≡ Some size) }
-        ensures files { T.files self.new.tree ≡ T.files self.old.tree }
-        ensures tree_count { T.faults self.old.tree ≤ T.faults self.new.tree }
-        ensures tree_fault { CountsFault (T.faults self.old.tree) (T.faults self.new.tree) result }
-        ensures count { self.old.faults ≤ self.new.faults }
+        ensures frame { FetchesOver T.Tree self.old self.new result }
         ensures sound { IsSoundWord result }
         ensures word { IsWord self.old.faults self.new.faults (world_of (T.files self.old.tree)) (begun job.now) self.new.under result }
     {
@@ -119,10 +113,7 @@ impl<T: Tree> FileMethod<T> {
     fn go_on(&mut self, alloc: Global, fetch: Fetch) -> Word
         requires fetch { IsFetchOf (T.files self.old.tree) self.old.size fetch }
         requires idle { self.old.under ≡ None }
-        ensures files { T.files self.new.tree ≡ T.files self.old.tree }
-        ensures tree_count { T.faults self.old.tree ≤ T.faults self.new.tree }
-        ensures tree_fault { CountsFault (T.faults self.old.tree) (T.faults self.new.tree) result }
-        ensures count { self.old.faults ≤ self.new.faults }
+        ensures frame { FetchesOver T.Tree self.old self.new result }
         ensures sound { IsSoundWord result }
         ensures word { IsWord self.old.faults self.new.faults (world_of (T.files self.old.tree)) fetch self.new.under result }
     {
@@ -135,11 +126,8 @@ impl<T: Tree> FileMethod<T> {
     fn next_word(&mut self, alloc: Global, fetch: &Fetch) -> Word
         requires fetch { IsFetchOf (T.files self.old.tree) self.old.size fetch.now }
         requires idle { self.old.under ≡ None }
-        ensures files { T.files self.new.tree ≡ T.files self.old.tree }
+        ensures frame { FetchesOver T.Tree self.old self.new result }
         ensures size { self.new.size ≡ self.old.size }
-        ensures tree_count { T.faults self.old.tree ≤ T.faults self.new.tree }
-        ensures tree_fault { CountsFault (T.faults self.old.tree) (T.faults self.new.tree) result }
-        ensures count { self.old.faults ≤ self.new.faults }
         ensures sound { IsSoundWord result }
         ensures within { IfSome (after_word fetch.now result) (λ later. later.at ≤ self.old.size) }
         ensures word { IsWord self.old.faults self.new.faults (world_of (T.files self.old.tree)) fetch.now (after_word fetch.now result) result }
@@ -155,15 +143,15 @@ impl<T: Tree> FileMethod<T> {
 }
 
 impl<T: Tree> Method for FileMethod<T> {
-    ghost use Rattle.std.specs.Prelude.{◌≡◌, ◌≤◌, IfSome, IsSome};
+    ghost use Rattle.std.specs.Prelude.{◌≡◌, IfSome, IsSome};
     ghost use Rattle.acq_base.specs.declared.uri.Scheme.TheVariants.{Http};
     ghost use Rattle.acq_base.specs.Uri.{IsSound};
     ghost use Rattle.acq_outside.specs.Word.{CanBegin, IsSoundWord, IsWord, begun};
-    ghost use Rattle.file_method.specs.FileMethod.{CountsFault, world_of};
+    ghost use Rattle.file_method.specs.FileMethod.{FetchesOver, faults_of, told_mirror, world_of};
 
-    ghost faults = { λ method. method.faults };
+    ghost faults = { faults_of };
 
-    ghost world = { λ method. world_of (T.files method.tree) };
+    ghost world = { told_mirror T.Tree };
 
     ghost under = { λ method. method.under };
 
@@ -177,13 +165,9 @@ impl<T: Tree> Method for FileMethod<T> {
     fn begin(&mut self, alloc: Global, job: &Job) -> Word
         requires sound { IsSound job.now.uri }
         requires from { CanBegin job.now }
-        ensures count { self.old.faults ≤ self.new.faults }
-        ensures same { world_of (T.files self.new.tree) ≡ world_of (T.files self.old.tree) }
+        ensures frame { FetchesOver T.Tree self.old self.new result }
         ensures sound { IsSoundWord result }
         ensures word { IsWord self.old.faults self.new.faults (world_of (T.files self.old.tree)) (begun job.now) self.new.under result }
-        ensures files { T.files self.new.tree ≡ T.files self.old.tree }
-        ensures tree_count { T.faults self.old.tree ≤ T.faults self.new.tree }
-        ensures tree_fault { CountsFault (T.faults self.old.tree) (T.faults self.new.tree) result }
         ensures elsewhere { job.now.uri.scheme ≡ Http → (result ≡ Word.Other (Reply.Absent 404)) × (self.new.tree ≡ self.old.tree) }
     {
         self.under = None;
@@ -195,13 +179,9 @@ impl<T: Tree> Method for FileMethod<T> {
 
     fn more(&mut self, alloc: Global) -> Word
         requires { IsSome self.old.under }
-        ensures count { self.old.faults ≤ self.new.faults }
-        ensures same { world_of (T.files self.new.tree) ≡ world_of (T.files self.old.tree) }
+        ensures frame { FetchesOver T.Tree self.old self.new result }
         ensures sound { IsSoundWord result }
         ensures word { IfSome self.old.under (λ fetch. IsWord self.old.faults self.new.faults (world_of (T.files self.old.tree)) fetch self.new.under result) }
-        ensures files { T.files self.new.tree ≡ T.files self.old.tree }
-        ensures tree_count { T.faults self.old.tree ≤ T.faults self.new.tree }
-        ensures tree_fault { CountsFault (T.faults self.old.tree) (T.faults self.new.tree) result }
     {
         let Some(fetch) = self.under.take() else {
             unreachable!()

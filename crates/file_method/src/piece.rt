@@ -1,6 +1,6 @@
 //! One piece of a file, read from any tree.
-ghost use Rattle.std.specs.Prelude.{◌≡◌, ◌≤◌, IfOk, IfSome, IsErrOf, OnOk, length};
-ghost use Rattle.acq_outside.specs.Count.{Rose};
+ghost use Rattle.std.specs.Prelude.{◌≡◌, ◌≤◌, IfOk, IfSome, length};
+ghost use Rattle.acq_outside.specs.Frame.{LooksCountingBy};
 ghost use Rattle.acq_outside.specs.Tree.{file_at};
 ghost use Rattle.file_method.specs.Piece.{IsPart, word_of};
 
@@ -21,11 +21,7 @@ pub fn read_piece<T: Tree>(
     at: u64,
     most: u64,
 ) -> Result<Bytes, OutError>
-    ensures count { T.faults tree.old ≤ T.faults tree.new }
-    ensures fault { IsErrOf result OutError.Fault → Rose (T.faults tree.old) (T.faults tree.new) }
-    ensures quiet { OnOk result (T.faults tree.new ≡ T.faults tree.old) }
-    ensures dry { IsErrOf result OutError.NoMemory → T.faults tree.new ≡ T.faults tree.old }
-    ensures same { T.files tree.new ≡ T.files tree.old }
+    ensures frame { LooksCountingBy OutError.Fault T.faults T.files tree.old tree.new result }
     ensures small { IfOk result (λ bytes. length bytes ≤ 65536) }
     ensures within { IfOk result (λ bytes. length bytes ≤ most) }
     ensures told { IfSome (T.files tree.old) (λ all. IfOk result (IsPart (file_at all path.now) at most)) }

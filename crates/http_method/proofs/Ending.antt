@@ -10,6 +10,9 @@ use Rattle.acq_outside.specs.declared.word.Word.{Word}
 use Rattle.acq_outside.specs.declared.word.Word.TheVariants.{Piece, Done, Other}
 use Rattle.acq_outside.specs.Word.{CanBegin, IsWord, IsSoundWord}
 use Rattle.acq_base.specs.Mirror.{World, answer_at}
+use Rattle.acq_net.specs.declared.link.Link.{Ghosts}
+use Rattle.acq_net.specs.Due.{Due}
+use Rattle.acq_net.specs.OverLink.{Leaves}
 use Rattle.acq_net.specs.Talk.{Talk, is_none}
 use Rattle.http_wire.specs.declared.ending.Ending.{Ending}
 use Rattle.http_wire.specs.declared.ending.Ending.TheVariants.{Served, Absent, Moved, TooBig, Garbled}
@@ -23,7 +26,7 @@ use Rattle.http_method.specs.declared.reading.Behind.TheVariants.{Nothing, Bytes
 use Rattle.http_method.specs.declared.reading.Place.{Place}
 use Rattle.http_method.specs.declared.reading.Reading.{Reading}
 use Rattle.http_method.specs.declared.reading.Said.{Said}
-use Rattle.http_method.specs.Line.{Line}
+use Rattle.http_method.specs.Line.{Line, line_of}
 use Rattle.http_method.specs.Reading.{GivesOn, Goes, HearsSo, IsAsked, IsOpen, IsReading, IsServed, IsTold, IsKeptBehind, Keeps, Ends, Hears, Reads, SaysOn, StandsBehind, is_end, is_file, is_kept, keeps, kept_if, leaves_open, part_of, under_of, word_of}
 use Rattle.http_method.proofs.Received.{AllGrow, AllTell}
 use Rattle.http_method.proofs.Mirrors.{AllFit, AllRise, Means, OneReading, Stays, StaysAtEnd, ends_open, followed_none, means_dry, means_last, means_piece, piece_within, told_word}
@@ -109,6 +112,12 @@ answered one tells r given bytes reply over says follows =
           inr (subst (λ (x : Heard). IsReply r.fetch.job.uri given x.ending x.body reply) same found.2))
           (says r.fetch.job.max r.fetch.job.from given bytes (is_end r.behind) follows);
     }
+
+-- a call that leaves what the link tells leaves its line
+pub line_stays : {L : Type 0} (g : Ghosts L) (old new : L) → Leaves g old new → line_of g new ≡ line_of g old
+line_stays g old new leaves =
+    ap (λ (talk : Option Talk). record { talk = talk; world = g.world new; due = g.due new }) leaves.talk ∙ ap (λ (world : Option World). record { talk = g.talk old; world = world; due = g.due new }) leaves.same
+    ∙ ap (λ (due : Option Due). record { talk = g.talk old; world = g.world old; due = due }) leaves.due
 
 told_later : (line later : Line) (before : Talk) (job : Job) (bytes : List ℕ) (ended : Bool) → later ≡ line → IsAsked line before job bytes ended → IsAsked later before job bytes ended
 told_later line later before job bytes ended same told = subst (λ t. IsAsked t before job bytes ended) (sym same) told

@@ -32,7 +32,7 @@ fault_word world n k m fetch same rose =
     told_word n m world fetch None (Other (replies.Fault k m)) is (means_fault world fetch k m)
 
 pub settled_word : (world : Option World) (n k m : ℕ) (fetch : Fetch) (said : Result Said Fault) (word : Word) (reading : Option Reading) → k ≡ n → IfOk said (IsTold world fetch) → IfOk said (λ one. word ≡ one.word) → IfOk said (λ one. reading ≡ one.reading)
-    → IfOk said (λ one. m ≡ k) → OnErr said (word ≡ Other (replies.Fault k m)) → OnErr said (reading ≡ None) → OnErr said (m ≡ one_more k) → IsWord n m world fetch (under_of reading) word
+    → OnOk said (m ≡ k) → OnErr said (word ≡ Other (replies.Fault k m)) → OnErr said (reading ≡ None) → OnErr said (m ≡ one_more k) → IsWord n m world fetch (under_of reading) word
 settled_word world n k m fetch (Ok one) word reading same told word_is reading_is quiet fault over counted =
     subst (λ w. IsWord n m world fetch (under_of reading) w) (sym word_is)
     (subst (λ r. IsWord n m world fetch (under_of r) one.word) (sym reading_is) (subst (λ j. IsWord n j world fetch (under_of one.reading) one.word) (sym (quiet ∙ same)) (told.is n)))

@@ -1,9 +1,13 @@
 -- What a method over HTTP shows.
-use Rattle.std.specs.Prelude.{◌≡◌, ℕ, Option}
+use Rattle.std.specs.Prelude.{◌≡◌, ◌≤◌, ℕ, Option}
 use Rattle.acq_base.specs.declared.fetch.Reply.TheVariants as replies
+use Rattle.acq_base.specs.Mirror.{World}
 use Rattle.acq_outside.specs.Count.{Rose}
+use Rattle.acq_outside.specs.Frame.{FetchesBy}
 use Rattle.acq_outside.specs.declared.word.Word.{Word}
 use Rattle.acq_outside.specs.declared.word.Word.TheVariants.{Piece, Done, Other}
+use Rattle.acq_net.specs.declared.link.Link.{Ghosts}
+use Rattle.http_method.specs.Reading.{world_of}
 use Rattle.http_method.specs.declared.reading.Place.{Place}
 use Rattle.http_method.specs.declared.reading.Reading.{Reading}
 use Rattle.http_method.specs.declared.reading.Said.{Said}
@@ -31,3 +35,18 @@ CountsFault before after (Other (replies.Absent status)) = after ≡ before
 CountsFault before after (Other replies.TooBig) = after ≡ before
 CountsFault before after (Other (replies.Garbled at)) = after ≡ before
 CountsFault before after (Other replies.NoMemory) = after ≡ before
+
+-- how often it failed
+abbrev pub faults_of : {L : Type 0} → HttpState L → ℕ
+faults_of method = method.faults
+
+-- the mirror that it tells
+abbrev pub told_mirror : {L : Type 0} → Ghosts L → HttpState L → Option World
+told_mirror g method = world_of (g.world method.link)
+
+-- The frame of a call: that of any method; and the link's count never falls, and rose exactly where the word is a fault.
+pub record FetchesOver {L : Type 0} (g : Ghosts L) (old new : HttpState L) (word : Word) : Type 0 where
+  pub fetches : FetchesBy faults_of (told_mirror g) old new
+  pub open fetches use *
+  pub link_count : g.faults old.link ≤ g.faults new.link
+  pub link_fault : CountsFault (g.faults old.link) (g.faults new.link) word

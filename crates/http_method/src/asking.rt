@@ -1,9 +1,10 @@
 //! Asks a peer for a file.
-ghost use Rattle.std.specs.Prelude.{◌≡◌, ◌⊎◌, ◌≤◌, true, IfOk, IfSome, OnErr, OnOk};
+ghost use Rattle.std.specs.Prelude.{◌≡◌, ◌⊎◌, true, IfOk, IfSome, OnOk};
 ghost use Rattle.acq_base.specs.declared.uri.Scheme.TheVariants.{Http};
 ghost use Rattle.acq_base.specs.Uri.{IsSound};
 ghost use Rattle.acq_outside.specs.Count.{Rose};
 ghost use Rattle.acq_outside.specs.Word.{CanBegin, IsSoundWord, begun};
+ghost use Rattle.acq_net.specs.OverLink.{Asks, Opens, Says};
 ghost use Rattle.http_wire.specs.Request.{request_text};
 ghost use Rattle.http_method.specs.Line.{Connects, Sends, line_of};
 ghost use Rattle.http_method.specs.Reading.{BeginsAgain, BeginsAnew, BeginsOn, IsKeptBehind, IsOpen, IsTold, Keeps, before_anew, ended_at_once, is_end, is_for, place_of};
@@ -39,13 +40,12 @@ pub fn ask<L: Link>(
     requires from { CanBegin job.now }
     requires http { job.now.uri.scheme ≡ Http }
     requires kept { IfSome kept (IsOpen (line_of L.Link link.old)) }
-    ensures count { L.faults link.old ≤ L.faults link.new }
-    ensures fault { OnErr result (Rose (L.faults link.old) (L.faults link.new)) }
-    ensures quiet { OnOk result (L.faults link.new ≡ L.faults link.old) }
+
+    ensures frame { Asks L.Link link.old link.new result }
+
     ensures made { is_for kept job.now.uri ≡ true → (L.made link.new ≡ L.made link.old) ⊎ Rose (L.ends link.old) (L.ends link.new) }
     ensures anew { (L.made link.new ≡ L.made link.old) ⊎ (L.former link.new ≡ before_anew kept job.now (L.talk link.old)) }
     ensures sound { IfOk result (λ said. IsSoundWord said.word) }
-    ensures world { L.world link.new ≡ L.world link.old }
     ensures told { IfOk result (IsTold (L.world link.old) (begun job.now)) }
     ensures keeps { IfOk result (λ said. Keeps (line_of L.Link link.new) said.kept said.reading) }
     ensures behind { IfOk result (λ said. IsKeptBehind said.word said.kept) }
@@ -67,13 +67,11 @@ fn ask_anew<L: Link>(alloc: Global, link: &mut L, text: &Bytes, job: &Job) -> Re
     requires from { CanBegin job.now }
     requires http { job.now.uri.scheme ≡ Http }
     requires text { text.now ≡ request_text job.now.uri job.now.from }
-    ensures count { L.faults link.old ≤ L.faults link.new }
-    ensures fault { OnErr result (Rose (L.faults link.old) (L.faults link.new)) }
-    ensures quiet { OnOk result (L.faults link.new ≡ L.faults link.old) }
-    ensures ends { L.ends link.old ≤ L.ends link.new }
+
+    ensures frame { Asks L.Link link.old link.new result }
+
     ensures anew { (L.made link.new ≡ L.made link.old) ⊎ (L.former link.new ≡ L.talk link.old) }
     ensures sound { IfOk result (λ said. IsSoundWord said.word) }
-    ensures world { L.world link.new ≡ L.world link.old }
     ensures told { IfOk result (IsTold (L.world link.old) (begun job.now)) }
     ensures keeps { IfOk result (λ said. Keeps (line_of L.Link link.new) said.kept said.reading) }
     ensures behind { IfOk result (λ said. IsKeptBehind said.word said.kept) }
@@ -90,12 +88,8 @@ fn ask_anew<L: Link>(alloc: Global, link: &mut L, text: &Bytes, job: &Job) -> Re
 
 /// Connects to the host and port of a URI.
 fn connect<L: Link>(link: &mut L, uri: &Uri) -> Result<(), Fault>
-    ensures count { L.faults link.old ≤ L.faults link.new }
-    ensures fault { OnErr result (Rose (L.faults link.old) (L.faults link.new)) }
-    ensures quiet { OnOk result (L.faults link.new ≡ L.faults link.old) }
+    ensures frame { Opens L.Link link.old link.new result }
     ensures former { L.former link.new ≡ L.talk link.old }
-    ensures ends { L.ends link.new ≡ L.ends link.old }
-    ensures world { L.world link.new ≡ L.world link.old }
     ensures fresh { OnOk result (Connects uri.now.host uri.now.port (line_of L.Link link.old) (line_of L.Link link.new)) }
 {
     if link.connect(&uri.host, uri.port).is_err() {
@@ -107,13 +101,7 @@ fn connect<L: Link>(link: &mut L, uri: &Uri) -> Result<(), Fault>
 
 /// Sends a request.
 fn send<L: Link>(link: &mut L, text: &Bytes) -> Result<(), Fault>
-    ensures count { L.faults link.old ≤ L.faults link.new }
-    ensures fault { OnErr result (Rose (L.faults link.old) (L.faults link.new)) }
-    ensures quiet { OnOk result (L.faults link.new ≡ L.faults link.old) }
-    ensures former { L.former link.new ≡ L.former link.old }
-    ensures made { L.made link.new ≡ L.made link.old }
-    ensures ends { L.ends link.new ≡ L.ends link.old }
-    ensures world { L.world link.new ≡ L.world link.old }
+    ensures frame { Says L.Link link.old link.new result }
     ensures sent { OnOk result (Sends text.now (line_of L.Link link.old) (line_of L.Link link.new)) }
 {
     if link.send(text.as_slice()).is_err() {
@@ -130,13 +118,12 @@ fn ask_again<L: Link>(alloc: Global, link: &mut L, text: &Bytes, job: &Job) -> R
     requires http { job.now.uri.scheme ≡ Http }
     requires text { text.now ≡ request_text job.now.uri job.now.from }
     requires opened { IsOpen (line_of L.Link link.old) (place_of job.now.uri) }
-    ensures count { L.faults link.old ≤ L.faults link.new }
-    ensures fault { OnErr result (Rose (L.faults link.old) (L.faults link.new)) }
-    ensures quiet { OnOk result (L.faults link.new ≡ L.faults link.old) }
+
+    ensures frame { Asks L.Link link.old link.new result }
+
     ensures made { (L.made link.new ≡ L.made link.old) ⊎ Rose (L.ends link.old) (L.ends link.new) }
     ensures anew { (L.made link.new ≡ L.made link.old) ⊎ (L.former link.new ≡ ended_at_once job.now (L.talk link.old)) }
     ensures sound { IfOk result (λ said. IsSoundWord said.word) }
-    ensures world { L.world link.new ≡ L.world link.old }
     ensures told { IfOk result (IsTold (L.world link.old) (begun job.now)) }
     ensures keeps { IfOk result (λ said. Keeps (line_of L.Link link.new) said.kept said.reading) }
     ensures behind { IfOk result (λ said. IsKeptBehind said.word said.kept) }

@@ -1,6 +1,7 @@
 //! Receives bytes of a link's peer into the response that is being read.
-ghost use Rattle.std.specs.Prelude.{◌≡◌, ◌≢◌, ◌<◌, ◌≤◌, true, false, [], length, vec_len, IfOk, IsErrOf, OnOk, option_map};
+ghost use Rattle.std.specs.Prelude.{◌≡◌, ◌≢◌, ◌<◌, ◌≤◌, true, false, [], length, vec_len, IfOk, OnOk, option_map};
 ghost use Rattle.acq_outside.specs.Count.{Rose};
+ghost use Rattle.acq_net.specs.OverLink.{ListensCounting};
 ghost use Rattle.acq_net.specs.Talk.{receives};
 ghost use Rattle.http_wire.specs.Wire.{IsDone, held, wire_state};
 ghost use Rattle.http_method.specs.Line.{line_of};
@@ -101,20 +102,15 @@ pub fn receive_once<L: Link>(
     requires few { length room.old ≤ 65536 }
     requires going { wire_state reading.old.wire ≡ State.More }
     requires nothing { reading.old.behind ≡ Behind.Nothing }
-    ensures count { L.faults link.old ≤ L.faults link.new }
-    ensures fault { IsErrOf result OutError.Fault → Rose (L.faults link.old) (L.faults link.new) }
-    ensures quiet { OnOk result (L.faults link.new ≡ L.faults link.old) }
-    ensures dry { IsErrOf result OutError.NoMemory → L.faults link.new ≡ L.faults link.old }
-    ensures made { L.made link.new ≡ L.made link.old }
-    ensures former { L.former link.new ≡ L.former link.old }
-    ensures ends { L.ends link.old ≤ L.ends link.new }
+
+    ensures frame { ListensCounting OutError.Fault L.Link link.old link.new result }
+
     ensures ended { OnOk result (is_end reading.new.behind ≡ true → Rose (L.ends link.old) (L.ends link.new)) }
     ensures over { OnOk result (is_end reading.new.behind ≡ true → L.talk link.new ≡ option_map (receives []) (L.talk link.old)) }
     ensures fetch { reading.new.fetch ≡ reading.old.fetch }
     ensures going { OnOk result (wire_state reading.new.wire ≡ State.More → reading.new.behind ≡ Behind.Nothing) }
     ensures small { OnOk result (StaysSmall reading.old reading.new) }
     ensures goes { OnOk result (Goes (line_of L.Link link.old) reading.old (line_of L.Link link.new) reading.new []) }
-    ensures world { L.world link.new ≡ L.world link.old }
     ensures room { length room.new ≡ length room.old }
 {
     let n = link.receive(room)?;
@@ -156,15 +152,10 @@ pub fn listen<L: Link>(
     reading: &mut Reading,
 ) -> Result<Bytes, OutError>
     requires is { IsReading (line_of L.Link link.old) reading.old [] }
-    ensures count { L.faults link.old ≤ L.faults link.new }
-    ensures fault { IsErrOf result OutError.Fault → Rose (L.faults link.old) (L.faults link.new) }
-    ensures quiet { OnOk result (L.faults link.new ≡ L.faults link.old) }
-    ensures dry { IsErrOf result OutError.NoMemory → L.faults link.new ≡ L.faults link.old }
-    ensures made { L.made link.new ≡ L.made link.old }
-    ensures former { L.former link.new ≡ L.former link.old }
-    ensures ends { L.ends link.old ≤ L.ends link.new }
+
+    ensures frame { ListensCounting OutError.Fault L.Link link.old link.new result }
+
     ensures fetch { reading.new.fetch ≡ reading.old.fetch }
-    ensures world { L.world link.new ≡ L.world link.old }
     ensures is { IfOk result (IsReading (line_of L.Link link.new) reading.new) }
     ensures small { IfOk result (λ bytes. length bytes ≤ 65536) }
     ensures fits { IfOk result (λ bytes. 0 < length bytes → wire_state reading.new.wire ≢ State.TooBig) }

@@ -37,8 +37,9 @@ impl<L: Link> Model for HttpMethod<L> {
 }
 
 impl<L: Link> HttpMethod<L> {
-    ghost use Rattle.std.specs.Prelude.{◌≡◌, ◌≤◌, None, IfOk, OnErr};
+    ghost use Rattle.std.specs.Prelude.{◌≡◌, None, IfOk, OnErr};
     ghost use Rattle.acq_outside.specs.Count.{one_more};
+    ghost use Rattle.acq_outside.specs.Frame.{Counts};
     ghost use Rattle.http_method.specs.Line.{line_of};
     ghost use Rattle.http_method.specs.Reading.{Keeps};
 
@@ -69,11 +70,11 @@ impl<L: Link> HttpMethod<L> {
         requires keeps { IfOk said (λ one. Keeps (line_of L.Link self.old.link) one.kept one.reading) }
         requires kept { self.old.kept ≡ None }
         requires idle { self.old.reading ≡ None }
+        ensures frame { Counts self.old.faults self.new.faults said }
         ensures link { self.new.link ≡ self.old.link }
         ensures word { IfOk said (λ one. result ≡ one.word) }
         ensures kept { IfOk said (λ one. self.new.kept ≡ one.kept) }
         ensures reading { IfOk said (λ one. self.new.reading ≡ one.reading) }
-        ensures quiet { IfOk said (λ one. self.new.faults ≡ self.old.faults) }
         ensures fault { OnErr said (result ≡ Word.Other (Reply.Fault self.old.faults self.new.faults)) }
         ensures none { OnErr said (self.new.kept ≡ None) }
         ensures over { OnErr said (self.new.reading ≡ None) }
@@ -96,18 +97,18 @@ impl<L: Link> HttpMethod<L> {
 }
 
 impl<L: Link> Method for HttpMethod<L> {
-    ghost use Rattle.std.specs.Prelude.{◌≡◌, ◌⊎◌, ◌≤◌, true, IfSome, IsSome};
+    ghost use Rattle.std.specs.Prelude.{◌≡◌, ◌⊎◌, true, IfSome, IsSome};
     ghost use Rattle.acq_base.specs.declared.uri.Scheme.TheVariants.{File, Http};
     ghost use Rattle.acq_base.specs.Uri.{IsSound};
     ghost use Rattle.acq_outside.specs.Count.{Rose};
     ghost use Rattle.acq_outside.specs.Word.{CanBegin, IsSoundWord, IsWord, begun};
-    ghost use Rattle.http_method.specs.HttpMethod.{CountsFault, said_of};
+    ghost use Rattle.http_method.specs.HttpMethod.{FetchesOver, faults_of, said_of, told_mirror};
     ghost use Rattle.http_method.specs.Line.{line_of};
     ghost use Rattle.http_method.specs.Reading.{BeginsOn, IsKeptBehind, SaysOn, before_anew, is_for, under_of, world_of};
 
-    ghost faults = { λ method. method.faults };
+    ghost faults = { faults_of };
 
-    ghost world = { λ method. world_of (L.world method.link) };
+    ghost world = { told_mirror L.Link };
 
     ghost under = { λ method. under_of method.reading };
 
@@ -122,12 +123,11 @@ impl<L: Link> Method for HttpMethod<L> {
     fn begin(&mut self, alloc: Global, job: &Job) -> Word
         requires sound { IsSound job.now.uri }
         requires from { CanBegin job.now }
-        ensures count { self.old.faults ≤ self.new.faults }
+
+        ensures frame { FetchesOver L.Link self.old self.new result }
+
         ensures sound { IsSoundWord result }
-        ensures same { world_of (L.world self.new.link) ≡ world_of (L.world self.old.link) }
         ensures word { IsWord self.old.faults self.new.faults (world_of (L.world self.old.link)) (begun job.now) (under_of self.new.reading) result }
-        ensures link_count { L.faults self.old.link ≤ L.faults self.new.link }
-        ensures link_fault { CountsFault (L.faults self.old.link) (L.faults self.new.link) result }
         ensures made { is_for self.old.kept job.now.uri ≡ true → (L.made self.new.link ≡ L.made self.old.link) ⊎ Rose (L.ends self.old.link) (L.ends self.new.link) }
         ensures anew { (L.made self.new.link ≡ L.made self.old.link) ⊎ (L.former self.new.link ≡ before_anew self.old.kept job.now (L.talk self.old.link)) }
         ensures says { job.now.uri.scheme ≡ Http → BeginsOn (line_of L.Link self.old.link) self.old.kept (line_of L.Link self.new.link) job.now (said_of result self.new) }
@@ -147,12 +147,11 @@ impl<L: Link> Method for HttpMethod<L> {
 
     fn more(&mut self, alloc: Global) -> Word
         requires { IsSome (under_of self.old.reading) }
-        ensures count { self.old.faults ≤ self.new.faults }
+
+        ensures frame { FetchesOver L.Link self.old self.new result }
+
         ensures sound { IsSoundWord result }
-        ensures same { world_of (L.world self.new.link) ≡ world_of (L.world self.old.link) }
         ensures word { IfSome (under_of self.old.reading) (λ fetch. IsWord self.old.faults self.new.faults (world_of (L.world self.old.link)) fetch (under_of self.new.reading) result) }
-        ensures link_count { L.faults self.old.link ≤ L.faults self.new.link }
-        ensures link_fault { CountsFault (L.faults self.old.link) (L.faults self.new.link) result }
         ensures made { L.made self.new.link ≡ L.made self.old.link }
         ensures says { IfSome self.old.reading (λ reading. SaysOn (line_of L.Link self.old.link) reading (line_of L.Link self.new.link) (said_of result self.new)) }
         ensures behind { IsKeptBehind result self.new.kept }

@@ -1,7 +1,7 @@
 //! What is said next to a fetch.
-ghost use Rattle.std.specs.Prelude.{◌≡◌, ◌≢◌, ◌+◌, ◌<◌, ◌≤◌, ◌&&◌, [], length, IfOk, OnErr, OnOk, None};
-ghost use Rattle.acq_outside.specs.Count.{Rose};
+ghost use Rattle.std.specs.Prelude.{◌≡◌, ◌≢◌, ◌+◌, ◌<◌, ◌≤◌, ◌&&◌, [], length, IfOk, None};
 ghost use Rattle.acq_outside.specs.Word.{IsSoundWord};
+ghost use Rattle.acq_net.specs.OverLink.{Leaves, Listens};
 ghost use Rattle.http_wire.specs.Wire.{IsDone, held, wire_state};
 ghost use Rattle.http_method.specs.Line.{line_of};
 ghost use Rattle.http_method.specs.Reading.{GivesOn, IsKeptBehind, IsReading, IsTold, Keeps, SaysOn, is_file, is_kept, kept_if, part_of, word_of};
@@ -33,14 +33,10 @@ pub fn starved() -> Said
 #[tactic(auto, using(crate::proofs::Ending::goes_says, crate::proofs::Ending::dry_says))]
 pub fn next_word<L: Link>(alloc: Global, link: &mut L, reading: Reading) -> Result<Said, Fault>
     requires { IsReading (line_of L.Link link.old) reading [] }
-    ensures count { L.faults link.old ≤ L.faults link.new }
-    ensures fault { OnErr result (Rose (L.faults link.old) (L.faults link.new)) }
-    ensures quiet { OnOk result (L.faults link.new ≡ L.faults link.old) }
-    ensures made { L.made link.new ≡ L.made link.old }
-    ensures former { L.former link.new ≡ L.former link.old }
-    ensures ends { L.ends link.old ≤ L.ends link.new }
+
+    ensures frame { Listens L.Link link.old link.new result }
+
     ensures sound { IfOk result (λ said. IsSoundWord said.word) }
-    ensures world { L.world link.new ≡ L.world link.old }
     ensures told { IfOk result (IsTold (L.world link.old) reading.fetch) }
     ensures keeps { IfOk result (λ said. Keeps (line_of L.Link link.new) said.kept said.reading) }
     ensures behind { IfOk result (λ said. IsKeptBehind said.word said.kept) }
@@ -67,12 +63,10 @@ fn say<L: Link>(alloc: Global, link: &mut L, reading: Reading, bytes: Bytes) -> 
     requires all { bytes ≡ [] → IsDone (wire_state reading.wire) → held reading.wire ≡ [] }
     requires small { length bytes ≤ 65536 }
     requires fits { 0 < length bytes → wire_state reading.wire ≢ State.TooBig }
-    ensures faults { L.faults link.new ≡ L.faults link.old }
-    ensures made { L.made link.new ≡ L.made link.old }
-    ensures former { L.former link.new ≡ L.former link.old }
-    ensures ends { L.ends link.new ≡ L.ends link.old }
+
+    ensures frame { Leaves L.Link link.old link.new }
+
     ensures sound { IsSoundWord result.word }
-    ensures world { L.world link.new ≡ L.world link.old }
     ensures told { IsTold (L.world link.old) reading.fetch result }
     ensures keeps { Keeps (line_of L.Link link.new) result.kept result.reading }
     ensures behind { IsKeptBehind result.word result.kept }
@@ -115,12 +109,10 @@ fn finish<L: Link>(alloc: Global, link: &mut L, reading: Reading) -> Said
     requires is { IsReading (line_of L.Link link.old) reading [] }
     requires over { wire_state reading.wire ≢ State.More }
     requires all { IsDone (wire_state reading.wire) → held reading.wire ≡ [] }
-    ensures faults { L.faults link.new ≡ L.faults link.old }
-    ensures made { L.made link.new ≡ L.made link.old }
-    ensures former { L.former link.new ≡ L.former link.old }
-    ensures ends { L.ends link.new ≡ L.ends link.old }
+
+    ensures frame { Leaves L.Link link.old link.new }
+
     ensures sound { IsSoundWord result.word }
-    ensures world { L.world link.new ≡ L.world link.old }
     ensures told { IsTold (L.world link.old) reading.fetch result }
     ensures keeps { Keeps (line_of L.Link link.new) result.kept result.reading }
     ensures behind { IsKeptBehind result.word result.kept }
@@ -168,11 +160,7 @@ fn word_of(size: u64, reply: Reply) -> Word
 
 /// Keeps the connection to the URI's host and port behind a file, where it may be kept, or closes it.
 fn keep_open<L: Link>(link: &mut L, file: bool, keep: bool, uri: Uri) -> Option<Place>
-    ensures faults { L.faults link.new ≡ L.faults link.old }
-    ensures made { L.made link.new ≡ L.made link.old }
-    ensures former { L.former link.new ≡ L.former link.old }
-    ensures ends { L.ends link.new ≡ L.ends link.old }
-    ensures line { line_of L.Link link.new ≡ line_of L.Link link.old }
+    ensures frame { Leaves L.Link link.old link.new }
     ensures kept { result ≡ kept_if (file && keep) uri }
 {
     if file && keep {

@@ -28,8 +28,10 @@ own_count pool = slice_index pool.counts 0
 abbrev pub own_fetch : Pool → Option Fetch
 own_fetch pool = slice_index_or pool.outs 0 None
 
--- all mirrors stay, and so do the counts and fetches of the workers' lanes
+-- The frame of a call of the own method: its count never falls, all mirrors stay, and so do the counts and fetches of the
+-- workers' lanes.
 pub record OthersStay (old new : Pool) : Type 0 where
+  pub count : own_count old ≤ own_count new
   pub worlds : new.worlds ≡ old.worlds
   pub counts : new.counts ≡ slice_set old.counts 0 (own_count new)
   pub outs : new.outs ≡ slice_set old.outs 0 (own_fetch new)

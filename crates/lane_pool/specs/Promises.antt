@@ -1,8 +1,9 @@
 -- What a worker promises of what it hands back.
-use Rattle.std.specs.Prelude.{◌≡◌, ℕ, ◌≤◌, Option}
+use Rattle.std.specs.Prelude.{◌≡◌, ℕ, Option}
 use Rattle.crossbeam_channel.specs.Claims.{view, IsSeatAt}
 use Rattle.crossbeam_channel.specs.Ends.{sends_on}
 use Rattle.acq_base.specs.Mirror.{World}
+use Rattle.acq_outside.specs.Frame.{FetchesBy}
 use Rattle.lane_pool.specs.declared.work.Returned.{Returned}
 use Rattle.lane_pool.specs.declared.worker.Promised.{Promised}
 use Rattle.lane_pool.specs.Working.{IsWorker}
@@ -13,8 +14,8 @@ module _ {M : Type 0} (world : M → Option World) (faults : M → ℕ) where
   pub record HandsBack (promised : Promised M) (back : Returned M) : Type 0 where
     pub seat : IsSeatAt (sends_on promised.sends.value) back.pass
     pub pass : IsWorker promised.lane (view back.pass) (world back.method) (faults back.method)
-    pub mirror : world back.method ≡ world promised.method.value
-    pub count : faults promised.method.value ≤ faults back.method
+    pub fetches : FetchesBy faults world promised.method.value back.method
+    pub open fetches use *
 
 -- two promises of one worker
 pub record IsSamePromise {M : Type 0} (a b : Promised M) : Type 0 where

@@ -1,5 +1,5 @@
 //! The lanes: jobs go out, and words come back.
-ghost use Rattle.std.specs.Prelude.{◌≡◌, ◌<◌, ◌≤◌, ℕ, None, Some, slice_get, slice_set, vec_len, vec_capacity, IfSome, IfNone, IfErr, IsSome, OnErr, OnOk};
+ghost use Rattle.std.specs.Prelude.{◌≡◌, ◌<◌, ℕ, None, Some, slice_get, slice_set, vec_len, vec_capacity, IfSome, IfNone, IfErr, IsSome, OnErr, OnOk};
 ghost use Rattle.acq_base.specs.Uri.{IsSound};
 ghost use Rattle.acq_outside.specs.Word.{CanBegin, IsSoundWord, IsWord, begun};
 ghost use Rattle.lane_pool.specs.Pool.{IsTold, OthersStay, NoneFell, own_count, own_fetch, own_world};
@@ -86,8 +86,7 @@ impl<M: Method + Send + 'static> Lanes<M> {
     pub fn own(&mut self, alloc: Global, job: &Job) -> Word
         requires sound { IsSound job.now.uri }
         requires from { CanBegin job.now }
-        ensures others { OthersStay self.old self.new }
-        ensures count { own_count self.old ≤ own_count self.new }
+        ensures frame { OthersStay self.old self.new }
         ensures sound { IsSoundWord result }
         ensures word { IsWord (own_count self.old) (own_count self.new) (own_world self.old) (begun job.now) (own_fetch self.new) result }
     {
@@ -97,8 +96,7 @@ impl<M: Method + Send + 'static> Lanes<M> {
     /// Goes on with the job of `own`: its next word. The last word of `own` or `own_more` was a piece.
     pub fn own_more(&mut self, alloc: Global) -> Word
         requires { IsSome (own_fetch self.old) }
-        ensures others { OthersStay self.old self.new }
-        ensures count { own_count self.old ≤ own_count self.new }
+        ensures frame { OthersStay self.old self.new }
         ensures sound { IsSoundWord result }
         ensures word { IfSome (own_fetch self.old) (λ fetch. IsWord (own_count self.old) (own_count self.new) (own_world self.old) fetch (own_fetch self.new) result) }
     {

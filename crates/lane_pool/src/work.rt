@@ -1,5 +1,6 @@
 //! What a worker does.
-ghost use Rattle.std.specs.Prelude.{◌≡◌, ◌<◌, ◌≤◌, true, false, MatchBool};
+ghost use Rattle.std.specs.Prelude.{◌≡◌, ◌<◌, true, false, MatchBool};
+ghost use Rattle.acq_outside.specs.Fetches.{Fetches};
 ghost use Rattle.crossbeam_channel.specs.Claims.{view, IsSeatAt};
 ghost use Rattle.crossbeam_channel.specs.Ends.{sends_on};
 ghost use Rattle.lane_pool.specs.Words.{IsWordTo, IsInOrder};
@@ -77,10 +78,9 @@ pub fn work<M: Method, R: Wait>(
 ) -> Returned<M>
     requires seat { IsSeatAt (sends_on sends) pass }
     requires pass { IsWorker lane (view pass) (M.world method) (M.faults method) }
+    ensures frame { Fetches M.Method method result.method }
     ensures seat { IsSeatAt (sends_on sends) result.pass }
     ensures pass { IsWorker lane (view result.pass) (M.world result.method) (M.faults result.method) }
-    ensures world { M.world result.method ≡ M.world method }
-    ensures count { M.faults method ≤ M.faults result.method }
 {
     for _ in rt.forever() {
         let Ok(sent) = jobs.recv(rt) else {
@@ -105,10 +105,9 @@ fn answer<M: Method, R: Wait>(
 ) -> bool
     requires seat { IsSeatAt (sends_on sends.now) pass.old }
     requires pass { IsWorker lane (view pass.old) (M.world method.old) (M.faults method.old) }
+    ensures frame { Fetches M.Method method.old method.new }
     ensures seat { IsSeatAt (sends_on sends.now) pass.new }
     ensures pass { IsWorker lane (view pass.new) (M.world method.new) (M.faults method.new) }
-    ensures world { M.world method.new ≡ M.world method.old }
-    ensures count { M.faults method.old ≤ M.faults method.new }
 {
     let job = sent.job();
     let mut word = method.begin(alloc, &job);

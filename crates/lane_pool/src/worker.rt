@@ -1,6 +1,7 @@
 //! A worker's thread, started and joined.
-ghost use Rattle.std.specs.Prelude.{◌≡◌, ◌≤◌, IfErr};
+ghost use Rattle.std.specs.Prelude.{◌≡◌, IfErr};
 ghost use Rattle.acq_base.specs.Uri.{IsSound};
+ghost use Rattle.acq_outside.specs.Fetches.{Fetches};
 ghost use Rattle.acq_outside.specs.Word.{CanBegin};
 ghost use Rattle.crossbeam_channel.specs.Claims.{view, IsSeatAt};
 ghost use Rattle.crossbeam_channel.specs.Ends.{sends_on};
@@ -94,10 +95,9 @@ pub fn hire<M: Method + Send + 'static, R: Threads + Wait + Copy + Send + 'stati
     let run = move || -> Returned<M>
         requires seat { IsSeatAt (sends_on sends) pass }
         requires pass { IsWorker lane (view pass) (M.world method) (M.faults method) }
+        ensures frame { Fetches M.Method method result.method }
         ensures seat { IsSeatAt (sends_on sends) result.pass }
         ensures pass { IsWorker lane (view result.pass) (M.world result.method) (M.faults result.method) }
-        ensures mirror { M.world result.method ≡ M.world method }
-        ensures count { M.faults method ≤ M.faults result.method }
     {
         let rt = handle;
         work(&rt, alloc, lane, from, sends, pass, method)

@@ -1,4 +1,5 @@
 use Rattle.std.proofs.Common.{◌∙◌, [], sym, refl, subst, arith, length, ◌≤◌}
+use Rattle.acq_net.proofs.LinkFramed.{listened_on}
 use Rattle.http_method.specs.declared.reading.Reading.{Reading}
 use Rattle.http_method.specs.Line.{line_of}
 use Rattle.http_method.proofs.Received.{empty_is, goes_given, goes_on, reading_on, small_none, small_on}
@@ -40,11 +41,7 @@ loop-preserved g c =
     let between = reading_on line line c.loop.reading middle [] c.loop.invariant.is given refl (λ more. c.loop.invariant.is.going (sym c.in_ok-bytes.ensures.state ∙ more)) (λ fits. small_none c.take.new.self c.in_ok-bytes.ensures.none) in
     record {
       room = (let same = c.in_ok-receive_once.ensures.room in let few = c.in_ok-room.ensures.few in omega (arith, same, few));
-      quiet = c.in_ok-receive_once.ensures.quiet ∙ c.loop.invariant.quiet;
-      made = c.in_ok-receive_once.ensures.made ∙ c.loop.invariant.made;
-      former = c.in_ok-receive_once.ensures.former ∙ c.loop.invariant.former;
-      ends = (let more = c.in_ok-receive_once.ensures.ends in let before = c.loop.invariant.ends in omega (arith, more, before));
-      world = c.in_ok-receive_once.ensures.world ∙ c.loop.invariant.world;
+      frame = listened_on c.loop.invariant.frame c.in_ok-receive_once.ensures.frame;
       fetch = c.in_ok-receive_once.ensures.fetch ∙ c.loop.invariant.fetch;
       is = reading_on line later c.loop.reading c.receive_once.new.reading [] c.loop.invariant.is on c.in_ok-receive_once.ensures.fetch c.in_ok-receive_once.ensures.going
           (small_on line middle c.receive_once.new.reading [] between c.in_ok-receive_once.ensures.small (c.is_going.ensures.going c.if-not-is_going.false) c.in_ok-bytes.ensures.none);

@@ -1,4 +1,5 @@
 use Rattle.std.proofs.Common.{◌≡◌, ◌≤◌, [], vec_len}
+use Rattle.acq_net.specs.OverLink.{HasListened}
 use Rattle.http_method.specs.Line.{line_of}
 use Rattle.http_method.specs.Reading.{Goes, IsReading}
 use Rattle.http_method.proofs.hearing.listen.Given as goal
@@ -7,11 +8,7 @@ use Rattle.http_method.proofs.hearing.listen.Given as goal
 abbrev pub invariant-loop : goal.invariant-loop
 invariant-loop g l = record {
   room : vec_len l.room ≤ 65536;
-  quiet : g.L.Link.faults l.link ≡ g.L.Link.faults l.fn.link;
-  made : g.L.Link.made l.link ≡ g.L.Link.made l.fn.link;
-  former : g.L.Link.former l.link ≡ g.L.Link.former l.fn.link;
-  ends : g.L.Link.ends l.fn.link ≤ g.L.Link.ends l.link;
-  world : g.L.Link.world l.link ≡ g.L.Link.world l.fn.link;
+  frame : HasListened g.L.Link l.fn.link l.link;
   fetch : l.reading.fetch ≡ l.fn.reading.fetch;
   is : IsReading (line_of g.L.Link l.link) l.reading [];
   goes : Goes (line_of g.L.Link l.fn.link) l.fn.reading (line_of g.L.Link l.link) l.reading [];

@@ -11,7 +11,7 @@ loop-lane-preserved g c =
     record {
       joined = subst (λ (y : List g.row.M.Denot). AreJoined g.M.Method.world g.M.Method.faults c.args.replies c.take_back.new.self c.args.all.items (c.loop-lane.yielded ++ c.in-Some.lane ∷ []) y) (sym c.in-Ok.ensures.items)
           (joins g.M.Method.world g.M.Method.faults c.args.replies c.loop-lane.desk c.take_back.new.self c.args.all.items c.loop-lane.yielded c.loop-lane.all.items c.in-Some.lane (view c.join-returned.result.pass) c.join-returned.result.method
-          i.joined c.take_back.ensures.sends c.take_back.ensures.view r.mirror r.pass.below);
+          i.joined c.take_back.ensures.sends c.take_back.ensures.view r.same r.pass.below);
       rest = one_more _ _ _ _ _ i.rest c.in-Some.ensures.steps.0;
       len = let a = ap length c.in-Some.ensures.steps.0 in omega arith;
       room = omega arith;

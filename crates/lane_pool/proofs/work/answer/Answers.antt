@@ -9,12 +9,12 @@ pub loop-init : goal.loop-init
 loop-init g c =
     let p = c.requires.pass in
     let b = c.begin-word.ensures in
+    let f = b.frame in
     record {
       seat = c.requires.seat;
-      pass = record { live = p.live; lane_is = p.lane_is; a_worker = p.a_worker; mirror = p.mirror ∙ sym b.same; below = let h = p.below in let i = b.count in omega arith };
-      next = begins_with _ _ _ _ _ _ _ _ p.below b.count b.same b.sound b.word;
-      world = b.same;
-      count = b.count;
+      pass = record { live = p.live; lane_is = p.lane_is; a_worker = p.a_worker; mirror = p.mirror ∙ sym f.same; below = let h = p.below in let i = f.count in omega arith };
+      next = begins_with _ _ _ _ _ _ _ _ p.below f.count f.same b.sound b.word;
+      frame = f;
     }
 
 pub tell-requires-clause-word : goal.tell-requires-clause-word
@@ -27,11 +27,11 @@ loop-preserved g c =
     let i = c.loop.invariant in
     let piece : is_piece c.loop.word ≡ true = sym c.if-not-is_piece.ensures in
     let m = c.more-word.ensures in
+    let f = m.frame in
     let w = still_worker _ _ _ _ _ _ c.job-job.result _ _ i.pass i.next c.if-not-tell.ensures.step in
     record {
       seat = c.if-not-tell.ensures.seat;
-      pass = record { live = w.live; lane_is = w.lane_is; a_worker = w.a_worker; mirror = w.mirror ∙ sym m.same; below = let a = w.below in let b = m.count in omega arith };
-      next = goes_on_with _ _ _ _ _ _ i.next piece _ _ _ _ _ w.below m.count m.same m.sound m.word;
-      world = m.same ∙ i.world;
-      count = let a = i.count in let b = m.count in omega arith;
+      pass = record { live = w.live; lane_is = w.lane_is; a_worker = w.a_worker; mirror = w.mirror ∙ sym f.same; below = let a = w.below in let b = f.count in omega arith };
+      next = goes_on_with _ _ _ _ _ _ i.next piece _ _ _ _ _ w.below f.count f.same m.sound m.word;
+      frame = record { count = let a = i.frame.count in let b = f.count in omega arith; same = f.same ∙ i.frame.same };
     }

@@ -1,6 +1,6 @@
-use Rattle.std.proofs.Common.{◌≡◌, ◌≤◌}
 use Rattle.crossbeam_channel.specs.Claims.{view, IsSeatAt}
 use Rattle.crossbeam_channel.specs.Ends.{sends_on}
+use Rattle.acq_outside.specs.Fetches.{Fetches}
 use Rattle.lane_pool.specs.Working.{IsWorker, IsNext}
 use Rattle.lane_pool.proofs.work.answer.Given as goal
 
@@ -9,6 +9,5 @@ invariant-loop g l = record {
   seat : IsSeatAt (sends_on l.sends) l.pass;
   pass : IsWorker l.lane (view l.pass) (g.M.Method.world l.method) (g.M.Method.faults l.method);
   next : IsNext (view l.pass).last (g.M.Method.faults l.method) (g.M.Method.world l.method) l.job (g.M.Method.under l.method) l.word;
-  world : g.M.Method.world l.method ≡ g.M.Method.world l.fn.method;
-  count : g.M.Method.faults l.fn.method ≤ g.M.Method.faults l.method;
+  frame : Fetches g.M.Method l.fn.method l.method;
 }

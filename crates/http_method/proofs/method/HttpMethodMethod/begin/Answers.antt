@@ -1,4 +1,4 @@
-use Rattle.std.proofs.Common.{None, ap, refl, subst}
+use Rattle.std.proofs.Common.{◌∙◌, None, ap, arith, refl, subst}
 use Rattle.acq_outside.specs.Word.{IsWord, begun}
 use Rattle.http_method.specs.Reading.{under_of, world_of}
 use Rattle.http_method.proofs.Settled.{faults_same, file_word, link_same, narrowed, settled_link, settled_word}
@@ -11,13 +11,23 @@ returns-in-Http-clause-word g c =
     subst (λ w. IsWord c.args.self.now.faults c.settle.new.self.faults (world_of w) (begun c.args.job.now) (under_of c.settle.new.self.reading) c.settle.result) same
     (narrowed c.args.self.now.faults c.settle.new.self.faults (world c.self.inside.link) (begun c.args.job.now) (under_of c.settle.new.self.reading) c.settle.result
     (settled_word (world c.self.inside.link) c.args.self.now.faults c.self.inside.faults c.settle.new.self.faults (begun c.args.job.now) c.ask-said.result c.settle.result c.settle.new.self.reading
-    (faults_same c.self.view_is) c.ask-said.ensures.told c.settle.ensures.word c.settle.ensures.reading c.settle.ensures.quiet c.settle.ensures.fault c.settle.ensures.over c.settle.ensures.counted))
+    (faults_same c.self.view_is) c.ask-said.ensures.told c.settle.ensures.word c.settle.ensures.reading c.settle.ensures.frame.quiet c.settle.ensures.fault c.settle.ensures.over c.settle.ensures.counted))
 
-pub returns-in-Http-clause-link_fault : goal.returns-in-Http-clause-link_fault
-returns-in-Http-clause-link_fault g c =
+pub returns-in-Http-clause-frame : goal.returns-in-Http-clause-frame
+returns-in-Http-clause-frame g c =
     let faults = g.L.Link.faults in
-    settled_link (g.L.Link.world c.self.inside.link) (faults c.args.self.now.link) (faults c.self.inside.link) (faults c.settle.new.self.link) (faults c.ask-said.new.link) c.self.inside.faults c.settle.new.self.faults (begun c.args.job.now) c.ask-said.result c.settle.result
-    (link_same faults c.self.view_is) (ap faults c.settle.ensures.link) c.ask-said.ensures.told c.ask-said.ensures.fault c.ask-said.ensures.quiet c.settle.ensures.word c.settle.ensures.fault
+    let world = g.L.Link.world in
+    let before = link_same faults c.self.view_is in
+    let after = ap faults c.settle.ensures.link in
+    record {
+      fetches = record {
+        count = omega (arith, faults_same c.self.view_is, c.settle.ensures.frame.count);
+        same = ap world_of (ap world c.settle.ensures.link ∙ c.ask-said.ensures.frame.same ∙ link_same world c.self.view_is);
+      };
+      link_count = omega (arith, before, after, c.ask-said.ensures.frame.count);
+      link_fault = settled_link (world c.self.inside.link) (faults c.args.self.now.link) (faults c.self.inside.link) (faults c.settle.new.self.link) (faults c.ask-said.new.link) c.self.inside.faults c.settle.new.self.faults (begun c.args.job.now) c.ask-said.result c.settle.result
+          before after c.ask-said.ensures.told c.ask-said.ensures.frame.fault c.ask-said.ensures.frame.quiet c.settle.ensures.word c.settle.ensures.fault;
+    }
 
 pub returns-in-File-clause-word : goal.returns-in-File-clause-word
 returns-in-File-clause-word g c = file_word c.args.self.now.faults c.self.inside.faults (g.L.Link.world c.args.self.now.link) c.args.job.now None (faults_same c.self.view_is) refl c.in-File.is

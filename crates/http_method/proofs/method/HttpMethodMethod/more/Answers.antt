@@ -1,4 +1,4 @@
-use Rattle.std.proofs.Common.{◌∙◌, IfSome, ap, subst, sym}
+use Rattle.std.proofs.Common.{◌∙◌, IfSome, ap, arith, subst, sym}
 use Rattle.acq_outside.specs.declared.word.Fetch.{Fetch}
 use Rattle.acq_outside.specs.Word.{IsWord}
 use Rattle.http_method.specs.declared.reading.Reading.{Reading}
@@ -17,13 +17,23 @@ returns-clause-word g c =
     (of_fetch c.args.self.now.reading c.in-Some.reading (λ (fetch : Fetch). IsWord c.args.self.now.faults c.settle.new.self.faults (world_of (world c.self.inside.link)) fetch (under_of c.settle.new.self.reading) c.settle.result) was
     (narrowed c.args.self.now.faults c.settle.new.self.faults (world c.self.inside.link) c.in-Some.reading.fetch (under_of c.settle.new.self.reading) c.settle.result
     (settled_word (world c.self.inside.link) c.args.self.now.faults c.self.inside.faults c.settle.new.self.faults c.in-Some.reading.fetch c.next_word-said.result c.settle.result c.settle.new.self.reading
-    (faults_same c.self.view_is) c.next_word-said.ensures.told c.settle.ensures.word c.settle.ensures.reading c.settle.ensures.quiet c.settle.ensures.fault c.settle.ensures.over c.settle.ensures.counted)))
+    (faults_same c.self.view_is) c.next_word-said.ensures.told c.settle.ensures.word c.settle.ensures.reading c.settle.ensures.frame.quiet c.settle.ensures.fault c.settle.ensures.over c.settle.ensures.counted)))
 
-pub returns-clause-link_fault : goal.returns-clause-link_fault
-returns-clause-link_fault g c =
+pub returns-clause-frame : goal.returns-clause-frame
+returns-clause-frame g c =
     let faults = g.L.Link.faults in
-    settled_link (g.L.Link.world c.self.inside.link) (faults c.args.self.now.link) (faults c.self.inside.link) (faults c.settle.new.self.link) (faults c.next_word-said.new.link) c.self.inside.faults c.settle.new.self.faults c.in-Some.reading.fetch c.next_word-said.result c.settle.result
-    (link_same faults c.self.view_is) (ap faults c.settle.ensures.link) c.next_word-said.ensures.told c.next_word-said.ensures.fault c.next_word-said.ensures.quiet c.settle.ensures.word c.settle.ensures.fault
+    let world = g.L.Link.world in
+    let before = link_same faults c.self.view_is in
+    let after = ap faults c.settle.ensures.link in
+    record {
+      fetches = record {
+        count = omega (arith, faults_same c.self.view_is, c.settle.ensures.frame.count);
+        same = ap world_of (ap world c.settle.ensures.link ∙ c.next_word-said.ensures.frame.same ∙ link_same world c.self.view_is);
+      };
+      link_count = omega (arith, before, after, c.next_word-said.ensures.frame.count);
+      link_fault = settled_link (world c.self.inside.link) (faults c.args.self.now.link) (faults c.self.inside.link) (faults c.settle.new.self.link) (faults c.next_word-said.new.link) c.self.inside.faults c.settle.new.self.faults c.in-Some.reading.fetch c.next_word-said.result c.settle.result
+          before after c.next_word-said.ensures.told c.next_word-said.ensures.frame.fault c.next_word-said.ensures.frame.quiet c.settle.ensures.word c.settle.ensures.fault;
+    }
 
 pub returns-clause-says : goal.returns-clause-says
 returns-clause-says g c =
