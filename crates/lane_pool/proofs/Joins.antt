@@ -123,15 +123,6 @@ module _ {M : Type 0} (world : M → Option World) (faults : M → ℕ) (under :
               let o = b.counts i own p h' in
               omega arith
 
-  -- with no worker there is just the coordinator's method
-  pub alone : (own : M) (back : List M) (lanes : List (Lane M)) → back ≡ own ∷ [] → lanes ≡ [] → AreBack world faults back lanes back
-  alone own back lanes one none = record {
-    len = let a = ap length none in omega arith;
-    first = λ i d h. refl;
-    worlds = λ i d e h. absurd (let a = ap length none in omega arith);
-    counts = λ i d e h. absurd (let a = ap length none in omega arith);
-  }
-
 pub empty : {A : Type 0} (l : List A) → length l ≡ 0 → l ≡ []
 empty [] e = refl
 empty (x ∷ xs) e = absurd (omega arith)
