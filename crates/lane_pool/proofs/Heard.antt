@@ -13,7 +13,17 @@ use Rattle.lane_pool.specs.declared.rule.View.{View}
 use Rattle.lane_pool.specs.declared.told.Told.{Told}
 use Rattle.lane_pool.specs.Words.{count_after, fetch_at, IsWordTo, StandsAt, IsInOrder, IsHeard}
 use Rattle.lane_pool.specs.Rule.{IsSent}
-use Rattle.lane_pool.specs.Working.{IsWorker, IsNext, is_piece}
+use Rattle.lane_pool.specs.Working.{IsWorker, is_piece}
+
+-- the word that the method has just said to the job, where the worker's last count is `last` and the method's is now `count`
+pub record IsNext (last count : ℕ) (world : Option World) (job : Job) (under : Option Fetch) (word : Word) : Type 0 where
+  pub fetch : Fetch
+  pub of_job : fetch.job ≡ job
+  pub before : ℕ
+  pub in_order : last ≤ before
+  pub rises : before ≤ count
+  pub says : IsWord before count world fetch under word
+  pub sound : IsSoundWord word
 
 -- a piece or a size is the same to one fetch as to another that is equal
 piece_to : (before after : ℕ) (world : Option World) (f g : Fetch) (under : Option Fetch) (place : ℕ) (bytes : List ℕ) → f ≡ g → IsPiece before after world f under place bytes

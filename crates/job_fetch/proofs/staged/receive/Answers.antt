@@ -4,7 +4,7 @@ use Rattle.acq_outside.proofs.Framed.{stayed_on}
 use Rattle.acq_outside.specs.Word.{HasSize, IsWord}
 use Rattle.journal_model.specs.Rest.{part_bytes}
 use Rattle.job_fetch.specs.Fetched.{IsAnswer}
-use Rattle.job_fetch.specs.Pieces.{HasCome, fetch_at}
+use Rattle.job_fetch.specs.Pieces.{fetch_at}
 use Rattle.job_fetch.proofs.Ends.{any_answers, any_more, on_err}
 use Rattle.job_fetch.proofs.Fillings.{bytes_named, longer, front_more, staging_more, staging_named, told_before}
 use Rattle.job_fetch.proofs.Pieces.{all_staged, come_more}
