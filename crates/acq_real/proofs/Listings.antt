@@ -1,5 +1,5 @@
 -- Which names are listed: what is kept of them name by name, and that an order without repetition changes nothing of that.
-use Rattle.std.proofs.Common.{◌≡◌, sym, subst, arith, ⊎_elim, ℕ, List, [], ◌∷◌, ◌++◌, get_or, All, Contains, AllPairs}
+use Rattle.std.proofs.Common.{◌≡◌, sym, subst, ⊎_elim, ℕ, List, [], ◌∷◌, ◌++◌, get_or, All, Contains, AllPairs}
 use Rattle.std.specs.Ordering.{nat_cmp}
 use Rattle.std.specs.declared.cmp.Ordering.TheVariants.{Less}
 use Rattle.std.specs.List.{dedup}
@@ -17,9 +17,6 @@ use Rattle.acq_real.specs.Listing.{IsTaken, Keeps}
 
 abbrev pub Names : Type 0
 Names = List (List ℕ)
-
-pub keeps_nothing : Keeps [] []
-keeps_nothing = record { sound = λ name within. absurd (omega (arith, within.1)); complete = λ name within taken. within }
 
 pub keeps_push : (names kept : Names) (name : List ℕ) → IsTaken name → Keeps names kept → Keeps (names ++ name ∷ []) (kept ++ name ∷ [])
 keeps_push names kept name taken keeps = record {

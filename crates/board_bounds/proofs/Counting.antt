@@ -171,11 +171,6 @@ heard_by_keys : List Key → List Note → ℕ
 heard_by_keys [] notes = 0
 heard_by_keys (key ∷ keys) notes = length (of_key key notes) + heard_by_keys keys notes
 
-none-heard : (keys : List Key) → heard_by_keys keys [] ≡ 0
-unfolding heard_by_keys
-none-heard [] = refl
-none-heard (key ∷ keys) = let rest = none-heard keys in omega (arith, rest)
-
 one-more : (keys : List Key) (note : Note) (notes : List Note) → heard_by_keys keys (note ∷ notes) ≡ times_key note.key keys + heard_by_keys keys notes
 unfolding heard_by_keys times_key
 one-more [] note notes = omega arith

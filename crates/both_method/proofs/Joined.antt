@@ -22,9 +22,6 @@ own_entries scheme uri rest is none (entry ∷ world) = by (own_entries scheme u
     by less true same = ap (λ a. if same_uri entry.0 uri then entry.1 else a) less
     by less false other = less ∙ ap (λ b. if b then entry.1 else answer_at world uri) (sym (other_uri entry.0 uri scheme is other))
 
-apart : Scheme → Scheme → Type 0
-apart a b = (scheme_index a == scheme_index b) ≡ false
-
 index_is : (a b : Scheme) → (scheme_index a == scheme_index b) ≡ true → a ≡ b
 index_is Http Http same = refl
 index_is Http File same = absurd cc

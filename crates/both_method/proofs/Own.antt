@@ -7,7 +7,7 @@ use Rattle.acq_outside.specs.Count.{Rose, one_more}
 use Rattle.acq_outside.specs.declared.word.Fetch.{Fetch}
 use Rattle.acq_outside.specs.declared.word.Word.{Word}
 use Rattle.acq_outside.specs.declared.word.Word.TheVariants.{Piece, Done, Other}
-use Rattle.acq_outside.specs.Word.{HasSize, IsPieceOf, IsSoundWord, IsWord, Tells}
+use Rattle.acq_outside.specs.Word.{HasSize, IsPieceOf, IsWord, Tells}
 use Rattle.acq_base.specs.declared.uri.Scheme.{Scheme}
 use Rattle.acq_base.specs.declared.uri.Scheme.TheVariants.{Http, File}
 use Rattle.both_method.specs.BothMethod.{BothState, IsTurn, joined, own_count, own_word, under_of}
@@ -51,17 +51,6 @@ own_says x y n m world all fetch under (Other (replies.Garbled at)) carries is c
 own_says x y n m world all fetch under (Other (replies.Fault a b)) carries is counted = record { counted = (refl, refl, rises n m counted); ended = is.ended; told = fault_told all fetch n m }
 own_says x y n m world all fetch under (Other replies.NoMemory) carries is counted =
     own_quiet n m all fetch under (Other replies.NoMemory) counted (record { counted = refl; ended = is.ended; told = carries (λ answer. Tells answer fetch.job replies.NoMemory) is.told })
-
-pub own_sound : (n m : ℕ) (word : Word) → IsSoundWord word → IsSoundWord (own_word n m word)
-own_sound n m (Piece place bytes) sound = tt
-own_sound n m (Done size) sound = tt
-own_sound n m (Other (replies.Served bytes)) sound = sound
-own_sound n m (Other (replies.Moved place)) sound = sound
-own_sound n m (Other (replies.Absent status)) sound = sound
-own_sound n m (Other replies.TooBig) sound = sound
-own_sound n m (Other (replies.Garbled at)) sound = sound
-own_sound n m (Other (replies.Fault a b)) sound = tt
-own_sound n m (Other replies.NoMemory) sound = sound
 
 pub file_word : (x y n k m : ℕ) (seen files peers : Option World) (fetch : Fetch) (under other : Option Fetch) (turn : Option Scheme) (word result : Word) → k ≡ n → seen ≡ files → turn ≡ Some File → fetch.job.uri.scheme ≡ File
     → IsWord x y seen fetch under word → result ≡ own_word k m word → m ≡ own_count k word → IsWord n m (joined files peers) fetch (under_of turn under other) result

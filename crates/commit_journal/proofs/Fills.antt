@@ -10,9 +10,15 @@ use Rattle.commit_journal.specs.declared.changing.Change.TheVariants.{Put, Drop}
 use Rattle.commit_journal.specs.declared.changing.Content.{Content}
 use Rattle.commit_journal.specs.declared.changing.Content.TheVariants.{Held, Staged}
 use Rattle.commit_journal.specs.Changes.{content_of, touched, all_changes, IsNone, AreApart, AllAllowed, AreStaged}
-use Rattle.commit_journal.specs.Laying.{AreFilledFrom, KeepsUnnamedIn, Fills}
+use Rattle.commit_journal.specs.Laying.{AreFilledFrom, KeepsUnnamedIn}
 use Rattle.commit_journal.proofs.Recordable.{Away}
 use Rattle.commit_journal.proofs.Parted.{none_split, apart_split, away_turned, away_split, allowed_parts, change_at, take_next, group_at, group_next}
+
+-- after some of the changes
+pub record Fills (done : List Change) (old now : List State) : Type 0 where
+  pub moments : Since old now (KeepsRest old)
+  pub others : KeepsUnnamedIn (touched done) old now
+  pub filled : Stands (AreFilledFrom (part_bytes old) done) now
 
 -- one call after another
 rest_by_steps : IsBySteps StaysAtRest

@@ -16,5 +16,4 @@ mod Records
 mod Notes
 mod Prepares
 mod Running
-mod Samples
 mod Allowed

@@ -11,7 +11,7 @@ use Rattle.acq_outside.specs.declared.state.FileState.{FileState}
 use Rattle.acq_outside.specs.declared.state.NameChange.{NameChange}
 use Rattle.journal_model.specs.Names.{journal}
 use Rattle.journal_model.specs.Reading.{gate_of, gate_in}
-use Rattle.journal_model.specs.Rest.{AllAside, IsClosed, IsIdle}
+use Rattle.journal_model.specs.Rest.{AllAside}
 use Rattle.journal_model.specs.Steps.{AreOf}
 use Rattle.journal_model.proofs.Views.{settled_names}
 use Rattle.journal_model.specs.declared.step.Step.{Step}
@@ -19,7 +19,6 @@ use Rattle.journal_model.specs.declared.step.Gate.TheVariants.{Open, Shut}
 use Rattle.commit_journal.specs.Opening.{Recovers}
 use Rattle.commit_journal.specs.Phases.{IsUnmoved, IsLaid, IsCarrying, IsUnset}
 use Rattle.commit_journal.proofs.Recovers.{sync_goes, names_go}
-use Rattle.commit_journal.proofs.Carries.{kept_closed}
 
 always : (old : List State) → Stands (λ s. Unit {0}) old
 always [] = tt
@@ -51,13 +50,6 @@ reads_laid s laid = ap (λ (m : Names). seen_at s.files (m journal)) (settled_na
 none_aside : (s : State) → s.pending ≡ [] → AllAside s.pending
 none_aside s unmoved = subst (λ (l : List NameChange). AllAside l) (sym unmoved) tt
 
--- the gate is 0
-closed_case : (s : State) (o : Option ℕ) (rest : List ℕ) → s.base journal ≡ o → IsLaid s → seen_at s.files o ≡ Some (0 ∷ rest) → IsIdle s
-closed_case s None rest leads laid is = absurd cc
-closed_case s (Some j) rest leads laid is =
-    let seen : (file_at s.files j).seen ≡ 0 ∷ rest = cc in
-    record { aside = none_aside s laid.unmoved; number = j; leads = leads; closed = subst IsClosed (sym (laid.lasts j leads ∙ ap synced seen)) (kept_closed rest) }
-
 -- it is open before these steps
 open_case : (s : State) (o : Option ℕ) (steps : List Step) → s.base journal ≡ o → IsLaid s → gate_in (seen_at s.files o) ≡ Open steps → IsCarrying steps [] s
 open_case s None steps leads laid is = absurd cc
@@ -81,12 +73,6 @@ unset_case s laid is = record {
 
 told_yes : (tells : Bool) → tells ≡ true → IsTrue tells
 told_yes tells is = subst IsTrue (sym is) refl
-
-pub closed_idle : (tells : Bool) (files : Files) (trace : List State) → IsShown tells files trace → Stands IsLaid trace → (IsTrue tells → (rest : List ℕ) × (files journal ≡ Some (0 ∷ rest))) → Stands IsIdle trace
-closed_idle tells files [] shown laid is = tt
-closed_idle tells files (s ∷ past) shown laid is =
-    let content = is (told_yes tells shown.0) in
-    closed_case s (s.base journal) content.0 refl laid (sym (reads_laid s laid) ∙ ap (λ (f : Files). f journal) (sym shown.1) ∙ content.1)
 
 pub opened_carrying : (tells : Bool) (files : Files) (trace : List State) (steps : List Step) → IsShown tells files trace → Stands IsLaid trace → (IsTrue tells → Open steps ≡ gate_in (files journal)) → Stands (IsCarrying steps []) trace
 opened_carrying tells files [] steps shown laid is = tt

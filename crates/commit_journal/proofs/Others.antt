@@ -92,12 +92,6 @@ call_leaves Own call (s ∷ past) new (Err e) owns sound (inr part) = record { s
 pub others_on : (Own : List ℕ → Type 0) (old mid new : List State) → LeavesOthers Own old mid → LeavesOthers Own mid new → LeavesOthers Own old new
 others_on Own old mid new first later = record { same = λ name away. later.same name away ∙ first.same name away }
 
-pub others_still : (Own : List ℕ → Type 0) (old new : List State) → new ≡ old → LeavesOthers Own old new
-others_still Own old new is = record { same = λ name away. ap (λ (l : List State). file_now l name) is }
-
-pub others_widen : (Own Wide : List ℕ → Type 0) (old new : List State) → ((name : List ℕ) → Own name → Wide name) → LeavesOthers Own old new → LeavesOthers Wide old new
-others_widen Own Wide old new more leaves = record { same = λ name away. leaves.same name (λ own. away (more name own)) }
-
 -- a step's call is the commit's own
 pub owns_step : (steps : List Step) (step : Step) → IsIn step steps → Owns (IsOfCommit steps) (call_of step)
 owns_step steps (Put list) is = (inr (Put list, is, inr refl), inr (Put list, is, inl refl))

@@ -48,9 +48,6 @@ more_begun commits folder least most greater s grows leaves image is =
     let has = leaves image is in
     record { count = has.count; no_fewer = has.no_fewer; no_more = omega (arith, has.no_more, grows); is = has.is }
 
-rests_leave : (folder : Files) (now : List State) → Stands (IsAtRest folder) now → Stands (Leaves folder) now
-rests_leave folder now rest = stands_as (IsAtRest folder) (Leaves folder) now (λ s at_rest. at_rest.leaves) rest
-
 -- within a preparation
 prepared_since : (folder : Files) (old now : List State) → Stands (IsAtRest folder) old → Since old now (KeepsLists old) → Since old now (Leaves folder)
 prepared_since folder old now rest since = since_map (KeepsLists old) (Leaves folder) old now (λ s keeps. keeps folder rest) since

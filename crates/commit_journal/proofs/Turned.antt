@@ -69,11 +69,6 @@ opens_over groups steps old mid [] (Ok x) over opens = tt
 opens_over groups steps old mid (s ∷ past) (Ok x) over opens = λ folder ready. opens folder (stepped_all steps folder) (written_to groups steps old mid folder over ready)
 opens_over groups steps old mid new (Err e) over opens = tt
 
--- and the record carried out
-over_to : (groups : List (List Change)) (steps : List (List Filled)) (old mid : List State) (folder : Files) → Stands (OpensOver groups steps old) mid → Stands (IsReadyOver groups folder) old → Stands (Leaves (stepped_all steps folder)) mid
-over_to groups steps old [] folder over ready = tt
-over_to groups steps old (s ∷ past) folder over ready = over folder ready
-
 leaves_after : (to : Files) (s t : State) → Recovers s t → Leaves to s → Leaves to t
 leaves_after to s t recovers leaves image left = let earlier = recovers.images image left in earlier.same ∙ leaves earlier.before earlier.was
 

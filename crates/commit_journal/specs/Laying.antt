@@ -1,12 +1,11 @@
 -- The states between the calls of a preparation.
 use Rattle.std.specs.Prelude.{◌≡◌, ℕ, List, [], ◌∷◌, Some}
 use Rattle.acq_outside.specs.Crash.{State, file_at, synced}
-use Rattle.acq_outside.specs.Moments.{Stands, Since}
 use Rattle.journal_model.specs.Names.{journal}
-use Rattle.journal_model.specs.Rest.{IsIdle, IsPartSynced, KeepsRest, file_now, part_bytes}
+use Rattle.journal_model.specs.Rest.{IsIdle, IsPartSynced, file_now}
 use Rattle.commit_journal.specs.declared.changing.Change.{Change}
 use Rattle.commit_journal.specs.declared.changing.Change.TheVariants.{Put, Drop}
-use Rattle.commit_journal.specs.Changes.{content_of, touched, IsNone}
+use Rattle.commit_journal.specs.Changes.{content_of, IsNone}
 
 -- what a Put puts is there with these bytes of lists on their way, and lasts
 abbrev pub IsFilledFrom : (List ℕ → List ℕ) → State → Change → Type 0
@@ -20,12 +19,6 @@ AreFilledFrom part (change ∷ changes) s = IsFilledFrom part s change × AreFil
 -- the files of all names but these stay, and so does what lasts of them
 abbrev pub KeepsUnnamedIn : List (List ℕ) → List State → List State → Type 0
 KeepsUnnamedIn names old new = (other : List ℕ) → IsNone other names → file_now new other ≡ file_now old other
-
--- after some of the changes
-pub record Fills (done : List Change) (old now : List State) : Type 0 where
-  pub moments : Since old now (KeepsRest old)
-  pub others : KeepsUnnamedIn (touched done) old now
-  pub filled : Stands (AreFilledFrom (part_bytes old) done) now
 
 -- a commit may be prepared, and no change of names is pending
 pub record IsIdleUnmoved (s : State) : Type 0 where

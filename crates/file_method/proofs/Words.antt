@@ -7,11 +7,10 @@ use Rattle.acq_base.specs.declared.fetch.Answer.{Answer}
 use Rattle.acq_base.specs.declared.fetch.Reply.TheVariants as replies
 use Rattle.acq_base.specs.Mirror.{answer_at}
 use Rattle.acq_base.specs.Uri.{IsSound}
-use Rattle.acq_outside.specs.Count.{Rose, one_more}
 use Rattle.acq_outside.specs.Tree.{TreeFiles, file_at}
 use Rattle.acq_outside.specs.declared.word.Fetch.{Fetch}
 use Rattle.acq_outside.specs.declared.word.Word.{Word}
-use Rattle.acq_outside.specs.declared.word.Word.TheVariants.{Piece, Done, Other}
+use Rattle.acq_outside.specs.declared.word.Word.TheVariants.{Other}
 use Rattle.acq_outside.specs.Word.{HasSize, IsPieceOf, IsWord, Tells, after_word, begun}
 use Rattle.file_method.specs.TreeMirror.{file_uri, mirror_of}
 use Rattle.file_method.specs.FileMethod.{FileState, IsFetchOf, world_of}
@@ -78,28 +77,6 @@ read_word n files size fetch (byte ∷ bytes) is small short part = record {
   told = told_piece files size fetch (byte ∷ bytes) is part;
 }
 
--- it stays within the file
-pub read_within : (size : ℕ) (fetch : Fetch) (bytes : List ℕ) → fetch.at ≤ size → length bytes ≤ size - fetch.at → IfSome (after_word fetch (word_of fetch.at bytes)) (λ later. later.at ≤ size)
-read_within size fetch [] within short = tt
-read_within size fetch (byte ∷ bytes) within short = fits fetch.at _ size size within (omega arith) short
-
--- what is under way behind a word is a fetch of the same file
-pub later_fetch : (files : Option TreeFiles) (size : ℕ) (fetch : Fetch) (word : Word) → IsFetchOf files size fetch → IfSome (after_word fetch word) (λ later. later.at ≤ size) → IfSome (after_word fetch word) (IsFetchOf files size)
-later_fetch files size fetch (Piece place bytes) is within = record { uri = is.uri; within = within; small = is.small; begins = is.begins; told = is.told }
-later_fetch files size fetch (Done end) is within = tt
-later_fetch files size fetch (Other reply) is within = tt
-
-rises : (n m : ℕ) → m ≡ one_more n → Rose n m
-rises n m is = grind arith
-
-pub fault_word : (n m : ℕ) (files : Option TreeFiles) (fetch : Fetch) → m ≡ one_more n → IsWord n m (world_of files) fetch None (Other (replies.Fault n m))
-fault_word n m None fetch is = record { counted = (refl, refl, rises n m is); ended = refl; told = tt }
-fault_word n m (Some all) fetch is = record { counted = (refl, refl, rises n m is); ended = refl; told = tt }
-
-pub starved_word : (n : ℕ) (files : Option TreeFiles) (fetch : Fetch) → IsWord n n (world_of files) fetch None (Other replies.NoMemory)
-starved_word n None fetch = record { counted = refl; ended = refl; told = tt }
-starved_word n (Some all) fetch = record { counted = refl; ended = refl; told = tt }
-
 -- the file is longer than the job's limit
 pub long_word : (n size : ℕ) (files : Option TreeFiles) (job : Job) → IsSound job.uri → job.uri.scheme ≡ File → job.max < size → IfSome files (λ all. option_map length (file_at all job.uri.path) ≡ Some size)
     → IsWord n n (world_of files) (begun job) None (Other replies.TooBig)
@@ -147,11 +124,6 @@ elsewhere_word n files job other = record { counted = refl; ended = refl; told =
     by : (files : Option TreeFiles) → IfSome (world_of files) (λ entries. Tells (answer_at entries job.uri) job (replies.Absent 404))
     by None = tt
     by (Some all) = let P : Answer → Type 0 = λ answer. Tells answer job (replies.Absent 404) in subst P (sym (elsewhere all job.uri other)) refl
-
--- a fetch that begins
-pub begun_fetch : (files : Option TreeFiles) (size : ℕ) (job : Job) → IsSound job.uri → job.uri.scheme ≡ File → size ≤ job.max → (job.from ≡ 0) ⊎ (job.from < size)
-    → IfSome files (λ all. option_map length (file_at all job.uri.path) ≡ Some size) → IsFetchOf files size (begun job)
-begun_fetch files size job sound file small begins is = record { uri = is_file_uri job.uri sound file; within = ⊎_elim (λ (none : job.from ≡ 0). omega arith) (λ (some : job.from < size). omega arith) begins; small = small; begins = begins; told = is }
 
 -- a word after which nothing is under way, with values that are equal
 pub idle_word : (n m : ℕ) (files : Option TreeFiles) (fetch : Fetch) (under : Option Fetch) (word : Word) → m ≡ n → under ≡ None → IsWord n n (world_of files) fetch None word → IsWord n m (world_of files) fetch under word

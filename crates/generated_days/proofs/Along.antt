@@ -43,9 +43,6 @@ same-behind : (w : Way) (f g : Uri → List Position) → ((to : Uri) → f to �
 same-behind (On to) f g same = same to
 same-behind (Stop ending) f g same = refl
 
-position-of : Uri → Closed → Position
-position-of uri closed = record { uri = uri; told = record { lane = 0; closed = closed } ∷ [] }
-
 same-positions : (mirror : World) (part : List ℕ) (ask : Ask) (at : Uri) (left : ℕ) (uri : Uri) → positions_by left mirror part (record ask { uri = at }) uri ≡ positions_by left mirror part ask uri
 same-positions mirror part ask at zero uri =
     ap (λ (c : Closed). record { uri = uri; told = record { lane = 0; closed = c } ∷ [] } ∷ []) (same-answer part ask at (answer_at mirror uri))

@@ -1,11 +1,8 @@
 -- How a response begins behind its request.
-use Rattle.std.proofs.Common.{◌≡◌, ◌∙◌, ℕ, ◌+◌, ◌≤◌, ◌==◌, ◌&&◌, Bool, true, false, bytes_eq, List, [], ◌++◌, Option, Some, None, IfSome, option_map, unwrap_or, ⊎_elim, inl, inr, refl, sym, ap, subst, arith, append-nil}
-use Rattle.std.proofs.lemmas.Bool.{eqb-true}
-use Rattle.std.proofs.lemmas.Slice.Eq.{bytes_eq-Decides}
+use Rattle.std.proofs.Common.{◌≡◌, ◌∙◌, ℕ, ◌+◌, Bool, true, false, List, [], ◌++◌, Option, Some, None, IfSome, option_map, unwrap_or, ⊎_elim, inl, inr, refl, sym, ap, subst, arith, append-nil}
 use Rattle.acq_base.specs.declared.fetch.Job.{Job}
 use Rattle.acq_base.specs.declared.fetch.Reply.TheVariants as replies
 use Rattle.acq_base.specs.Uri.{IsSound}
-use Rattle.acq_outside.specs.Count.{Rose}
 use Rattle.acq_outside.specs.declared.word.Fetch.{Fetch}
 use Rattle.acq_outside.specs.declared.word.Word.TheVariants.{Other}
 use Rattle.acq_outside.specs.Word.{CanBegin, begun}
@@ -23,7 +20,7 @@ use Rattle.http_method.specs.declared.reading.Reading.{Reading}
 use Rattle.http_method.specs.declared.reading.Place.{Place}
 use Rattle.http_method.specs.declared.reading.Said.{Said}
 use Rattle.http_method.specs.Line.{Connects, Line, Sends}
-use Rattle.http_method.specs.Reading.{Hears, HearsSo, IsAsked, IsOpen, IsOwed, IsReading, IsTold, Reads, Goes, SaysOn, BeginsAnew, BeginsAgain, BeginsOn, asked, is_for, place_of}
+use Rattle.http_method.specs.Reading.{Hears, HearsSo, IsAsked, IsOpen, IsOwed, IsReading, Reads, Goes, SaysOn, BeginsAnew, BeginsAgain, BeginsOn, asked, is_for, place_of}
 use Rattle.http_method.proofs.Received.{small_none}
 
 asked_with : Talk → List ℕ → List ℕ → Bool → Talk
@@ -109,33 +106,6 @@ begins_again first line later r job said fetch reads says = record { is = inl (h
 pub reads_on : (line later : Line) (r next : Reading) (before : Talk) → Reads line r before [] → Goes line r later next [] → Reads later next before []
 reads_on line later r next before reads goes = goes.is before [] reads
 
-pub told_first : (world later : Option World) (r : Reading) (job : Job) (said : Said) → r.fetch ≡ begun job → later ≡ world → IsTold later r.fetch said → IsTold world (begun job) said
-told_first world later r job said fetch same told = subst (λ w. IsTold w (begun job) said) same (subst (λ (f : Fetch). IsTold later f said) fetch told)
-
-pub told_again : (world later : Option World) (job : Job) (said : Said) → later ≡ world → IsTold later (begun job) said → IsTold world (begun job) said
-told_again world later job said same told = subst (λ w. IsTold w (begun job) said) same told
-
--- what is kept for the URI's host and port is open to it
-pub kept_for_it : (line : Line) (kept : Option Place) (uri : Uri) → IfSome kept (IsOpen line) → is_for kept uri ≡ true → IsOpen line (place_of uri)
-kept_for_it line None uri opened for_it = absurd cc
-kept_for_it line (Some place) uri opened for_it =
-    let both = and_both (bytes_eq place.host uri.host) (place.port == uri.port) for_it in
-    let host : place.host ≡ uri.host = (bytes_eq-Decides place.host uri.host).0 both.0 in
-    let port : place.port ≡ uri.port = eqb-true place.port uri.port both.1 in
-    record { told = opened.told; ready = on line.world host port opened.ready }
-  where
-    and_both : (a b : Bool) → a && b ≡ true → (a ≡ true) × (b ≡ true)
-    and_both true true both = (refl, refl)
-    and_both true false both = absurd cc
-    and_both false b both = absurd cc
-
-    on : (world : Option World) → place.host ≡ uri.host → place.port ≡ uri.port → IfSome world (λ entries. line.due ≡ Some (fresh place.host place.port)) → IfSome world (λ entries. line.due ≡ Some (fresh uri.host uri.port))
-    on None host port ready = tt
-    on (Some entries) host port ready = ready ∙ ap (λ h. Some (fresh h place.port)) host ∙ ap (λ p. Some (fresh uri.host p)) port
-
-pub anew_again : (first later : Line) (job : Job) (said : Said) → BeginsAnew later job said → BeginsAgain first later job said
-anew_again first later job said anew = record { is = inr anew.is }
-
 pub anew_on : (line : Line) (kept : Option Place) (later : Line) (job : Job) (said : Said) → BeginsAnew later job said → BeginsOn line kept later job said
 anew_on line kept later job said anew = record { is = inr anew.is }
 
@@ -147,6 +117,3 @@ dry_hears later job said dry = subst (λ w. Hears later job silent [] w said.kep
 
 pub dry_anew : (later : Line) (job : Job) (said : Said) → said.word ≡ Other replies.NoMemory → BeginsAnew later job said
 dry_anew later job said dry = record { is = dry_hears later job said dry }
-
-pub rose_on : (a b c : ℕ) → Rose a b → b ≤ c → Rose a c
-rose_on a b c rose more = grind (arith)

@@ -4,7 +4,6 @@ use Rattle.acq_base.specs.declared.fetch.Job.{Job}
 use Rattle.acq_base.specs.declared.fetch.Reply.{Reply}
 use Rattle.acq_base.specs.declared.fetch.Reply.TheVariants as replies
 use Rattle.acq_base.specs.declared.uri.Uri.{Uri}
-use Rattle.acq_base.specs.Fetch.{IsSoundReply}
 use Rattle.acq_outside.specs.declared.word.Fetch.{Fetch}
 use Rattle.acq_outside.specs.declared.word.Word.{Word}
 use Rattle.acq_outside.specs.declared.word.Word.TheVariants.{Piece, Done, Other}
@@ -29,7 +28,7 @@ use Rattle.http_method.specs.declared.reading.Said.{Said}
 use Rattle.http_method.specs.Line.{Line, line_of}
 use Rattle.http_method.specs.Reading.{GivesOn, Goes, HearsSo, IsAsked, IsOpen, IsReading, IsServed, IsTold, IsKeptBehind, Keeps, Ends, Hears, Reads, SaysOn, StandsBehind, is_end, is_file, is_kept, keeps, kept_if, leaves_open, part_of, under_of, word_of}
 use Rattle.http_method.proofs.Received.{AllGrow, AllTell}
-use Rattle.http_method.proofs.Mirrors.{AllFit, AllRise, Means, OneReading, Stays, StaysAtEnd, ends_open, followed_none, means_dry, means_last, means_piece, piece_within, told_word}
+use Rattle.http_method.proofs.Mirrors.{AllFit, AllRise, Means, OneReading, Stays, StaysAtEnd, ends_open, followed_none, means_last, means_piece, piece_within, told_word}
 
 -- the reply is that of what is heard
 abbrev pub AllReply : Uri → WireState → Reply → Type 0
@@ -233,15 +232,6 @@ last_told one stays till tells line later r reply same is over all says = record
       (means_last one stays till later r.fetch is.before is.given (word_of r.fetch.at reply) (last_said r reply).kept n is.can is.place untold hears));
 }
 
-pub last_sound : (at : ℕ) (reply : Reply) → IsSoundReply reply → IsSoundWord (word_of at reply)
-last_sound at (replies.Served bytes) sound = tt
-last_sound at (replies.Moved place) sound = sound
-last_sound at (replies.Absent status) sound = sound
-last_sound at replies.TooBig sound = sound
-last_sound at (replies.Garbled place) sound = sound
-last_sound at (replies.Fault a b) sound = sound
-last_sound at replies.NoMemory sound = sound
-
 -- what is kept is open
 keeps_last : (one : OneReading) (stays : Stays) (till : StaysAtEnd) (line : Line) (job : Job) (before : Talk) (given : List ℕ) (at : ℕ) (reply : Reply) (keep : Bool) → CanBegin job
     → Hears line job before given (word_of at reply) (kept_if (is_file reply && keep) job.uri) None → IfSome (kept_if (is_file reply && keep) job.uri) (IsOpen line)
@@ -260,15 +250,6 @@ last_keeps one stays till tells line later r reply same is over all says = recor
   open_is = keeps_last one stays till later r.fetch.job is.before is.given r.fetch.at reply (is_kept r.behind (wire_state r.wire)) is.can (last_hears one stays tells line later r reply same is over all says);
   one = λ some. absurd cc;
 }
-
-pub last_behind : (at : ℕ) (reply : Reply) (keep : Bool) (uri : Uri) → IsKeptBehind (word_of at reply) (kept_if (is_file reply && keep) uri)
-last_behind at (replies.Served bytes) keep uri = tt
-last_behind at (replies.Moved place) keep uri = refl
-last_behind at (replies.Absent status) keep uri = refl
-last_behind at replies.TooBig keep uri = refl
-last_behind at (replies.Garbled place) keep uri = refl
-last_behind at (replies.Fault a b) keep uri = refl
-last_behind at replies.NoMemory keep uri = refl
 
 -- the last word by what was asked of the wire
 said_last : (r : Reading) (reply : Reply) (word : Word) (kept : Option Place) (file keep : Bool) (state : State) → word ≡ word_of r.fetch.at reply → kept ≡ kept_if (file && keep) r.fetch.job.uri → file ≡ is_file reply → keep ≡ is_kept r.behind state
@@ -293,11 +274,6 @@ finish_all one stays till tells line later r reply word kept file keep state wor
     })
 
 -- ---- what is said of a reading that gave bytes out
-
-pub part_gives : (line : Line) (r : Reading) (bytes : List ℕ) (said : Said) → said ≡ part_of r bytes → GivesOn line r line bytes said
-part_gives line r bytes said is = subst (λ s. GivesOn line r line bytes s) (sym is) (record {
-  is = λ before given reads. (refl, record { bytes = reads.bytes; rest = reads.rest; follows = reads.follows; stands = reads.stands; told = reads.told });
-})
 
 part_untold : (r : Reading) (bytes : List ℕ) (n : ℕ) → 0 < length bytes → length bytes ≤ 65536 → r.fetch.at + length bytes ≤ r.fetch.job.max → IsWord n n None r.fetch (under_of (part_of r bytes).reading) (Piece r.fetch.at bytes)
 part_untold r bytes n some small within = record { quiet = refl; goes_on = refl; nonempty = (omega (arith, some)); small = small; within = within; under_way = refl; told = tt }
@@ -329,29 +305,6 @@ part_is line r bytes is = record {
 
 pub part_keeps : (line : Line) (r : Reading) (bytes : List ℕ) (said : Said) → said ≡ part_of r bytes → IsReading line r bytes → Keeps line said.kept said.reading
 part_keeps line r bytes said said_is is = subst (λ (s : Said). Keeps line s.kept s.reading) (sym said_is) (record { reads = part_is line r bytes is; open_is = tt; one = λ some. refl })
-
-pub dry_told : (world : Option World) (fetch : Fetch) (said : Said) → said.word ≡ Other replies.NoMemory → said.reading ≡ None → IsTold world fetch said
-dry_told world fetch said dry none = record {
-  is = λ n.
-      let P : Option Reading → Type 0 = λ o. IsWord n n world fetch (under_of o) said.word in
-      let Q : Word → Type 0 = λ w. IsWord n n world fetch None w in
-      let empty : IsWord n n None fetch None (Other replies.NoMemory) = record { counted = refl; ended = refl; told = tt } in
-      subst P (sym none) (subst Q (sym dry) (told_word n n world fetch None (Other replies.NoMemory) empty (means_dry world fetch)));
-}
-
-pub dry_keeps : (line : Line) (said : Said) → said.kept ≡ None → said.reading ≡ None → Keeps line said.kept said.reading
-dry_keeps line said kept reading =
-    let P : Option Place → Type 0 = λ k. Keeps line k said.reading in
-    let Q : Option Reading → Type 0 = λ o. Keeps line None o in
-    subst P (sym kept) (subst Q (sym reading) (record { reads = tt; open_is = tt; one = λ some. refl }))
-
-pub says_gives : (line later : Line) (r : Reading) (bytes : List ℕ) (said : Said) → bytes ≡ [] → SaysOn line r later said → GivesOn line r later bytes said
-says_gives line later r bytes said none says = record {
-  is = λ before given reads. says.is before given (subst (λ g. Reads line r before g) (ap (λ b. given ++ b) none ∙ append-nil given) reads);
-}
-
-pub dry_gives : (line later : Line) (r : Reading) (bytes : List ℕ) (said : Said) → said.word ≡ Other replies.NoMemory → GivesOn line r later bytes said
-dry_gives line later r bytes said dry = record { is = λ before given reads. subst (λ w. Hears later r.fetch.job before given w said.kept said.reading) (sym dry) tt }
 
 pub dry_says : (line later : Line) (r : Reading) (said : Said) → said.word ≡ Other replies.NoMemory → SaysOn line r later said
 dry_says line later r said dry = record { is = λ before given reads. subst (λ w. Hears later r.fetch.job before given w said.kept said.reading) (sym dry) tt }

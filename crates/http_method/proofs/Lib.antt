@@ -3,4 +3,3 @@ pub mod Mirrors
 pub mod Ending
 pub mod Begins
 pub mod Settled
-pub mod Going

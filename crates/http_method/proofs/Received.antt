@@ -13,7 +13,7 @@ use Rattle.http_wire.specs.declared.ending.Ending.TheVariants.{TooBig as Big}
 use Rattle.http_wire.specs.BodyLaws.{Grows}
 use Rattle.http_wire.specs.Stream.{Heard, IsHeard}
 use Rattle.http_wire.specs.State.{WireState, state_of}
-use Rattle.http_wire.specs.Wire.{Follows, Takes, Tells, Finishes, Gives, IsDone, held, wire_state}
+use Rattle.http_wire.specs.Wire.{Follows, Takes, Tells, Finishes, Gives, held, wire_state}
 use Rattle.http_wire.specs.declared.ending.State.TheVariants.{More, TooBig}
 use Rattle.http_method.specs.declared.reading.Behind.{Behind}
 use Rattle.http_method.specs.declared.reading.Behind.TheVariants.{Nothing, End}
@@ -146,16 +146,6 @@ fed r w behind piece taken none takes some is =
     let by = fed_behind taken piece in
     fed_so r w behind piece taken none takes some (ap is_end is ∙ by.0) (subst (λ b. StandsBehind b (drop taken piece)) (sym is) by.1)
 
-whole_by : (taken size : ℕ) (b : Bool) → nat_lt taken size ≡ b → taken ≡ size → behind_of taken size ≡ Nothing
-whole_by taken size true is same = let less : taken < size = ltb-true taken size is in absurd (omega (arith, less, same))
-whole_by taken size false is same = rw is refl
-
-pub fed_whole : (taken size : ℕ) (behind : Behind) → behind ≡ behind_of taken size → taken ≡ size → behind ≡ Nothing
-fed_whole taken size behind is same = is ∙ whole_by taken size (nat_lt taken size) refl same
-
-pub more_is_no_end : (w : WireState) → wire_state w ≡ More → ¬ (IsDone (wire_state w))
-more_is_no_end w more done = subst IsDone more done
-
 -- what a link received goes on
 pub goes_received : (r next : Reading) (line later : Line) (piece : List ℕ) → Received r next piece → Gets piece line later → Goes line r later next []
 goes_received r next line later piece received gets = record {
@@ -167,9 +157,6 @@ pub goes_taken : (r next : Reading) (line later : Line) (piece out : List ℕ) (
 goes_taken r next line later piece out n received is talk world came =
     let gets : Gets (take n out) line later = record { talk = talk; world = world; came = came } in
     goes_received r next line later piece received (subst (λ p. Gets p line later) (sym is) gets)
-
-pub goes_none : (line : Line) (r : Reading) → Goes line r line r []
-goes_none line r = record { is = λ before given reads. subst (λ g. Reads line r before g) (sym (append-nil given)) reads }
 
 pub goes_on : (line middle later : Line) (r s next : Reading) (piece : List ℕ) → Goes line r middle s [] → Goes middle s later next piece → Goes line r later next piece
 goes_on line middle later r s next piece first second = record {

@@ -64,11 +64,6 @@ pub fault_answer : (world : Option World) (front : List ℕ) (stage : Bool) (job
 fault_answer None front stage job before after = record { told = tt }
 fault_answer (Some entries) front stage job before after = record { told = tt }
 
-served : (job : Job) (bytes : List ℕ) (answer : Answer) → Tells answer job (replies.Served bytes) → ⊥
-served job bytes (answers.Served all) tells = tells
-served job bytes (answers.Moved to) tells = tells
-served job bytes (answers.Absent code) tells = tells
-
 -- what an end that served nothing leaves of the file
 pub any_left : (from : ℕ) (name : List ℕ) (old new : List State) (closed : Closed) → (new ≡ old) ⊎ (IsTold new → from < length (part_bytes new name)) → LeavesFile from name old new closed
 any_left from name old new (Served body) left = tt

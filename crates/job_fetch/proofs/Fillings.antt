@@ -4,10 +4,10 @@ use Rattle.std.proofs.lemmas.List.{length-take-le, take-append-le}
 use Rattle.acq_base.specs.Sum.{sum_of}
 use Rattle.acq_base.specs.declared.sum.Sum.{Sum}
 use Rattle.acq_outside.specs.Crash.{State}
-use Rattle.acq_outside.proofs.Going.{no_time, onward}
+use Rattle.acq_outside.proofs.Going.{onward}
 use Rattle.acq_outside.specs.Moments.{IsTold, Since, Stands, From}
 use Rattle.hash_gate.specs.Pieces.{HasSummed, size_so_far}
-use Rattle.journal_model.specs.Rest.{IsPartSynced, IsPartThere, KeepsRest, StaysAtRest, bytes_in, part_bytes}
+use Rattle.journal_model.specs.Rest.{IsPartSynced, IsPartThere, KeepsRest, StaysAtRest, part_bytes}
 use Rattle.partial_store.specs.Parts.{PartOf, part_of}
 use Rattle.job_fetch.specs.Fetched.{KeepsFront, LastsAs, Staging}
 use Rattle.job_fetch.specs.Pieces.{IsFilling}
@@ -23,9 +23,6 @@ told_first states (s ∷ old) told untold = tt
 -- a disk that tells now told before
 pub told_before : (old new : List State) → Since old new (KeepsRest old) → IsTold new → IsTold old
 told_before old new since told = told_first since.states old (subst IsTold since.joined told) (λ none. sym since.joined ∙ since.untold none)
-
-pub staging_none : (name : List ℕ) (now : List State) → Staging name now now
-staging_none name now = record { moments = no_time now now (KeepsRest now) refl; others = λ other apart. refl }
 
 pub staging_more : (name : List ℕ) (old mid new : List State) → Staging name old mid → Staging name mid new → Staging name old new
 staging_more name old mid new first later = record {
@@ -71,17 +68,9 @@ begun old mid new name keep filling has since part there bytes still small sums 
 pub staging_named : (given name : List ℕ) (old new : List State) → given ≡ name → Staging given old new → Staging name old new
 staging_named given name old new same staging = subst (λ n. Staging n old new) same staging
 
--- what is synced lasts, with these bytes
-pub synced_bytes : (now : List State) (name bytes : List ℕ) → IsTold now → Stands (IsPartSynced name bytes) now → part_bytes now name ≡ bytes
-synced_bytes [] name bytes told synced = elim told [ ]
-synced_bytes (s ∷ past) name bytes told synced = ap bytes_in synced.is
-
 pub lasts_as : (now : List State) (name bytes : List ℕ) (sum : Sum) → IsTold now → Stands (IsPartSynced name bytes) now → sum_of bytes ≡ sum → LastsAs name now sum
 lasts_as [] name bytes sum told synced sums = elim told [ ]
 lasts_as (s ∷ past) name bytes sum told synced sums = record { bytes = bytes; file = synced.is; sums = sums }
-
-pub front_first : (name : List ℕ) (keep : ℕ) (now : List State) → (IsTold now → keep ≤ length (part_bytes now name)) → KeepsFront name keep now now
-front_first name keep now within = record { front = λ told. refl; within = within }
 
 pub front_more : (name : List ℕ) (keep : ℕ) (old mid new : List State) (piece : List ℕ) → (IsTold new → IsTold mid) → (IsTold new → part_bytes new name ≡ part_bytes mid name ++ piece)
     → KeepsFront name keep old mid → KeepsFront name keep old new
@@ -90,19 +79,9 @@ front_more name keep old mid new piece before bytes keeps = record {
   within = λ told. omega (arith, keeps.within (before told), ap length (bytes told), length-append (part_bytes mid name) piece);
 }
 
-pub front_same : (name : List ℕ) (keep : ℕ) (old mid new : List State) → (IsTold new → IsTold mid) → (IsTold new → part_bytes new name ≡ part_bytes mid name)
-    → KeepsFront name keep old mid → KeepsFront name keep old new
-front_same name keep old mid new before bytes keeps = record {
-  front = λ told. ap (take keep) (bytes told) ∙ keeps.front (before told);
-  within = λ told. omega (arith, keeps.within (before told), ap length (bytes told));
-}
-
 -- as one name's bytes or another's
 pub bytes_named : (given name : List ℕ) (old new : List State) (piece : List ℕ) → given ≡ name → (IsTold new → part_bytes new given ≡ part_bytes old given ++ piece) → IsTold new → part_bytes new name ≡ part_bytes old name ++ piece
 bytes_named given name old new piece same is = subst (λ n. IsTold new → part_bytes new n ≡ part_bytes old n ++ piece) same is
-
-pub same_named : (given name : List ℕ) (old new : List State) → given ≡ name → (IsTold new → part_bytes new given ≡ part_bytes old given) → IsTold new → part_bytes new name ≡ part_bytes old name
-same_named given name old new same is = subst (λ n. IsTold new → part_bytes new n ≡ part_bytes old n) same is
 
 pub longer : (from : ℕ) (given name : List ℕ) (now : List State) (len : ℕ) → given ≡ name → (IsTold now → length (part_bytes now given) ≡ len) → from < len → IsTold now → from < length (part_bytes now name)
 longer from given name now len same is past told = subst (λ n. from < length (part_bytes now n)) same (subst (λ n. from < n) (sym (is told)) past)

@@ -1,7 +1,7 @@
 -- The bytes of a file as its pieces come.
 use Rattle.std.proofs.Common.{◌≡◌, ◌⊎◌, inl, inr, refl, sym, ap, ◌∙◌, subst, ℕ, ◌+◌, ◌<◌, ◌≤◌, nat_le, nat_lt, ◌&&◌, if◌then◌else◌, Bool, true, false, List, [], ◌∷◌, ◌++◌, length, take, drop, append_assoc, length-take, length-drop, Option, Some, None, IfSome, arith}
 use Rattle.std.proofs.lemmas.Bool.{le-leb, lt-leb, le-ltb}
-use Rattle.std.proofs.lemmas.List.{append-nil, drop-append-le, take_all, drop_all}
+use Rattle.std.proofs.lemmas.List.{drop-append-le, take_all}
 use Rattle.std.proofs.Math.Bool.{and-false}
 use Rattle.std.proofs.Math.Seq.{take-add}
 use Rattle.acq_base.specs.Mirror.{World, answer_at}
@@ -12,7 +12,16 @@ use Rattle.acq_outside.specs.Word.{HasSize, IsPieceOf}
 use Rattle.update_model.specs.Trails.{answered, body_for}
 use Rattle.update_model.specs.declared.ask.Closed.TheVariants as closed
 use Rattle.job_fetch.specs.Fetched.{IsAnswer, ask_of}
-use Rattle.job_fetch.specs.Pieces.{HasCome, IsFront}
+
+-- The bytes so far: those at hand that the job leaves out, and behind them the mirror's file up to this place.
+abbrev pub IsFront : Answer → List ℕ → ℕ → ℕ → List ℕ → Type 0
+IsFront (Served all) part from at bytes = bytes ≡ take from part ++ drop from (take at all)
+IsFront (Moved place) part from at bytes = Unit {0}
+IsFront (Absent status) part from at bytes = Unit {0}
+
+-- where the method tells its mirror
+pub record HasCome (world : Option World) (part : List ℕ) (job : Job) (at : ℕ) (bytes : List ℕ) : Type 0 where
+  pub told : IfSome world (λ entries. IsFront (answer_at entries job.uri) part job.from at bytes)
 
 more : (answer : Answer) (part : List ℕ) (from at : ℕ) (bytes piece : List ℕ) → from ≤ at → IsPieceOf answer at piece → IsFront answer part from at bytes → IsFront answer part from (at + length piece) (bytes ++ piece)
 more (Served all) part from at bytes piece past goes is =
@@ -24,18 +33,6 @@ more (Served all) part from at bytes piece past goes is =
     ∙ ap (λ (l : List ℕ). take from part ++ (drop from (take at all) ++ l)) goes.0 ∙ ap (λ (l : List ℕ). take from part ++ l) (sym cut)
 more (Moved place) part from at bytes piece past goes is = tt
 more (Absent status) part from at bytes piece past goes is = tt
-
-first : (answer : Answer) (part : List ℕ) (from : ℕ) → IsFront answer part from from (take from part)
-first (Served all) part from =
-    let none : drop from (take from all) ≡ [] = drop_all from (take from all) (omega (arith, length-take from all)) in
-    sym (ap (λ (l : List ℕ). take from part ++ l) none ∙ append-nil (take from part))
-first (Moved place) part from = tt
-first (Absent status) part from = tt
-
--- nothing came yet
-pub nothing_came : (world : Option World) (part : List ℕ) (job : Job) → HasCome world part job job.from (take job.from part)
-nothing_came None part job = record { told = tt }
-nothing_came (Some entries) part job = record { told = first (answer_at entries job.uri) part job.from }
 
 -- a piece more
 pub more_came : (world : Option World) (part : List ℕ) (job : Job) (at : ℕ) (bytes piece : List ℕ) → job.from ≤ at → IfSome world (λ entries. IsPieceOf (answer_at entries job.uri) at piece)

@@ -11,12 +11,13 @@ use Rattle.journal_model.specs.Rest.{part_bytes}
 use Rattle.update_model.specs.declared.ask.Body.TheVariants.{Staged}
 use Rattle.update_model.specs.declared.ask.Closed.TheVariants.{Served}
 use Rattle.job_fetch.specs.Fetched.{IsAnswer}
-use Rattle.job_fetch.specs.Pieces.{AnswersOver, ComesOver, HasCome}
-use Rattle.job_fetch.proofs.Fronts.{all_came, more_came, nothing_came}
+use Rattle.job_fetch.specs.Pieces.{AnswersOver}
+use Rattle.job_fetch.proofs.Fronts.{all_came, more_came, HasCome}
 
-pub come_first : (world : Option World) (name : List ℕ) (now : List State) (job : Job) (at : ℕ) → at ≡ job.from → ComesOver world name now now job at
-come_first world name now job at is told part front =
-    subst (λ n. HasCome world part job n (part_bytes now name)) (sym is) (subst (λ l. HasCome world part job job.from l) (sym front) (nothing_came world part job))
+-- over all bytes of which the file on its way had at first what the job leaves out, where the disk tells too
+abbrev pub ComesOver : Option World → List ℕ → List State → List State → Job → ℕ → Type 0
+ComesOver world name old now job at =
+    IsTold now → (part : List ℕ) → part_bytes old name ≡ take job.from part → HasCome world part job at (part_bytes now name)
 
 pub come_more : (world : Option World) (name : List ℕ) (old mid new : List State) (job : Job) (at later : ℕ) (piece : List ℕ) → job.from ≤ at → later ≡ at + length piece
     → (IsTold new → IsTold mid) → (IsTold new → part_bytes new name ≡ part_bytes mid name ++ piece)

@@ -1,8 +1,6 @@
 -- What holds while the pieces of a fetch come.
-use Rattle.std.specs.Prelude.{◌≡◌, ℕ, true, ◌+◌, ◌<◌, ◌≤◌, List, ◌++◌, length, take, drop, Option, IfSome}
-use Rattle.acq_base.specs.Mirror.{World, answer_at}
-use Rattle.acq_base.specs.declared.fetch.Answer.{Answer}
-use Rattle.acq_base.specs.declared.fetch.Answer.TheVariants as answers
+use Rattle.std.specs.Prelude.{◌≡◌, ℕ, true, ◌+◌, ◌<◌, ◌≤◌, List, length, take, Option}
+use Rattle.acq_base.specs.Mirror.{World}
 use Rattle.acq_base.specs.declared.fetch.Job.{Job}
 use Rattle.acq_outside.specs.Crash.{State}
 use Rattle.acq_outside.specs.Moments.{IsTold, Stands}
@@ -18,21 +16,6 @@ use Rattle.job_fetch.specs.declared.filling.Filling.{Filling}
 -- a fetch of the job at this place
 abbrev pub fetch_at : Job → ℕ → Fetch
 fetch_at job at = record { job = job; at = at }
-
--- The bytes so far: those at hand that the job leaves out, and behind them the mirror's file up to this place.
-abbrev pub IsFront : Answer → List ℕ → ℕ → ℕ → List ℕ → Type 0
-IsFront (answers.Served all) part from at bytes = bytes ≡ take from part ++ drop from (take at all)
-IsFront (answers.Moved place) part from at bytes = Unit {0}
-IsFront (answers.Absent status) part from at bytes = Unit {0}
-
--- where the method tells its mirror
-pub record HasCome (world : Option World) (part : List ℕ) (job : Job) (at : ℕ) (bytes : List ℕ) : Type 0 where
-  pub told : IfSome world (λ entries. IsFront (answer_at entries job.uri) part job.from at bytes)
-
--- and where the disk tells too: over all bytes of which the file on its way had at first what the job leaves out
-abbrev pub ComesOver : Option World → List ℕ → List State → List State → Job → ℕ → Type 0
-ComesOver world name old now job at =
-    IsTold now → (part : List ℕ) → part_bytes old name ≡ take job.from part → HasCome world part job at (part_bytes now name)
 
 -- The list's file on its way is there and as long as the part says, and the total is that of its bytes.
 pub record IsFilling (now : List State) (filling : Filling) : Type 0 where

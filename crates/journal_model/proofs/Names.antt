@@ -1,5 +1,5 @@
 -- A name is changed twice just where it is in the set of the names that are changed.
-use Rattle.std.proofs.Common.{◌≡◌, refl, sym, ap, ◌∙◌, ℕ, Bool, true, false, ◌||◌, if◌then◌else◌, List, [], ◌∷◌, ◌++◌, drop}
+use Rattle.std.proofs.Common.{◌≡◌, refl, sym, ap, ◌∙◌, ℕ, Bool, true, false, ◌||◌, if◌then◌else◌, List, [], ◌∷◌, drop}
 use Rattle.std.specs.List.{list_any}
 use Rattle.std.specs.Ordering.{nat_cmp}
 use Rattle.std.specs.Cmp.Lexicographic.{slice_cmp}
@@ -82,23 +82,6 @@ any_drop name (step ∷ steps) = ap (λ (b : Bool). b || list_any (clashes (Drop
 
 pub drop_clash : (name : List ℕ) (steps : List Step) (names : BTreeSet (List ℕ)) → HasNames names steps → has names name ≡ list_any (clashes (Drop name)) steps
 drop_clash name steps names are = are name ∙ sym (any_drop name steps)
-
--- one step more
-any_push : (test : Step → Bool) (steps : List Step) (step : Step) → list_any test (steps ++ step ∷ []) ≡ (list_any test steps || test step)
-any_push test [] step = last (test step)
-  where
-    last : (b : Bool) → (b || false) ≡ (false || b)
-    last true = refl
-    last false = refl
-any_push test (first ∷ steps) step = ap (λ (b : Bool). test first || b) (any_push test steps step) ∙ regroup (test first) (list_any test steps) (test step)
-  where
-    regroup : (a b c : Bool) → (a || (b || c)) ≡ ((a || b) || c)
-    regroup true b c = refl
-    regroup false b c = refl
-
-pub has_more : (before after : BTreeSet (List ℕ)) (steps rows : List Step) (step : Step) → HasNames before steps → ((other : List ℕ) → has after other ≡ (has before other || touches other step)) → rows ≡ steps ++ step ∷ [] → HasNames after rows
-has_more before after steps rows step are grown is other =
-    grown other ∙ ap (λ (b : Bool). b || touches other step) (are other) ∙ sym (any_push (touches other) steps step) ∙ ap (λ (l : List Step). list_any (touches other) l) (sym is)
 
 -- what the lookups of a step's names tell
 pub found_clash : (put found : Bool) (name own : List ℕ) (steps rows : List Step) (names : BTreeSet (List ℕ)) → HasNames names rows → rows ≡ steps → own ≡ name → found ≡ has names own → found ≡ true → true ≡ list_any (clashes (step_named put name)) steps

@@ -2,7 +2,6 @@
 use Rattle.std.specs.Prelude.{◌≡◌, ◌⊎◌, if◌then◌else◌, List, [], ◌∷◌, Option, Some, None, unwrap_or}
 use Rattle.acq_outside.specs.Disk.{Files}
 use Rattle.acq_outside.specs.Crash.{State, IsImage, reads}
-use Rattle.acq_outside.specs.Moments.{From}
 use Rattle.journal_model.specs.Names.{journal, is_list}
 use Rattle.journal_model.specs.Steps.{carried}
 use Rattle.journal_model.specs.Reading.{gate_in}
@@ -44,6 +43,3 @@ pub record IsAsOf (s : State) (image : Files) : Type 0 where
 
 abbrev pub LeavesAsOf : State → State → Type 0
 LeavesAsOf s t = (image : Files) → IsImage t image → IsAsOf s image
-
-abbrev pub LeavesAsAt : List State → State → Type 0
-LeavesAsAt = From LeavesAsOf

@@ -1,8 +1,6 @@
 -- From what a method says to what a worker sends, and from that to what the coordinator takes.
 use Rattle.std.proofs.Common.{◌≡◌, ◌∙◌, ℕ, ◌≤◌, true, true≢false, List, length, Option, Some, None, IfSome, IsSome, sym, refl, ap, subst, arith}
 use Rattle.acq_base.specs.declared.fetch.Job.{Job}
-use Rattle.acq_base.specs.declared.fetch.Answer.{Answer}
-use Rattle.acq_base.specs.declared.fetch.Answer.TheVariants as answers
 use Rattle.acq_base.specs.declared.fetch.Reply.{Reply}
 use Rattle.acq_base.specs.declared.fetch.Reply.TheVariants as replies
 use Rattle.acq_base.specs.Mirror.{World, answer_at}
@@ -10,12 +8,22 @@ use Rattle.acq_outside.specs.declared.word.Fetch.{Fetch}
 use Rattle.acq_outside.specs.declared.word.Word.{Word}
 use Rattle.acq_outside.specs.declared.word.Word.TheVariants.{Piece, Done, Other}
 use Rattle.acq_outside.specs.Count.{Rose}
-use Rattle.acq_outside.specs.Word.{IsWord, IsPiece, IsDone, IsOther, IsCounted, IsSoundWord, IsWithinLimit, Tells, begun, further}
+use Rattle.acq_outside.specs.Word.{IsWord, IsPiece, IsDone, IsOther, IsCounted, IsSoundWord, Tells, begun, further}
 use Rattle.lane_pool.specs.declared.rule.View.{View}
 use Rattle.lane_pool.specs.declared.told.Told.{Told}
 use Rattle.lane_pool.specs.Words.{count_after, fetch_at, IsWordTo, StandsAt, IsInOrder, IsHeard}
 use Rattle.lane_pool.specs.Rule.{IsSent}
-use Rattle.lane_pool.specs.Working.{IsWorker, IsNext, is_piece}
+use Rattle.lane_pool.specs.Working.{IsWorker, is_piece}
+
+-- the word that the method has just said to the job, where the worker's last count is `last` and the method's is now `count`
+pub record IsNext (last count : ℕ) (world : Option World) (job : Job) (under : Option Fetch) (word : Word) : Type 0 where
+  pub fetch : Fetch
+  pub of_job : fetch.job ≡ job
+  pub before : ℕ
+  pub in_order : last ≤ before
+  pub rises : before ≤ count
+  pub says : IsWord before count world fetch under word
+  pub sound : IsSoundWord word
 
 -- a piece or a size is the same to one fetch as to another that is equal
 piece_to : (before after : ℕ) (world : Option World) (f g : Fetch) (under : Option Fetch) (place : ℕ) (bytes : List ℕ) → f ≡ g → IsPiece before after world f under place bytes
@@ -69,17 +77,6 @@ is_word_to last count world job under (Other reply) n = record {
   sound = n.sound;
 }
 
-pub is_in_order : (last count : ℕ) (world : Option World) (job : Job) (under : Option Fetch) (word : Word) → IsNext last count world job under word → IsInOrder last word
-is_in_order last count world job under (Piece place bytes) n = tt
-is_in_order last count world job under (Done size) n = tt
-is_in_order last count world job under (Other (replies.Fault before after)) n = let a = n.says.counted.0 in let b = n.in_order in omega arith
-is_in_order last count world job under (Other (replies.Served bytes)) n = tt
-is_in_order last count world job under (Other (replies.Moved place)) n = tt
-is_in_order last count world job under (Other (replies.Absent status)) n = tt
-is_in_order last count world job under (Other replies.TooBig) n = tt
-is_in_order last count world job under (Other (replies.Garbled at)) n = tt
-is_in_order last count world job under (Other replies.NoMemory) n = tt
-
 -- the count that it tells is the method's, and else the last count is at or below that
 pub stays_below : (last count : ℕ) (world : Option World) (job : Job) (under : Option Fetch) (word : Word) → IsNext last count world job under word → count_after last word ≤ count
 stays_below last count world job under (Piece place bytes) n = let a = n.in_order in let b = n.rises in omega arith
@@ -112,9 +109,6 @@ under_piece last count world job under (Piece place bytes) n piece = (further n.
 under_piece last count world job under (Done size) n piece = absurd (true≢false (sym piece))
 under_piece last count world job under (Other reply) n piece = absurd (true≢false (sym piece))
 
-pub can_go_on : (last count : ℕ) (world : Option World) (job : Job) (under : Option Fetch) (word : Word) → IsNext last count world job under word → is_piece word ≡ true → IsSome under
-can_go_on last count world job under word n piece = let u = under_piece last count world job under word n piece in subst (λ (o : Option Fetch). IsSome o) (sym u.1) refl
-
 -- the next word of a job, behind a piece
 pub goes_on_with : (last count : ℕ) (world : Option World) (job : Job) (under : Option Fetch) (word : Word) → IsNext last count world job under word → is_piece word ≡ true
     → (last' count' : ℕ) (world' : Option World) (under' : Option Fetch) (word' : Word) → last' ≤ count → count ≤ count' → world' ≡ world → IsSoundWord word'
@@ -130,27 +124,6 @@ goes_on_with last count world job under word n piece last' count' world' under' 
       says = subst (λ (w : Option World). IsWord count count' w u.0 under' word') (sym same) (subst (λ (o : Option Fetch). IfSome o (λ f. IsWord count count' world f under' word')) u.1 says);
       sound = sound;
     }
-
--- want of memory agrees with any answer
-dry : (answer : Answer) (job : Job) → Tells answer job replies.NoMemory
-dry (answers.Served bytes) job = tt
-dry (answers.Moved place) job = tt
-dry (answers.Absent status) job = tt
-
-dry_told : (world : Option World) (job : Job) → IfSome world (λ entries. Tells (answer_at entries job.uri) job replies.NoMemory)
-dry_told None job = tt
-dry_told (Some entries) job = dry (answer_at entries job.uri) job
-
-pub ends_dry : (last count : ℕ) (world : Option World) (job : Job) → last ≤ count → IsNext last count world job None (Other replies.NoMemory)
-ends_dry last count world job low = record {
-  fetch = begun job;
-  of_job = refl;
-  before = count;
-  in_order = low;
-  rises = omega arith;
-  says = record { counted = refl; ended = refl; told = dry_told world job };
-  sound = tt;
-}
 
 -- the pass after a send, or after one that failed
 pub still_worker : (lane : ℕ) (v w : View) (told : Told) (world : Option World) (count : ℕ) (job : Job) (under : Option Fetch) (before : ℕ) → IsWorker lane v world before
@@ -209,17 +182,6 @@ is_heard last world fetch job (Other (replies.Absent status)) is same stands ord
 is_heard last world fetch job (Other replies.TooBig) is same stands order = quiet last world fetch job replies.TooBig is same refl refl
 is_heard last world fetch job (Other (replies.Garbled at)) is same stands order = quiet last world fetch job (replies.Garbled at) is same refl refl
 is_heard last world fetch job (Other replies.NoMemory) is same stands order = quiet last world fetch job replies.NoMemory is same refl refl
-
--- a piece within its job's limit stays within that of the fetch that is out
-pub within_fetch : (world : Option World) (job : Job) (word : Word) (fetch : Fetch) → IsWithinLimit (fetch_at job word) word → job ≡ fetch.job → StandsAt fetch.at word → IsWithinLimit fetch word
-within_fetch world job (Piece place bytes) fetch is same stands = let m = ap (λ (j : Job). j.max) same in omega arith
-within_fetch world job (Done size) fetch is same stands = tt
-within_fetch world job (Other reply) fetch is same stands = tt
-
-pub within_limit : (world : Option World) (job : Job) (word : Word) → IsWordTo world job word → IsWithinLimit (fetch_at job word) word
-within_limit world job (Piece place bytes) is = is.says.within
-within_limit world job (Done size) is = tt
-within_limit world job (Other reply) is = tt
 
 -- a fetch is under way exactly behind a piece
 pub is_under_way : (before after : ℕ) (world : Option World) (fetch : Fetch) (under : Option Fetch) (word : Word) → IsWord before after world fetch under word → is_piece word ≡ true → IsSome under

@@ -1,5 +1,5 @@
 -- Joining the workers one by one.
-use Rattle.std.proofs.Common.{◌≡◌, ◌≢◌, ◌∙◌, ℕ, zero, suc, ◌+◌, ◌<◌, ◌≤◌, List, [], ◌∷◌, ◌++◌, map, Option, None, length, get_or, sym, refl, ap, arith, append-nil, append_assoc}
+use Rattle.std.proofs.Common.{◌≡◌, ◌≢◌, ◌∙◌, ℕ, zero, suc, ◌+◌, ◌<◌, ◌≤◌, List, [], ◌∷◌, ◌++◌, map, Option, None, length, get_or, slice_index, slice_index_or, sym, refl, ap, arith, append-nil, append_assoc}
 use mathlib.Core.Logic.{dite}
 use native.Mathlib.Decide.{ℕ_discrete}
 use Rattle.std.proofs.lemmas.List.{length-append, get_or-map, ext_get_or}
@@ -12,12 +12,23 @@ use Rattle.lane_pool.specs.declared.replies.Replies.{Replies}
 use Rattle.lane_pool.specs.declared.lane.Lane.{Lane}
 use Rattle.lane_pool.specs.Pool.{NoneFell}
 use Rattle.lane_pool.specs.Rule.{with_note, AreBounded}
-use Rattle.lane_pool.specs.Standing.{IsLane, AreLanes, AreBack, AreJoined, pool_of}
+use Rattle.lane_pool.specs.Standing.{IsLane, AreLanes, AreBack, pool_of}
 use Rattle.lane_pool.proofs.Rows.{get_snoc_or, get_last_or, none_fell_at}
 
 length_map : {A B : Type 0} (f : A → B) (l : List A) → length (map f l) ≡ length l
 length_map f [] = refl
 length_map f (x ∷ xs) = ap suc (length_map f xs)
+
+module _ {M : Type 0} (world : M → Option World) (faults : M → ℕ) where
+  -- where a loop that joins the workers stands: those of `lanes` were joined
+  pub record AreJoined (before : Replies) (desk : Desk) (all : List M) (lanes : List (Lane M)) (back : List M) : Type 0 where
+    pub sends : desk.sends ≡ before.sends
+    pub taken : (view desk.pass).taken ≡ (view before.pass).taken
+    pub notes : length (view desk.pass).notes ≡ 1 + length lanes
+    pub len : length back ≡ length all + length lanes
+    pub first : (i : ℕ) (d : M) → i < length all → slice_index_or back i d ≡ slice_index_or all i d
+    pub worlds : (i : ℕ) (d : M) (e : Lane M) → i < length lanes → world (slice_index_or back (length all + i) d) ≡ world (slice_index_or lanes i e).worker.method.value
+    pub counts : (i : ℕ) (d : M) → i < length lanes → slice_index (view desk.pass).notes (1 + i) ≤ faults (slice_index_or back (length all + i) d)
 
 module _ {M : Type 0} (world : M → Option World) (faults : M → ℕ) where
   pub joins : (before : Replies) (desk desk' : Desk) (all : List M) (lanes : List (Lane M)) (back : List M) (p : Lane M) (w : View) (m : M) → AreJoined world faults before desk all lanes back
@@ -122,15 +133,6 @@ module _ {M : Type 0} (world : M → Option World) (faults : M → ℕ) (under :
               let d = get_or-map (λ (z : Lane M). z.last) lanes i p 0 h' in
               let o = b.counts i own p h' in
               omega arith
-
-  -- with no worker there is just the coordinator's method
-  pub alone : (own : M) (back : List M) (lanes : List (Lane M)) → back ≡ own ∷ [] → lanes ≡ [] → AreBack world faults back lanes back
-  alone own back lanes one none = record {
-    len = let a = ap length none in omega arith;
-    first = λ i d h. refl;
-    worlds = λ i d e h. absurd (let a = ap length none in omega arith);
-    counts = λ i d e h. absurd (let a = ap length none in omega arith);
-  }
 
 pub empty : {A : Type 0} (l : List A) → length l ≡ 0 → l ≡ []
 empty [] e = refl

@@ -9,19 +9,11 @@ use Rattle.acq_base.specs.Mirror.{World}
 use Rattle.lane_pool.specs.declared.rule.View.{View}
 use Rattle.lane_pool.specs.declared.replies.Replies.{Replies}
 use Rattle.lane_pool.specs.declared.lane.Lane.{Lane}
-use Rattle.lane_pool.specs.Rule.{fresh, with_lane}
+use Rattle.lane_pool.specs.Rule.{with_lane}
 use Rattle.lane_pool.specs.Standing.{IsLane, AreLanes}
 use Rattle.lane_pool.proofs.Rows.{get_snoc_or, get_last_or}
 
 module _ {M : Type 0} (world : M → Option World) where
-  pub opens : (replies : Replies) (lanes : List (Lane M)) → view replies.pass ≡ fresh → lanes ≡ [] → AreLanes world replies lanes
-  opens replies lanes new none = record {
-    taken = let a = ap (λ (v : View). length v.taken) new in let b = ap length none in omega arith;
-    worlds = let a = ap (λ (v : View). length v.worlds) new in let b = ap length none in omega arith;
-    notes = ap (λ (v : View). length v.notes) new;
-    each = λ i d h. absurd (let b = ap length none in omega arith);
-  }
-
   -- one lane more
   pub opened : (replies replies' : Replies) (lanes : List (Lane M)) (p : Lane M) (w : Option World) (count number : ℕ) → AreLanes world replies lanes → replies'.sends ≡ replies.sends
       → view replies'.pass ≡ with_lane w count (view replies.pass) → p.worker.lane ≡ number → number ≡ length lanes + 1 → sends_on p.worker.sends.value ≡ sends_on replies.sends

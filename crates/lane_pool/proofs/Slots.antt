@@ -50,9 +50,6 @@ ends_within true number max from at scheme port host path word place bytes is wi
 pub of_out : (out : Option Fetch) (fetch : Fetch) (P : Fetch → Type 0) → out ≡ Some fetch → IfSome out P → P fetch
 of_out out fetch P is h = subst (λ (o : Option Fetch). IfSome o P) is h
 
-pub for_out : (out : Option Fetch) (fetch : Fetch) (P : Fetch → Type 0) → out ≡ Some fetch → P fetch → MatchOption out ⊥ P
-for_out out fetch P is h = subst (λ (o : Option Fetch). MatchOption o ⊥ P) (sym is) h
-
 -- the coordinator's test, passed and failed
 pub passes_test : (out : Option Fetch) (last : ℕ) (told : Told) (at : ℕ) → out ≡ Some (record { job = told.job; at = at }) → StandsAt at told.word → IsInOrder last told.word → PassesTest out last told
 passes_test out last told at is stands order = record { fetch = record { job = told.job; at = at }; out_is = is; job = refl; stands = stands; in_order = order }

@@ -4,7 +4,6 @@ use Rattle.crossbeam_channel.specs.Claims.{view}
 use Rattle.crossbeam_channel.specs.Ends.{sends_on}
 use Rattle.acq_base.specs.Mirror.{World}
 use Rattle.acq_outside.specs.declared.word.Fetch.{Fetch}
-use Rattle.lane_pool.specs.declared.desk.Desk.{Desk}
 use Rattle.lane_pool.specs.declared.lane.Lane.{Lane}
 use Rattle.lane_pool.specs.declared.replies.Replies.{Replies}
 use Rattle.lane_pool.specs.Pool.{Pool}
@@ -39,16 +38,6 @@ module _ {M : Type 0} (world : M → Option World) where
   HasReplies replies lanes = MatchOption replies (lanes ≡ []) (λ r. AreLanes r lanes)
 
 module _ {M : Type 0} (world : M → Option World) (faults : M → ℕ) where
-  -- where a loop that joins the workers stands: those of `lanes` were joined
-  pub record AreJoined (before : Replies) (desk : Desk) (all : List M) (lanes : List (Lane M)) (back : List M) : Type 0 where
-    pub sends : desk.sends ≡ before.sends
-    pub taken : (view desk.pass).taken ≡ (view before.pass).taken
-    pub notes : length (view desk.pass).notes ≡ 1 + length lanes
-    pub len : length back ≡ length all + length lanes
-    pub first : (i : ℕ) (d : M) → i < length all → slice_index_or back i d ≡ slice_index_or all i d
-    pub worlds : (i : ℕ) (d : M) (e : Lane M) → i < length lanes → world (slice_index_or back (length all + i) d) ≡ world (slice_index_or lanes i e).worker.method.value
-    pub counts : (i : ℕ) (d : M) → i < length lanes → slice_index (view desk.pass).notes (1 + i) ≤ faults (slice_index_or back (length all + i) d)
-
   -- the methods that stood in `all`, and then those of the lanes, each with its mirror and a count at or above the last that
   -- was taken of it
   pub record AreBack (all : List M) (lanes : List (Lane M)) (back : List M) : Type 0 where

@@ -4,7 +4,6 @@ pub mod Carrying
 pub mod Folding
 pub mod Fronts
 pub mod Gone
-pub mod Nothing
 pub mod Owned
 pub mod Recording
 pub mod Sorting

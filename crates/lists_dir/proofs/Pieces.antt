@@ -1,7 +1,6 @@
 -- A file read in pieces.
 use Rattle.std.proofs.Common.{◌≡◌, ◌⊎◌, ℕ, ◌+◌, ◌-◌, ◌<◌, ◌≤◌, List, [], ◌∷◌, ◌++◌, length, take, drop, Option, unwrap_or, inl, inr, ⊎_elim, refl, sym, ap, subst, ◌∙◌, arith}
 use Rattle.std.proofs.lemmas.List.{length-append, length-drop, length-take-le, take_at, take-append-drop, take-take, drop-take}
-use Rattle.std.proofs.lemmas.List.Elements.{All-cons, All-nil}
 use Rattle.acq_base.specs.declared.sum.Sum.{Sum}
 use Rattle.acq_outside.specs.Disk.{IsRead, piece_at}
 use Rattle.hash_gate.specs.declared.gate.Gate.{Gate}
@@ -25,6 +24,3 @@ takes_on file at n room out before after h some feeds =
       inside = λ inside. omega (arith, h.within, length-drop at content);
       ends = λ none. ⊎_elim (λ e. omega (arith, ap length e, length-drop at content)) (λ e. absurd (omega (arith, ap length e, some))) (h.ends none);
     }
-
--- what holds of the one element of a list
-pub ruleset named = (All-cons, All-nil)

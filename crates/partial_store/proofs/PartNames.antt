@@ -1,10 +1,10 @@
 -- The names of lists on their way are names that a disk may have.
-use Rattle.std.proofs.Common.{◌≡◌, ◌≢◌, refl, sym, ap, ◌∙◌, subst, arith, true, List, [], ◌∷◌, ℕ, ◌<◌, ◌≤◌, length, drop, length-append, codes}
+use Rattle.std.proofs.Common.{◌≡◌, refl, sym, ap, ◌∙◌, subst, arith, true, List, [], ◌∷◌, ℕ, ◌<◌, ◌≤◌, length, drop, length-append, codes}
 use Rattle.std.specs.Str.{IsAscii, is_utf8}
 use Rattle.std.proofs.lemmas.Str.{IsUtf8-from_ascii, IsUtf8-append, IsUtf8-from_is_utf8, is_utf8-from_IsUtf8}
 use Rattle.std.proofs.lemmas.Str.Ascii.{IsAscii-nil, IsAscii-cons}
 use Rattle.acq_outside.specs.Disk.{IsName}
-use Rattle.journal_model.specs.Names.{IsPutName, lock, journal, partial}
+use Rattle.journal_model.specs.Names.{IsPutName, partial}
 use Rattle.partial_store.specs.Parts.{PartOf, part_of}
 
 abbrev Small : List ℕ → Type 0
@@ -45,7 +45,3 @@ part_path path len part view h = h.0 ∙ ap (λ (p : PartOf). partial p.name) vi
 
 pub part_len : (path : List ℕ) (len : ℕ) (part : PartOf) → part_of (drop 8 path) len ≡ part → len ≡ part.len
 part_len path len part view = ap (λ (p : PartOf). p.len) view
-
--- a name under which a list may be put
-pub put_name : (name : List ℕ) → IsName name → length name ≤ 247 → name ≢ lock → name ≢ journal → IsPutName name
-put_name name named short not_lock not_journal = record { named = named; short = short; not_lock = not_lock; not_journal = not_journal }

@@ -1,13 +1,13 @@
 -- What a board wants of the lists on their way is there once a job has ended.
-use Rattle.std.proofs.Common.{◌≡◌, ◌∙◌, ◌⊎◌, ◌≤◌, ℕ, zero, suc, Bool, true, false, List, [], ◌∷◌, ◌++◌, length, take, Option, Some, None, IfSome, refl, inl, inr, bytes_eq, arith}
+use Rattle.std.proofs.Common.{◌≡◌, ◌∙◌, ◌⊎◌, ◌≤◌, ℕ, zero, suc, Bool, true, false, List, [], ◌∷◌, length, take, Option, Some, None, IfSome, refl, inl, inr, bytes_eq, arith}
 use Rattle.std.proofs.lemmas.Slice.Eq.{bytes_eq-Decides}
 use Rattle.acq_base.specs.declared.uri.ListName.{ListName}
 use Rattle.acq_outside.specs.Crash.{State}
-use Rattle.acq_outside.specs.Moments.{Each, IsTold, Since, Stands}
+use Rattle.acq_outside.specs.Moments.{IsTold, Since}
 use Rattle.board_model.specs.Uses.{PartUse, Resumes, Whole, Free, Falls, IsWholeOf, use_from}
 use Rattle.job_fetch.specs.Fetched.{IsStaged, KeepsFront}
 use Rattle.journal_model.specs.Names.{partial}
-use Rattle.journal_model.specs.Rest.{IsIdle, KeepsRest, part_bytes, part_file}
+use Rattle.journal_model.specs.Rest.{KeepsRest, part_bytes, part_file}
 use Rattle.update_model.specs.Outcomes.{Parts}
 use Rattle.update_model.specs.declared.ask.Body.TheVariants as bodies
 use Rattle.update_model.specs.declared.ask.Closed.{Closed}
@@ -22,15 +22,6 @@ told_back P (s ∷ past) now since told = tt
 -- no time has passed
 pub no_time : (P : State → Type 0) (now : List State) → Since now now P
 no_time P now = record { states = []; joined = refl; untold = λ e. e; each = tt }
-
--- a commit may still be prepared
-pub idle_now : (old now : List State) → Since old now (KeepsRest old) → Stands IsIdle old → Stands IsIdle now
-idle_now [] now since idle = rw (since.untold refl) tt
-idle_now (s ∷ past) now since idle = by since.states since.joined since.each
-  where
-    by : (states : List State) → now ≡ states ++ s ∷ past → Each (KeepsRest (s ∷ past)) states → Stands IsIdle now
-    by [] joined each = rw joined idle
-    by (t ∷ states) joined each = rw joined (each.0.idle idle)
 
 pub moments_of : (staged : Option ListName) (old now : List State) → IsFetched staged old now → Since old now (KeepsRest old)
 moments_of None old now is = rw is (no_time (KeepsRest old) old)

@@ -17,7 +17,7 @@ use Rattle.host_queues.specs.Lanes.{first_of}
 use Rattle.board_bounds.specs.Fetching.{AsksMayBeFetched, MayBeFetched}
 use Rattle.board_bounds.specs.Names.{PlannedNamesArePutNames}
 use Rattle.board_model.specs.Agreeing.{IsMirrors, part_of}
-use Rattle.board_model.specs.Boards.{Asker, Board, absorbed, asker_of, is_out, issued, issued_job, job_for, lane_with, name_staged, staged_name, took}
+use Rattle.board_model.specs.Boards.{Asker, Board, absorbed, asker_of, issued, issued_job, job_for, lane_with, name_staged, staged_name, took}
 use Rattle.board_model.specs.CallLaws.{AbsorbedBoardsRest}
 use Rattle.board_model.specs.Keys.{name_at}
 use Rattle.board_model.specs.Laws.{BoardsStand}
@@ -94,9 +94,6 @@ lane_is out n e = rw e (rw (same_number n) refl)
 
 staged_is : (b : Board) (n : ℕ) (a : Asker) → lane_with b.out n ≡ Some 0 → asker_of b n ≡ Some a → staged_name b n ≡ name_staged a
 staged_is b n a lane asks = rw lane (rw asks refl)
-
-pub is_out_now : (b : Board) (job : Job) (staged : Option ListName) → IsJob b job staged → is_out b job.no ≡ true
-is_out_now b job staged j = rw j.lane refl
 
 -- ---- whether it may be fetched
 

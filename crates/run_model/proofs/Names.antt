@@ -1,5 +1,5 @@
 -- Names of a plan's sources, no two of which are one.
-use Rattle.std.proofs.Common.{◌≡◌, ◌≢◌, ◌⊎◌, inl, inr, ⊎_elim, refl, sym, ap, ◌∙◌, subst, arith, ℕ, zero, suc, List, [], ◌∷◌, ◌++◌, map, Contains, AllPairs, Some, option_map, Ok, Err}
+use Rattle.std.proofs.Common.{◌≡◌, ◌≢◌, ◌⊎◌, inl, inr, ⊎_elim, refl, sym, ap, ◌∙◌, subst, arith, ℕ, zero, suc, List, [], ◌∷◌, ◌++◌, map, Contains, AllPairs, Some, option_map}
 use Rattle.std.specs.Prelude.{slice_get}
 use Rattle.std.specs.List.{flat_map, AllByRecursion as Each}
 use Rattle.std.proofs.lemmas.List.Elements.{Contains-append_left, Contains-append_right}
@@ -13,8 +13,8 @@ use Rattle.board_model.specs.Changes.{IsInstalled}
 use Rattle.board_model.specs.Keys.{named}
 use Rattle.commit_journal.specs.Changes.{IsNone, AreApart}
 use Rattle.release_file.specs.Release.{listed_sum}
-use Rattle.update_model.specs.Next.{Holds, Keeps, Leaves}
-use Rattle.update_model.specs.Outcomes.{Admitted, Outcome}
+use Rattle.update_model.specs.Next.{Holds, Keeps}
+use Rattle.update_model.specs.Outcomes.{Admitted}
 
 -- ---- elements of lists
 
@@ -115,11 +115,6 @@ holds_moved source set a b same h = record {
 
 pub keeps_same : (source : Source) (a b : Files) → SameUnder source a b → Keeps source a b
 keeps_same source a b same = each_all (λ name. b name ≡ a name) (names_of source) same
-
-pub leaves_moved : (came_to : Outcome) (source : Source) (before before' after after' : Files) → SameUnder source before before' → SameUnder source after after' → Leaves came_to source before after → Leaves came_to source before' after'
-leaves_moved (Ok set) source before before' after after' same_before same_after h = holds_moved source set after after' same_after h
-leaves_moved (Err why) source before before' after after' same_before same_after h =
-    each_all (λ name. after' name ≡ before' name) (names_of source) (λ name is. same_after name is ∙ each_in (λ name. after name ≡ before name) (names_of source) name h is ∙ sym (same_before name is))
 
 pub installed_moved : (source : Source) (old : Old) (a b : Files) → SameUnder source a b → IsInstalled source old a → IsInstalled source old b
 installed_moved source old a b same h = record {

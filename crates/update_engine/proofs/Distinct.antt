@@ -14,9 +14,12 @@ use Rattle.list_commits.specs.RecordLaws.{AllLast, AreGathered, names_gathered}
 use Rattle.run_jobs.specs.Running.{Begun as Start, IsSoundBegun}
 use Rattle.update_model.specs.declared.settled.Settled.{Settled}
 use Rattle.run_model.specs.Runs.{AreRising}
-use Rattle.update_engine.specs.Session.{IsPick, Pick, gathered_for, numbers_of}
+use Rattle.update_engine.specs.Session.{IsPick, Pick, numbers_of}
 use Rattle.update_engine.proofs.Lists.{nothing_in, split, there}
 use Rattle.update_engine.proofs.Naming.{apart_of, none_if, not_in}
+
+abbrev pub gathered_for : List Pick → List (Source × Settled)
+gathered_for picks = map (λ p. (p.source, p.settled)) picks
 
 -- ---- lists within others
 

@@ -22,8 +22,8 @@ use Rattle.run_model.specs.Runs.{is_told_installed}
 use Rattle.update_model.specs.declared.log.RunLog.{RunLog}
 use Rattle.update_model.specs.declared.settled.Verdict2.{Verdict2}
 use Rattle.update_engine.specs.Known.{Committing}
-use Rattle.update_engine.specs.Session.{Ends, Gathers, GoesAside, HasAllBut, HasCommittedSets, HasGathered, HasLast, IsOneSet, IsStanding, LeavesLast, Pick, begun_of, cleans, gathered_for, groups_for, installed_in, names_to_go, numbers_of, some_names, with_removed}
-use Rattle.update_engine.proofs.Distinct.{all_last, are_gathered}
+use Rattle.update_engine.specs.Session.{Ends, Gathers, GoesAside, HasAllBut, HasCommittedSets, HasGathered, HasLast, IsOneSet, IsStanding, LeavesLast, Pick, begun_of, cleans, groups_for, installed_in, names_to_go, numbers_of, some_names, with_removed}
+use Rattle.update_engine.proofs.Distinct.{all_last, are_gathered, gathered_for}
 
 -- ---- what is left
 

@@ -25,11 +25,6 @@ at_all P [] n x all e = absurd (cc)
 at_all P (y ∷ xs) zero x all e = let same : y ≡ x = cc in subst P same (All-head P y xs all)
 at_all P (y ∷ xs) (suc n) x all e = at_all P xs n x (All-tail P y xs all) e
 
-pub get_in : {X : Type 0} (xs : List X) (n : ℕ) (x : X) → slice_get xs n ≡ Some x → Contains xs x
-get_in [] n x is = absurd (cc)
-get_in (y ∷ ys) zero x is = let same : y ≡ x = cc in here y ys x same
-get_in (y ∷ ys) (suc n) x is = there y ys x (get_in ys n x is)
-
 -- a name is among these, or not
 pub among : (name : List ℕ) (names : List (List ℕ)) → Contains names name ⊎ (Contains names name → ⊥)
 among name [] = inr (nothing_in name)

@@ -148,9 +148,6 @@ numbers_of picks = map (λ p. p.n) picks
 abbrev pub groups_for : List Pick → List (List Change)
 groups_for picks = map (λ p. changes_for p.source p.settled) picks
 
-abbrev pub gathered_for : List Pick → List (Source × Settled)
-gathered_for picks = map (λ p. (p.source, p.settled)) picks
-
 -- Sources were settled, and these of them came to new sets, in plan order; the next that is ready is behind them.
 pub record HasGathered (start : Start) (notes : List Note) (count : ℕ) (now : List State) (before after : Board) (groups : List (List Change)) : Type 0 where
   pub under_way : IsUnderWay start notes count after now

@@ -30,12 +30,6 @@ given told pairs it (inl never) = absurd cc
 given told pairs it (inr (inl never)) = absurd cc
 given told pairs it (inr (inr answer)) = record { files = answer.0; those = answer.1; give = answer.2 }
 
-pub refused : (told : Option EtcFiles) (pairs : List (List ℕ)) (refusal : ConfigurationError) → (refusal ≡ Fault → ⊥) → (refusal ≡ NoMemory → ⊥)
-    → IsAnswer told pairs (Err refusal) → Give told pairs (Err refusal)
-refused told pairs refusal no_fault no_want (inl want) = absurd (no_want cc)
-refused told pairs refusal no_fault no_want (inr (inl fault)) = absurd (no_fault cc)
-refused told pairs refusal no_fault no_want (inr (inr answer)) = record { files = answer.0; those = answer.1; give = answer.2 }
-
 -- a configuration that was read ends the call as its run does
 pub configured_ends : (told : Option EtcFiles) (options : Options) (moment : Option ℤ) (it : Configured) (before after : Objects) (log : Option RunLog) (status : ℕ)
     → IsAnswer told options.pairs (Ok it) → EndsWith it options.together moment before after log status → EndsByOptions told options moment before after log status

@@ -1,21 +1,18 @@
 -- The ways in which an update ends keep its promise, and have its statuses.
-use Rattle.std.proofs.Common.{◌≡◌, ◌⊎◌, ◌<◌, ◌+◌, ℕ, ℤ, Bool, true, false, if◌then◌else◌, List, Option, Some, None, Ok, IfSome, inl, inr, refl, arith, IfNone}
-use Rattle.std.specs.List.{list_any}
-use Rattle.acq_base.specs.declared.plan.Plan.{Plan}
+use Rattle.std.proofs.Common.{◌≡◌, ◌⊎◌, ◌<◌, ◌+◌, ℕ, ℤ, Option, Some, None, Ok, IfSome, inl, inr, refl, arith, IfNone}
 use Rattle.acq_outside.specs.Etc.{EtcFiles}
 use Rattle.command_words.specs.declared.request.Options.{Options}
 use Rattle.configuration.specs.declared.configuring.Configured.{Configured}
 use Rattle.report_text.specs.declared.fault.FaultLine.{FaultLine}
-use Rattle.report_text.specs.declared.fault.FaultLine.TheVariants.{Words, Conf, Clash, TooMany, LongName, Journal, Disk, Memory, Held, Etc}
+use Rattle.report_text.specs.declared.fault.FaultLine.TheVariants.{Disk, Memory, Held, Etc}
 use Rattle.run_promises.specs.Promise.{EndsAsTold, EndsOverMirror, RunsEndAsServed, RunsEndAsTold, RunsStopWithSets, WasSettled}
 use Rattle.update_engine.specs.Run.{KeepsMethods, Run}
 use Rattle.update_model.specs.declared.log.RunLog.{RunLog}
-use Rattle.update_model.specs.declared.settled.Verdict2.{Verdict2}
 use Rattle.update_program.specs.Asked.{AskFor, Give, run_for}
 use Rattle.update_program.specs.Ending.{EndsByOptions, EndsWith, IsBarred, IsNoRun, IsRun, IsUnread, SaysWhy}
 use Rattle.update_program.specs.Headline.{IsRefused, Promises}
 use Rattle.update_program.specs.Objects.{Objects, Output}
-use Rattle.update_program.specs.Said.{IsStatus, Reports, SaidBy, Says, SaysFault, fault_status, is_kept, status_of_verdicts}
+use Rattle.update_program.specs.Said.{Says, fault_status}
 
 -- the line of a failure was written, so the status is none of a refusal
 is_failure : (before after : Output) (fault : FaultLine) (status : ℕ) → 100 < fault_status fault → Says before after fault status → status ≡ 100 → ⊥
@@ -98,84 +95,3 @@ module _
           → Promises told options moment before after log status
       by_way (inl ran) = promised_by ran.0 log ran.1 ran.2
       by_way (inr none) = record { way = inl none.0; refused = without_log log (by_unread none.1) }
-
--- ---- statuses
-
-abbrev NoLog : ℕ → Type 0
-NoLog status = (status ≡ 100) ⊎ ((status ≡ 102) ⊎ ((status ≡ 103) ⊎ ((status ≡ 104) ⊎ ((status ≡ 105) ⊎ (status ≡ 106)))))
-
-output_failed : (status : ℕ) → status ≡ 105 → NoLog status
-output_failed status is = inr (inr (inr (inr (inl is))))
-
-by_line : (before after : Output) (fault : FaultLine) (status : ℕ) → Says before after fault status → NoLog status
-by_line before after fault status (inr said) = output_failed status said.0
-by_line before after Words status (inl said) = inl said.0
-by_line before after (Conf file number line) status (inl said) = inl said.0
-by_line before after (Clash first first_line second second_line) status (inl said) = inl said.0
-by_line before after TooMany status (inl said) = inl said.0
-by_line before after (LongName name) status (inl said) = inl said.0
-by_line before after (Journal at) status (inl said) = inl said.0
-by_line before after Disk status (inl said) = inr (inl said.0)
-by_line before after Memory status (inl said) = inr (inr (inl said.0))
-by_line before after Held status (inl said) = inr (inr (inr (inl said.0)))
-by_line before after Etc status (inl said) = inr (inr (inr (inr (inr said.0))))
-
-by_fault : (before after : Output) (fault : FaultLine) (status : ℕ) → SaysFault before after fault status → NoLog status
-by_fault before after fault status (inl said) = by_line before after fault status said
-by_fault before after fault status (inr said) = by_line before after Memory status said
-
-by_reason : (before after : Objects) (status : ℕ) → SaysWhy before after status → NoLog status
-by_reason before after status (inl said) = by_line before.out after.out Disk status said
-by_reason before after status (inr (inl damaged)) = by_fault before.out after.out (Journal damaged.0) status damaged.3
-by_reason before after status (inr (inr said)) = by_line before.out after.out Memory status said
-
-verdict_status : (verdicts : List Verdict2) (status : ℕ) → status ≡ status_of_verdicts verdicts → (status ≡ 0) ⊎ (status ≡ 100)
-verdict_status verdicts status is = by (list_any is_kept verdicts) is
-  where
-    by : (kept : Bool) → status ≡ (if kept then 100 else 0) → (status ≡ 0) ⊎ (status ≡ 100)
-    by true e = inr e
-    by false e = inl e
-
-by_report : (before after : Output) (plan : Plan) (log : RunLog) (status : ℕ) → Reports before after plan log status → IsStatus (Some log) status
-by_report before after plan log status (inl report) = by report.said
-  where
-    known : (status ≡ 0) ⊎ (status ≡ 100) → IsStatus (Some log) status
-    known (inl e) = inl e
-    known (inr e) = inr (inl e)
-
-    by : SaidBy before after report.text (status_of_verdicts log.verdicts) status → IsStatus (Some log) status
-    by (inl said) = known (verdict_status log.verdicts status said.0)
-    by (inr said) = inr (inr (inr said.0))
-by_report before after plan log status (inr (inl said)) = inr (inr (inl said.0))
-by_report before after plan log status (inr (inr said)) = inr (inr (inr said.0))
-
-by_run : (run : Run) (before after : Objects) (log : Option RunLog) (status : ℕ) → IsRun run before after log status → IsStatus log status
-by_run run before after None status ran = by_reason before after status ran.why
-by_run run before after (Some log) status ran = by_report before.out after.out run.plan log status ran.said
-
-by_none : (log : Option RunLog) (status : ℕ) → log ≡ None → NoLog status → IsStatus log status
-by_none None status is told = told
-by_none (Some log) status is told = absurd cc
-
--- an update has one of its statuses
-pub has_status : (told : Option EtcFiles) (options : Options) (moment : Option ℤ) (before after : Objects) (log : Option RunLog) (status : ℕ)
-    → EndsByOptions told options moment before after log status → IsStatus log status
-has_status told options moment before after log status ends = by ends.way
-  where
-    barred : IsBarred before after status → NoLog status
-    barred (inl said) = by_line before.out after.out Disk status said
-    barred (inr (inl said)) = by_line before.out after.out Held status said
-    barred (inr (inr said)) = by_line before.out after.out Memory status said
-
-    unread : IsUnread told options.pairs before after status → NoLog status
-    unread (inl refused) = by_fault before.out after.out _ status refused.2
-    unread (inr (inl said)) = by_line before.out after.out Etc status said
-    unread (inr (inr said)) = by_line before.out after.out Memory status said
-
-    with_it : (it : Configured) → EndsWith it options.together moment before after log status → IsStatus log status
-    with_it it (inl ran) = by_run (run_for it ran.0 options.together) before after log status ran.2
-    with_it it (inr none) = by_none log status none.0.no_log (barred none.1)
-
-    by : ((it : Configured) × Give told options.pairs (Ok it) × EndsWith it options.together moment before after log status) ⊎ (IsNoRun before after log × IsUnread told options.pairs before after status) → IsStatus log status
-    by (inl ran) = with_it ran.0 ran.2
-    by (inr none) = by_none log status none.0.no_log (unread none.1)

@@ -1,7 +1,7 @@
 use Rattle.std.proofs.Common.{◌≡◌, ◌≤◌, take}
 use Rattle.commit_journal.specs.Changes.{all_changes}
 use Rattle.acq_outside.specs.Stays.{HasStayed}
-use Rattle.commit_journal.specs.Laying.{Fills}
+use Rattle.commit_journal.proofs.Fills.{Fills}
 use Rattle.commit_journal.proofs.filling.fill_all.Given as goal
 
 abbrev pub invariant-loop-group : goal.invariant-loop-group

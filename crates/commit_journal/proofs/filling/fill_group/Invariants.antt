@@ -1,6 +1,6 @@
 use Rattle.std.proofs.Common.{◌≡◌, ◌≤◌, take}
 use Rattle.acq_outside.specs.Stays.{HasStayed}
-use Rattle.commit_journal.specs.Laying.{Fills}
+use Rattle.commit_journal.proofs.Fills.{Fills}
 use Rattle.commit_journal.proofs.filling.fill_group.Given as goal
 
 abbrev pub invariant-loop-change : goal.invariant-loop-change

@@ -1,6 +1,6 @@
 use Rattle.std.proofs.Common.{◌≡◌, sym}
 use Rattle.journal_model.specs.Rest.{part_bytes}
-use Rattle.job_fetch.proofs.Fillings.{lasts_as, synced_bytes, told_before}
+use Rattle.job_fetch.proofs.Fillings.{lasts_as, told_before}
 use Rattle.job_fetch.proofs.filling.close.Goals as goal
 
 pub returns-clause-lasts : goal.returns-clause-lasts

@@ -1,7 +1,8 @@
 use Rattle.std.proofs.Common.{◌-◌, [], length}
 use Rattle.acq_outside.specs.Fetches.{Fetches}
 use Rattle.acq_outside.specs.Word.{IsSoundWord, IsWord}
-use Rattle.job_fetch.specs.Pieces.{HasCome, fetch_at}
+use Rattle.job_fetch.specs.Pieces.{fetch_at}
+use Rattle.job_fetch.proofs.Fronts.{HasCome}
 use Rattle.job_fetch.proofs.held.fetch_held.Given as goal
 
 abbrev pub invariant-loop-word : goal.invariant-loop-word

@@ -4,10 +4,10 @@ use Rattle.acq_outside.proofs.Framed.{stayed_on}
 use Rattle.acq_outside.specs.Word.{HasSize, IsWord}
 use Rattle.journal_model.specs.Rest.{part_bytes}
 use Rattle.job_fetch.specs.Fetched.{IsAnswer}
-use Rattle.job_fetch.specs.Pieces.{HasCome, fetch_at}
+use Rattle.job_fetch.specs.Pieces.{fetch_at}
 use Rattle.job_fetch.proofs.Ends.{any_answers, any_more, on_err}
-use Rattle.job_fetch.proofs.Fillings.{bytes_named, longer, front_first, front_more, front_same, same_named, staging_more, staging_named, staging_none, told_before}
-use Rattle.job_fetch.proofs.Pieces.{all_staged, come_first, come_more}
+use Rattle.job_fetch.proofs.Fillings.{bytes_named, longer, front_more, staging_more, staging_named, told_before}
+use Rattle.job_fetch.proofs.Pieces.{all_staged, come_more}
 use Rattle.job_fetch.proofs.Words.{next_word}
 use Rattle.job_fetch.proofs.staged.receive.Goals as goal
 

@@ -5,7 +5,8 @@ use Rattle.acq_outside.specs.Stays.{HasStayed}
 use Rattle.acq_outside.specs.Word.{IsSoundWord, IsWord}
 use Rattle.acq_outside.specs.declared.word.Word.TheVariants.{Other}
 use Rattle.job_fetch.specs.Fetched.{KeepsFront, Staging}
-use Rattle.job_fetch.specs.Pieces.{ComesOver, IsFilling, fetch_at}
+use Rattle.job_fetch.specs.Pieces.{IsFilling, fetch_at}
+use Rattle.job_fetch.proofs.Pieces.{ComesOver}
 use Rattle.job_fetch.proofs.staged.receive.Given as goal
 
 abbrev pub invariant-loop-word : goal.invariant-loop-word

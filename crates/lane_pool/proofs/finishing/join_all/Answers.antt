@@ -1,7 +1,6 @@
 use Rattle.std.proofs.Common.{arith, ap, sym, subst, List, length, ◌++◌, ◌∷◌, []}
 use Rattle.crossbeam_channel.specs.Claims.{view}
-use Rattle.lane_pool.specs.Standing.{AreJoined}
-use Rattle.lane_pool.proofs.Joins.{joins, all_back, no_more, one_more}
+use Rattle.lane_pool.proofs.Joins.{joins, all_back, no_more, one_more, AreJoined}
 use Rattle.lane_pool.proofs.finishing.join_all.Goals as goal
 
 pub loop-lane-preserved : goal.loop-lane-preserved

@@ -1,5 +1,5 @@
 use Rattle.std.proofs.Common.{◌≡◌, ◌≤◌, ◌++◌, vec_capacity, length}
-use Rattle.lane_pool.specs.Standing.{AreJoined}
+use Rattle.lane_pool.proofs.Joins.{AreJoined}
 use Rattle.lane_pool.proofs.finishing.join_all.Given as goal
 
 abbrev pub invariant-loop-lane : goal.invariant-loop-lane

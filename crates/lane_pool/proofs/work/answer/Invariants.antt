@@ -1,7 +1,8 @@
 use Rattle.crossbeam_channel.specs.Claims.{view, IsSeatAt}
 use Rattle.crossbeam_channel.specs.Ends.{sends_on}
 use Rattle.acq_outside.specs.Fetches.{Fetches}
-use Rattle.lane_pool.specs.Working.{IsWorker, IsNext}
+use Rattle.lane_pool.specs.Working.{IsWorker}
+use Rattle.lane_pool.proofs.Heard.{IsNext}
 use Rattle.lane_pool.proofs.work.answer.Given as goal
 
 abbrev pub invariant-loop : goal.invariant-loop
