@@ -26,7 +26,7 @@ loop-step-preserved g c =
       done = MatchResult-at_ok _ _ c.in_ok-carry_one.field-0 c.in_ok-carry_one.was next.1;
       frame = stayed_on c.loop-step.invariant.frame c.in_ok-carry_one.ensures.frame;
       told = λ told. told_turn c.args.steps.now c.loop-step.step-index c.step-item.result (g.D.Disk.files c.args.disk.now) (g.D.Disk.files c.loop-step.disk) _ (omega (arith, c.loop-step-test.true)) c.step-item.is (c.loop-step.invariant.told told)
-          (MatchResult-at_ok _ _ c.in_ok-carry_one.field-0 c.in_ok-carry_one.was (c.carry_one.ensures.told (subst (λ (b : Bool). IsTrue b) (sym c.loop-step.invariant.stays.telling) told)));
+          (MatchResult-at_ok _ _ c.in_ok-carry_one.field-0 c.in_ok-carry_one.was (c.carry_one.ensures.told (subst (λ (b : Bool). IsTrue b) (sym c.loop-step.invariant.frame.telling) told)));
     }
 
 pub returns-clause-done : goal.returns-clause-done
