@@ -11,4 +11,4 @@ returns-clause-filling g c =
     begun (g.D.Disk.trace c.args.disk.now) (g.D.Disk.trace c.begin.new.disk) (g.D.Disk.trace c.sum_front.new.disk) c.args.name.now.0 c.args.keep
     record { part = c.in_ok-part.part; total = c.in_ok-total.total }
     c.requires.keep c.begin.ensures.moments c.in_ok-part.ensures.part c.in_ok-part.ensures.there c.in_ok-part.ensures.bytes
-    c.sum_front.ensures.frame.still c.in_ok-total.ensures.small c.in_ok-total.ensures.sum
+    c.sum_front.ensures.still c.in_ok-total.ensures.small c.in_ok-total.ensures.sum
