@@ -1,7 +1,6 @@
 -- What an item of a board asks, over a sound plan.
-use Rattle.std.proofs.Common.{◌≡◌, ◌<◌, ◌∙◌, ◌⊎◌, inl, inr, ℕ, zero, suc, ◌+◌, Bool, true, false, List, [], ◌∷◌, length, All, Option, Some, None, refl, sym, ap, subst, arith}
+use Rattle.std.proofs.Common.{◌≡◌, ◌<◌, ◌∙◌, ◌⊎◌, inl, inr, ℕ, zero, suc, ◌+◌, Bool, true, false, List, [], ◌∷◌, Option, Some, None, refl, sym, ap, subst, arith}
 use Rattle.std.specs.Prelude.{if◌then◌else◌, option_map, option_and_then, slice_get, Ok}
-use Rattle.std.proofs.lemmas.List.Elements.{All-head, All-tail}
 use Rattle.acq_base.specs.Plan.{IsPlanned}
 use Rattle.acq_base.specs.Uri.{IsSound}
 use Rattle.acq_base.specs.declared.fetch.Job.{Job}
@@ -15,7 +14,6 @@ use Rattle.item_graph.specs.Sound.{AsksSoundly, ListsAskSoundly}
 use Rattle.release_file.specs.Release.{release_of}
 use Rattle.release_file.specs.declared.release.Release.{Release}
 use Rattle.update_model.specs.Laws.{SetsAreAdmissible}
-use Rattle.update_model.specs.Obtained.{◌>>=◌}
 use Rattle.update_model.specs.Outcomes.{Admitted, outcome}
 use Rattle.update_model.specs.Releases.{release_text}
 use Rattle.update_model.specs.Walks.{Walk, release_walk}
@@ -23,15 +21,17 @@ use Rattle.update_model.specs.declared.ask.Ask.{Ask}
 use Rattle.update_model.specs.declared.settled.Verdict2.{Verdict2}
 use Rattle.board_model.specs.Boards.{Asker, Board, asker_of, is_out, job_for}
 use Rattle.board_model.specs.CallLaws.{AsksBeginWell}
-use Rattle.board_model.specs.Keys.{key_at, named, same_key}
+use Rattle.board_model.specs.Keys.{named, same_key}
 use Rattle.board_model.specs.Laws.{BoardsStand}
 use Rattle.board_model.specs.Reached.{Reached}
 use Rattle.board_model.specs.Runs.{Note}
-use Rattle.board_model.specs.Slots.{Config, Standing, Slot, Asking, Listing, Refused, Closed, ask_of, item_at, item_in, joined}
+use Rattle.board_model.specs.Slots.{Config, Standing, Slot, Asking, Listing, Refused, Closed, ask_of, item_in, joined}
 use Rattle.board_model.specs.Stands.{AllStand, HasCome, HasHeard, History, IsOpen, ListStands, ListsStand, SourceStands, StandsAt, history_of, of_key, tolds, walk_of}
 use Rattle.board_model.specs.declared.key.Key.{Key}
+use Rattle.board_model.proofs.Askers.{asker-asks}
+use Rattle.board_model.proofs.Resting.{olds-there}
 use Rattle.board_bounds.proofs.Listed.{listed-written}
-use Rattle.board_bounds.proofs.Walking.{AreSound, list-walks, release-walks, walk-sound}
+use Rattle.board_bounds.proofs.Walking.{AreSound, list-walks, release-walks, walk-sound, at_all}
 use Rattle.board_bounds.specs.Fetching.{AsksMayBeFetched, IssuedJobsMayBeHanded, JobsOutMayBeHanded, LeadSoundly, MayBeFetched, MayBeHanded}
 
 -- ---- what was heard
@@ -49,48 +49,6 @@ told-sound [] h = tt
 told-sound (note ∷ notes) h = (h.0, told-sound notes h.1)
 
 -- ---- an item that asks, with its source as it stands
-
-pub olds-there : (sources : List Source) (olds : List Old) (n : ℕ) (source : Source) → length olds ≡ length sources → slice_get sources n ≡ Some source
-    → (old : Old) × (slice_get olds n ≡ Some old)
-olds-there [] olds n source each there = absurd (cc)
-olds-there (x ∷ sources) [] n source each there = absurd (omega (arith, each))
-olds-there (x ∷ sources) (old ∷ olds) zero source each there = (old, refl)
-olds-there (x ∷ sources) (old ∷ olds) (suc n) source each there = olds-there sources olds n source (omega (arith, each)) there
-
-source-at : (P : Source → Type 0) (sources : List Source) (n : ℕ) (source : Source) → All P sources → slice_get sources n ≡ Some source → P source
-source-at P [] n source all e = absurd (cc)
-source-at P (s ∷ sources) zero source all e = let same : s ≡ source = cc in subst P same (All-head P s sources all)
-source-at P (s ∷ sources) (suc n) source all e = source-at P sources n source (All-tail P s sources all) e
-
-bound : {A B : Type 0} (o : Option A) (f : A → Option B) (b : B) → (o >>= f) ≡ Some b → (a : A) × (o ≡ Some a) × (f a ≡ Some b)
-bound None f b e = absurd (cc)
-bound (Some a) f b e = (a, refl, e)
-
--- what is known of an item that asks
-pub record IsAsking (b : Board) (number : ℕ) (a : Asker) : Type 0 where
-  pub key_is : key_at b.config.sources number ≡ Some a.key
-  pub source_is : slice_get b.config.sources a.key.source ≡ Some a.source
-  pub slot : Slot
-  pub slot_is : slice_get b.slots a.key.source ≡ Some slot
-  pub asks : ask_of (item_in slot a.key.place) ≡ Some a.ask
-
-slot-asks : (slots : List Slot) (key : Key) (ask : Ask) → ask_of (item_at slots key) ≡ Some ask
-    → (slot : Slot) × (slice_get slots key.source ≡ Some slot) × (ask_of (item_in slot key.place) ≡ Some ask)
-slot-asks slots key ask e = one (slice_get slots key.source) refl e
-  where
-    one : (o : Option Slot) → slice_get slots key.source ≡ o → ask_of (option_and_then (λ slot. item_in slot key.place) o) ≡ Some ask
-        → (slot : Slot) × (slice_get slots key.source ≡ Some slot) × (ask_of (item_in slot key.place) ≡ Some ask)
-    one None is e = absurd (cc)
-    one (Some slot) is e = (slot, is, e)
-
-pub asker-asks : (b : Board) (number : ℕ) (a : Asker) → asker_of b number ≡ Some a → IsAsking b number a
-asker-asks b number a e =
-    let k = bound (key_at b.config.sources number) _ a e in
-    let s = bound (slice_get b.config.sources k.0.source) _ a k.2 in
-    let q = bound (ask_of (item_at b.slots k.0)) _ a s.2 in
-    let same : (record { key = k.0; source = s.0; ask = q.0 }) ≡ a = cc in
-    let there = slot-asks b.slots k.0 q.0 q.1 in
-    subst (λ (x : Asker). IsAsking b number x) same (record { key_is = k.1; source_is = s.1; slot = there.0; slot_is = there.1; asks = there.2 })
 
 -- what a source came to is a Release that was read
 pub read-of : SetsAreAdmissible → (config : Config) (n : ℕ) (source : Source) (old : Old) (heard : List Note) (set : Admitted) → HasCome config n source old heard (Ok set) → release_of set.bytes ≡ Ok set.release
@@ -172,7 +130,7 @@ asks-fetched laws config olds notes b number a planned sound r is =
     let begins = laws.begin config olds notes b number a r is in
     record {
       sound = stood-sound laws config a.key.source a.source old.0 at.slot at.verdict (history_of a.key.source notes) a.key.place a.ask
-          (source-at IsPlanned config.sources a.key.source a.source planned there)
+          (at_all IsPlanned config.sources a.key.source a.source planned there)
           (λ p. key-sound (record { source = a.key.source; place = p }) notes sound) at.stands asking;
       begin = from a.ask begins.from;
       held = begins.staged;

@@ -32,7 +32,8 @@ use Rattle.board_model.specs.Runs.{Answered, Event, Issue, Answer, Absorb, Settl
 use Rattle.board_model.specs.Slots.{Config, Standing, Slot, Asking, Listing, Refused, Closed, joined}
 use Rattle.board_model.specs.Stands.{History, IsOpen, ListStands, ListsStand, SourceStands, StandsAt, entries_of, history_of, of_key, tolds}
 use Rattle.board_model.specs.declared.key.Key.{Key}
-use Rattle.board_bounds.proofs.Asking.{asker-asks, reached-stands}
+use Rattle.board_model.proofs.Askers.{asker-asks}
+use Rattle.board_bounds.proofs.Asking.{reached-stands}
 use Rattle.board_bounds.proofs.Weighing.{list-weighs, release-brief, walk-few, Brings}
 use Rattle.board_bounds.specs.Sources.{SourceAsksAreFew, asks_of, links_among, links_by, links_of, release_at, release_heard, trails_of}
 

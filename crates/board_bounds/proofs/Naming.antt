@@ -1,13 +1,12 @@
 -- The list name of a sound URI has a `_` and no `/`, so it is neither `lock` nor `journal`, and nothing in `partial/`.
-use Rattle.std.proofs.Common.{◌≡◌, ◌≢◌, ◌≤◌, ◌∙◌, inl, inr, ℕ, zero, suc, ◌+◌, ◌==◌, ◌||◌, ◌&&◌, ◌/◌, ◌%◌, nat_lt, not, Bool, true, false, List, [], ◌∷◌, ◌++◌, length, map, take, get_or, codes, All, Contains, Some, refl, sym, ap, subst, arith}
+use Rattle.std.proofs.Common.{◌≡◌, ◌≢◌, ◌≤◌, ◌∙◌, ℕ, zero, suc, ◌+◌, ◌==◌, ◌||◌, ◌&&◌, ◌/◌, ◌%◌, nat_lt, not, Bool, true, false, List, [], ◌∷◌, ◌++◌, length, map, take, get_or, codes, All, Contains, Some, refl, sym, ap, subst, arith}
 use Rattle.std.specs.Prelude.{if◌then◌else◌, slice_get}
 use Rattle.std.specs.Fmt.{digit_glyph}
 use Rattle.std.specs.List.{flat_map, list_any}
-use Rattle.std.proofs.lemmas.Bool.{cases_Bool, false≢true, ne_eqb}
+use Rattle.std.proofs.lemmas.Bool.{false≢true, ne_eqb}
 use Rattle.std.proofs.lemmas.List.Elements.{All-cons, All-map}
 use Rattle.std.proofs.lemmas.List.Folds.{list_any-append}
 use Rattle.std.proofs.lemmas.Option.{same_Some}
-use Rattle.std.proofs.lemmas.Slice.Eq.{bytes_eq-Decides}
 use Rattle.acq_base.specs.Plan.{IsPlanned, IsSoundTarget, names_of}
 use Rattle.acq_base.specs.Uri.{IsSound, is_alphanumeric, list_name, name_byte, name_of_parts, port_text}
 use Rattle.acq_base.specs.declared.plan.Source.{Source}
@@ -17,6 +16,7 @@ use Rattle.acq_base.specs.declared.uri.Scheme.TheVariants.{Http, File}
 use Rattle.acq_base.specs.declared.uri.Uri.{Uri}
 use Rattle.acq_outside.specs.Disk.{IsName, same_name}
 use Rattle.journal_model.specs.Names.{IsPutName, is_aside, is_list, is_partial, journal, lock, partial}
+use Rattle.journal_model.proofs.Twice.{other_name}
 use Rattle.board_bounds.specs.Names.{PartialNamesAreOthers, PlannedNamesAreLists, PlannedNamesArePutNames}
 
 has_bar : List ℕ → Bool
@@ -116,9 +116,6 @@ pub put-names : ((source : Source) → IsPlanned source → All IsName (names_of
 put-names law source planned i d below =
     put-name (get_or (names_of source) i d) (law source planned i d below) (planned.short i d below) (names-named source planned i d below)
 
-not-same : (a b : List ℕ) → a ≢ b → same_name a b ≡ false
-not-same a b apart = elim (cases_Bool (same_name a b)) [ inl is ↦ absurd (apart ((bytes_eq-Decides a b).0 is)) | inr isnt ↦ isnt ]
-
 take-flat : (n : ℕ) (xs : List ℕ) → has_slash xs ≡ false → has_slash (take n xs) ≡ false
 unfolding has_slash
 take-flat n [] h = one n
@@ -138,12 +135,12 @@ unfolding has_slash
 slashed = refl
 
 not-partial : (name : List ℕ) → has_slash name ≡ false → is_partial name ≡ false
-not-partial name flat = not-same (take 8 name) (codes "partial/") (λ same. false≢true (sym (take-flat 8 name flat) ∙ ap has_slash same ∙ slashed))
+not-partial name flat = other_name (take 8 name) (codes "partial/") (λ same. false≢true (sym (take-flat 8 name flat) ∙ ap has_slash same ∙ slashed))
 
 is-list : (name : List ℕ) → IsListName name → is_list name ≡ true
 is-list name is =
-    let not_journal : same_name name journal ≡ false = not-same name journal (other-name name journal is.0 journal-plain) in
-    let not_lock : same_name name lock ≡ false = not-same name lock (other-name name lock is.0 lock-plain) in
+    let not_journal : same_name name journal ≡ false = other_name name journal (other-name name journal is.0 journal-plain) in
+    let not_lock : same_name name lock ≡ false = other_name name lock (other-name name lock is.0 lock-plain) in
     let not_partial : is_partial name ≡ false = not-partial name is.1 in
     ap (λ (b : Bool). not b && not (is_aside name)) not_journal ∙ ap (λ (b : Bool). not (b || is_partial name)) not_lock ∙ ap not not_partial
 

@@ -1,6 +1,6 @@
 -- Walks that ask soundly do so at each point to which sound answers lead.
-use Rattle.std.proofs.Common.{◌≡◌, ◌≤◌, ℕ, zero, suc, Bool, true, false, List, [], ◌∷◌, length, map, All, codes, Option, Some, None, subst}
-use Rattle.std.specs.Prelude.{if◌then◌else◌, slice_get}
+use Rattle.std.proofs.Common.{◌≡◌, ◌≤◌, ℕ, zero, suc, List, [], ◌∷◌, length, map, All, codes, Option, Some, subst}
+use Rattle.std.specs.Prelude.{slice_get}
 use Rattle.std.specs.List.{AllByRecursion as Each}
 use Rattle.std.proofs.lemmas.List.Elements.{All-head, All-tail}
 use Rattle.acq_base.specs.Plan.{IsPlanned, IsSoundTarget}
@@ -9,58 +9,22 @@ use Rattle.acq_base.specs.declared.plan.Source.{Source}
 use Rattle.acq_base.specs.declared.plan.Target.{Target}
 use Rattle.acq_base.specs.declared.settings.Settings.{Settings}
 use Rattle.acq_base.specs.declared.sum.Sum.{Sum}
-use Rattle.acq_base.specs.declared.uri.Uri.{Uri}
 use Rattle.item_graph.specs.Items.{asked}
 use Rattle.item_graph.specs.Sound.{AsksSoundly, IsSoundAt, IsSoundAnswer, ListsAskSoundly}
 use Rattle.release_file.specs.declared.release.Release.{Release}
-use Rattle.update_model.specs.Points.{Point, Over, At, lead, run, start, step}
-use Rattle.update_model.specs.Reach.{Way, On, Stop, may_move, moved}
+use Rattle.by_hash.proofs.Sound.{beside_sound}
+use Rattle.update_model.specs.Points.{Point, Over, At, run, start, step}
 use Rattle.update_model.specs.Releases.{release_end, release_limit}
-use Rattle.update_model.specs.Trails.{Told, Leads}
+use Rattle.update_model.specs.Trails.{Told}
 use Rattle.update_model.specs.Walks.{Walk, Finish, Try, after_in_release, release_walk, target_walk, whole_ask}
 use Rattle.update_model.specs.Wanted.{want}
 use Rattle.update_model.specs.declared.ask.Ask.{Ask}
-use Rattle.update_model.specs.declared.ask.Closed.{Closed}
-use Rattle.update_model.specs.declared.ask.Closed.TheVariants.{Served, Moved, Absent, TooBig, Garbled, Fault}
+use Rattle.update_model.specs.declared.ask.Closed.TheVariants.{Served, Absent, TooBig, Garbled}
 use Rattle.update_model.specs.declared.ask.Ending.{Ending}
 use Rattle.update_model.specs.declared.ask.Ending.TheVariants as endings
-use Rattle.board_bounds.proofs.Beside.{beside-sound, hashed-sound, in_release-short}
+use Rattle.item_graph.proofs.Soundness.{start-sound, step-sound}
+use Rattle.board_bounds.proofs.Beside.{hashed-sound, in_release-short}
 use Rattle.board_bounds.specs.Readings.{IsWritten}
-
--- ---- one answer
-
-start-sound : (retries : ℕ) (walk : Walk) → AsksSoundly walk → IsSoundAt (start retries walk)
-start-sound retries (Finish end) h = tt
-start-sound retries (Try ask next) h = h
-
--- on to a sound place, or to an end
-abbrev IsSoundWay : Way → Type 0
-IsSoundWay (On to) = IsSound to
-IsSoundWay (Stop ending) = Unit {0}
-
-lead-sound : (retries : ℕ) (ask : Ask) (left : ℕ) (next : Ending → Walk) (w : Way) → IsSoundWay w → ((e : Ending) → AsksSoundly (next e)) → IsSoundAt (lead retries ask left next w)
-lead-sound retries ask left next (On to) sound h = (sound, h)
-lead-sound retries ask left next (Stop ending) sound h = start-sound retries (next ending) (h ending)
-
-moved-sound : (left : ℕ) (from to : Uri) → IsSound to → IsSoundWay (moved left from to)
-moved-sound zero from to sound = tt
-moved-sound (suc left) from to sound = one (may_move from.scheme to.scheme)
-  where
-    one : (b : Bool) → IsSoundWay (if b then On to else Stop endings.Lost)
-    one true = sound
-    one false = tt
-
-led-sound : (retries : ℕ) (ask : Ask) (left : ℕ) (next : Ending → Walk) (lane : ℕ) (closed : Closed) (faults : ℕ) → IsSoundAnswer closed
-    → IsSound ask.uri → ((e : Ending) → AsksSoundly (next e))
-    → IsSoundAt (Leads left ask.uri lane closed faults (λ n. At ask left n next) (λ w. lead retries ask left next w))
-led-sound retries ask left next lane (Fault before after) zero sound at h = start-sound retries (next (endings.Dead lane before after)) (h (endings.Dead lane before after))
-led-sound retries ask left next lane (Fault before after) (suc n) sound at h = (at, h)
-led-sound retries ask left next lane (Served body) faults sound at h = start-sound retries (next (endings.Served body)) (h (endings.Served body))
-led-sound retries ask left next lane (Moved None) faults sound at h = start-sound retries (next endings.Lost) (h endings.Lost)
-led-sound retries ask left next lane (Moved (Some to)) faults sound at h = lead-sound retries ask left next (moved left ask.uri to) (moved-sound left ask.uri to sound) h
-led-sound retries ask left next lane (Absent status) faults sound at h = start-sound retries (next (endings.Absent status)) (h (endings.Absent status))
-led-sound retries ask left next lane TooBig faults sound at h = start-sound retries (next endings.TooBig) (h endings.TooBig)
-led-sound retries ask left next lane (Garbled place) faults sound at h = start-sound retries (next (endings.Garbled place)) (h (endings.Garbled place))
 
 -- ---- all answers
 
@@ -69,9 +33,7 @@ AreSound ts = Each (λ (t : Told). IsSoundAnswer t.closed) ts
 
 run-sound : (retries : ℕ) (p : Point) (ts : List Told) → IsSoundAt p → AreSound ts → IsSoundAt (run retries p ts)
 run-sound retries p [] at h = at
-run-sound retries (Over end) (t ∷ ts) at h = run-sound retries (Over end) ts tt h.1
-run-sound retries (At ask left faults next) (t ∷ ts) at h =
-    run-sound retries (step retries (At ask left faults next) t) ts (led-sound retries ask left next t.lane t.closed faults h.0 at.0 at.1) h.1
+run-sound retries p (t ∷ ts) at h = run-sound retries (step retries p t) ts (step-sound retries p t at h.0) h.1
 
 ask-sound : (p : Point) (ask : Ask) → IsSoundAt p → asked p ≡ Some ask → IsSound ask.uri
 ask-sound (Over end) ask at e = absurd (cc)
@@ -90,7 +52,7 @@ release-short source planned =
 
 pub release-walks : (source : Source) → IsPlanned source → AsksSoundly (release_walk source)
 release-walks source planned = (
-  beside-sound source.release (codes "InRelease") planned.sound.release (release-short source planned) in_release-short,
+  beside_sound source.release (codes "InRelease") planned.sound.release (release-short source planned) in_release-short,
   λ e. one e,
 )
   where
@@ -108,10 +70,10 @@ release-walks source planned = (
     one endings.Lost = last-sound
     one (endings.Garbled at) = last-sound
 
-target-at : (P : Target → Type 0) (targets : List Target) (k : ℕ) (target : Target) → All P targets → slice_get targets k ≡ Some target → P target
-target-at P [] k target all e = absurd (cc)
-target-at P (t ∷ targets) zero target all e = let same : t ≡ target = cc in subst P same (All-head P t targets all)
-target-at P (t ∷ targets) (suc k) target all e = target-at P targets k target (All-tail P t targets all) e
+pub at_all : {A : Type 0} (P : A → Type 0) (xs : List A) (n : ℕ) (x : A) → All P xs → slice_get xs n ≡ Some x → P x
+at_all P [] n x all e = absurd (cc)
+at_all P (y ∷ xs) zero x all e = let same : y ≡ x = cc in subst P same (All-head P y xs all)
+at_all P (y ∷ xs) (suc n) x all e = at_all P xs n x (All-tail P y xs all) e
 
 name-short : (targets : List Target) (k : ℕ) (target : Target) → All (λ name. length name ≤ 240) (map (λ (t : Target). t.name.0) targets) → slice_get targets k ≡ Some target
     → length target.name.0 ≤ 240
@@ -124,7 +86,7 @@ name-short (t ∷ targets) (suc k) target all e = name-short targets k target (A
 pub list-walks : ListsAskSoundly → (source : Source) (release : Release) (settings : Settings) (k : ℕ) (target : Target) (sum : Sum) (installed : Option (List ℕ)) (part : ℕ)
     → IsPlanned source → slice_get source.targets k ≡ Some target → IsWritten sum → AsksSoundly (target_walk installed part (want source release settings target sum))
 list-walks law source release settings k target sum installed part planned there written =
-    let sound : IsSoundTarget target = target-at IsSoundTarget source.targets k target planned.sound.targets there in
+    let sound : IsSoundTarget target = at_all IsSoundTarget source.targets k target planned.sound.targets there in
     let short : length target.name.0 ≤ 240 =
     name-short source.targets k target (All-tail (λ name. length name ≤ 240) source.release_name.0 (map (λ (t : Target). t.name.0) source.targets) planned.short) there in
     let named : length (list_name target.uri) ≤ 240 = subst (λ (name : List ℕ). length name ≤ 240) sound.named short in

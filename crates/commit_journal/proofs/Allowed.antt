@@ -3,13 +3,14 @@ use Rattle.std.proofs.Common.{◌≡◌, ◌≢◌, inl, inr, refl, sym, ap, ◌
 use Rattle.journal_model.specs.Names.{partial}
 use Rattle.journal_model.specs.Reading.{is_name_of, is_allowed, clashes, step_named}
 use Rattle.journal_model.specs.Spelling.{all_steps, AreAllowed}
-use Rattle.journal_model.proofs.Fine.{AreFine, IsFit, both, fit_name, fine_push, none_fine}
+use Rattle.journal_model.proofs.Fine.{AreFine, IsFit, fit_name, fine_push, none_fine}
 use Rattle.journal_model.proofs.Twice.{Apart, partial_other}
 use Rattle.journal_model.specs.Steps.{IsIn, Touches}
 use Rattle.journal_model.specs.declared.step.Step.{Step}
 use Rattle.journal_model.specs.declared.step.Step.TheVariants as steps
 use Rattle.std.specs.List.{list_any}
 use Rattle.std.specs.Prelude.{not}
+use Rattle.std.proofs.lemmas.Bool.{and_parts}
 use Rattle.commit_journal.specs.declared.changing.Change.{Change}
 use Rattle.commit_journal.specs.declared.changing.Change.TheVariants.{Put, Drop}
 use Rattle.commit_journal.specs.Changes.{steps_of, steps_in, all_changes, touched, IsNone, AreApart, AllAllowed, CanRecord}
@@ -17,7 +18,7 @@ use Rattle.commit_journal.proofs.Recordable.{all_in}
 
 -- their names are those that a record may have
 fits : (put : Bool) (before : List Step) (name : List ℕ) → is_allowed before put name ≡ true → IsFit put name
-fits put before name allowed = fit_name put name (both (is_name_of put name) (not (list_any (clashes (step_named put name)) before)) allowed).0
+fits put before name allowed = fit_name put name (and_parts (is_name_of put name) (not (list_any (clashes (step_named put name)) before)) allowed).0
 
 each_allowed : (changes : List Change) (before : List Step) → AreAllowed before (steps_of changes) → AllAllowed changes
 each_allowed [] before allowed = tt

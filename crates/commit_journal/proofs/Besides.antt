@@ -1,5 +1,5 @@
 -- A new journal is made beside one that isn't open.
-use Rattle.std.proofs.Common.{◌≡◌, ◌≢◌, ◌⊎◌, inl, inr, ⊎_elim, refl, sym, ap, ◌∙◌, subst, arith, ℕ, ◌+◌, ◌≤◌, true, List, [], ◌∷◌, ◌++◌, length, Option, Some, None, option_map, Result, OnOk, IsSomeAnd}
+use Rattle.std.proofs.Common.{◌≡◌, ◌⊎◌, inl, inr, ⊎_elim, refl, sym, ap, ◌∙◌, subst, arith, ℕ, ◌+◌, ◌≤◌, true, List, [], ◌∷◌, ◌++◌, length, Option, Some, None, option_map, Result, OnOk, IsSomeAnd}
 use Rattle.std.proofs.Math.Path.{fun_ext}
 use Rattle.std.proofs.Math.Seq.{drop-nil}
 use Rattle.std.proofs.lemmas.List.{get_or-set_same, get_or_past, append-nil}
@@ -25,7 +25,7 @@ use Rattle.journal_model.proofs.Aside.{quiet_gate, ChangesOnly, IsOn, call_chang
 use Rattle.journal_model.specs.declared.step.Gate.TheVariants.{Shut}
 use Rattle.commit_journal.specs.Opening.{Recovers}
 use Rattle.commit_journal.specs.Phases.{IsUnset, MayBeMade, IsBeside, LastsBeside, IsNamed}
-use Rattle.commit_journal.proofs.Recovers.{torn_recovers, names_go}
+use Rattle.commit_journal.proofs.Recovers.{torn_recovers, names_go, never}
 use Rattle.commit_journal.proofs.Carries.{kept_closed}
 
 -- A call on the file beside.
@@ -230,9 +230,6 @@ name_ends s lasting = record {
   leads = ap (λ (m : Names). m journal) (renamed_names s lasting) ∙ with_same (with_name (names_of s) beside None) journal (Some lasting.number) journal refl;
   file = lasting.file;
 }
-
-never : (i : ℕ) → Some i ≢ None
-never i is = absurd cc
 
 name_recovers : (s : State) → LastsBeside s → Recovers s (after s (Rename beside journal))
 name_recovers s lasting = subst (λ (t : State). Recovers s t) (sym (name_after s lasting)) (record { images = rename_images s lasting; settled = rename_settled s lasting })

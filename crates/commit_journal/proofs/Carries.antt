@@ -27,7 +27,7 @@ use Rattle.journal_model.specs.declared.step.Step.TheVariants.{Put, Drop}
 use Rattle.journal_model.specs.declared.step.Gate.TheVariants.{Open, Shut}
 use Rattle.commit_journal.specs.Opening.{Recovers}
 use Rattle.commit_journal.specs.Phases.{Says, IsCarrying, IsDone, IsTurned, call_of}
-use Rattle.commit_journal.proofs.Recovers.{Counts, counts_not_journal, torn_recovers, names_go, sync_goes}
+use Rattle.commit_journal.proofs.Recovers.{Counts, counts_not_journal, torn_recovers, names_go, sync_goes, never}
 
 pub fine : (steps : List Step) (s : State) → Says steps s → AreFine steps
 fine steps s says = open_fine says.bytes steps says.gate
@@ -95,7 +95,7 @@ led_step steps m (Drop list) name i is k leads = by (same_name list name) leads
     by true same = absurd cc
     by false same = (name, k, same)
 
-open_same : (a b : List Step) → Open a ≡ Open b → a ≡ b
+pub open_same : (a b : List Step) → Open a ≡ Open b → a ≡ b
 open_same a b is = cc
 
 of_counts : (steps : List Step) (s : State) (says : Says steps s) → AreOf steps s.pending → (name : List ℕ) → Counts s name → Of steps name
@@ -158,9 +158,6 @@ no_file_changes : (s : State) (step : Step) → changed_file s (call_of step) �
 no_file_changes s (Put list) = refl
 no_file_changes s (Drop list) = refl
 
-never : (i : ℕ) → Some i ≢ None
-never i is = absurd cc
-
 pub carry_goes : {T E : Type 0} (steps done : List Step) (step : Step) (old new : List State) (result : Result T E) → IsIn step steps → AllSound old → Stands (IsCarrying steps done) old → Goes (call_of step) old new result
     → Since old new (From Recovers old) × OnOk result (Stands (IsCarrying steps (done ++ step ∷ [])) new)
 carry_goes steps done step old new result is_in sound stands is =
@@ -205,7 +202,7 @@ written_turned steps s done =
     ap (λ (o : Option ℕ). on_file s o (λ f. file_written f 0 (0 ∷ []))) (ap (λ (m : Names). m journal) (settled_names s done.unmoved) ∙ done.says.leads)
     ∙ ap (λ (f : FileState). record { files = set s.files done.says.number (file_written f 0 (0 ∷ [])); base = s.base; pending = s.pending }) done.says.file
 
-journal_below : (s : State) (j : ℕ) → IsSound s → s.pending ≡ [] → s.base journal ≡ Some j → j < length s.files
+pub journal_below : (s : State) (j : ℕ) → IsSound s → s.pending ≡ [] → s.base journal ≡ Some j → j < length s.files
 journal_below s j sound unmoved leads = (apart_now s sound).below journal j (ap (λ (m : Names). m journal) (settled_names s unmoved) ∙ leads)
 
 none_of : (steps : List Step) (s : State) → s.pending ≡ [] → AreOf steps s.pending

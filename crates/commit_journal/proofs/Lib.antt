@@ -1,19 +1,19 @@
-mod Recovers
-mod Carries
+pub mod Recovers
+pub mod Carries
 mod Besides
-mod Looks
+pub mod Looks
 mod Turns
 mod Finds
 mod Lists
-mod Others
+pub mod Others
 mod Recordable
 mod Stepping
-mod Opens
-mod Turned
-mod Parted
-mod Fills
+pub mod Opens
+pub mod Turned
+pub mod Parted
+pub mod Fills
 mod Records
 mod Notes
-mod Prepares
-mod Running
+pub mod Prepares
+pub mod Running
 mod Allowed

@@ -1,5 +1,5 @@
 -- What reads give once a journal is opened.
-use Rattle.std.proofs.Common.{◌≡◌, ◌≢◌, inl, refl, sym, ap, ◌∙◌, subst, ℕ, Bool, true, IsTrue, List, [], ◌∷◌, take, Option, Some, None, option_map, unwrap_or, Result, Ok, Err, OnOk}
+use Rattle.std.proofs.Common.{◌≡◌, ◌≢◌, inl, refl, sym, ap, ◌∙◌, subst, ℕ, Bool, IsTrue, List, [], ◌∷◌, take, Option, Some, None, option_map, unwrap_or, Result, Ok, Err, OnOk}
 use Rattle.acq_outside.specs.Disk.{Files, with_file, spliced, moved_file, after_write, after_cut, after_rename, after_remove}
 use Rattle.acq_outside.specs.Crash.{State, IsOutcome, IsSound, AllSound, IsShown, names_of, reads, file_at}
 use Rattle.acq_outside.specs.Moments.{Stands, Since, From}
@@ -21,6 +21,7 @@ use Rattle.journal_model.specs.declared.step.Step.TheVariants.{Put, Drop}
 use Rattle.journal_model.specs.declared.step.Gate.TheVariants.{Open, Shut}
 use Rattle.commit_journal.specs.Opening.{Recovers}
 use Rattle.commit_journal.specs.Phases.{closed_files, made_files}
+use Rattle.commit_journal.proofs.Looks.{told_yes}
 
 moved_is : (files : Files) (from to : List ℕ) (o : Option (List ℕ)) → moved_file files from to o ≡ moved_at files from to o
 moved_is files from to None = refl
@@ -95,9 +96,6 @@ idle_rests s sound idle settled = record {
 
 pub reads_stand : (s : State) → IsSound s → IsIdle s → reopened (reads s) ≡ Some (lists (reads s))
 reads_stand s sound idle = ap (opened (reads s)) (quiet_gate s (idle_quiet s idle) (reads s) (reads_left s sound))
-
-told_yes : (tells : Bool) → tells ≡ true → IsTrue tells
-told_yes tells is = subst IsTrue (sym is) refl
 
 pub opened_rests : (tells_old tells_new : Bool) (files_old files_new : Files) (old new : List State) → IsShown tells_old files_old old → IsShown tells_new files_new new → AllSound new → tells_new ≡ tells_old
     → (IsTrue tells_old → reopened files_new ≡ reopened files_old) → Stands IsIdle new → Stands IsSettled new → Stands (IsAtRest (lists_now old)) new

@@ -16,16 +16,13 @@ use Rattle.journal_model.specs.Steps.{AreOf}
 use Rattle.journal_model.proofs.Views.{settled_names}
 use Rattle.journal_model.specs.declared.step.Step.{Step}
 use Rattle.journal_model.specs.declared.step.Gate.TheVariants.{Open, Shut}
+use Rattle.journal_model.proofs.Aside.{any_stands}
 use Rattle.commit_journal.specs.Opening.{Recovers}
 use Rattle.commit_journal.specs.Phases.{IsUnmoved, IsLaid, IsCarrying, IsUnset}
 use Rattle.commit_journal.proofs.Recovers.{sync_goes, names_go}
 
-always : (old : List State) → Stands (λ s. Unit {0}) old
-always [] = tt
-always (s ∷ past) = tt
-
 pub lay_names_goes : {T E : Type 0} (old new : List State) (result : Result T E) → AllSound old → Goes SyncNames old new result → Since old new (From Recovers old) × OnOk result (Stands IsUnmoved new)
-lay_names_goes old new result sound is = names_go (λ s. Unit {0}) IsUnmoved old new result sound (λ s _ _. refl) (always old) is
+lay_names_goes old new result sound is = names_go (λ s. Unit {0}) IsUnmoved old new result sound (λ s _ _. refl) (any_stands old) is
 
 laid_case : (s : State) (o : Option ℕ) → IsSound s → s.pending ≡ [] → s.base journal ≡ o → IsLaid (on_file s o (λ file. synced file.seen))
 laid_case s None sound unmoved leads = record { unmoved = unmoved; lasts = λ i is. absurd (let clash = sym leads ∙ is in cc) }
@@ -71,7 +68,7 @@ unset_case s laid is = record {
   unmoved = laid.unmoved;
 }
 
-told_yes : (tells : Bool) → tells ≡ true → IsTrue tells
+pub told_yes : (tells : Bool) → tells ≡ true → IsTrue tells
 told_yes tells is = subst IsTrue (sym is) refl
 
 pub opened_carrying : (tells : Bool) (files : Files) (trace : List State) (steps : List Step) → IsShown tells files trace → Stands IsLaid trace → (IsTrue tells → Open steps ≡ gate_in (files journal)) → Stands (IsCarrying steps []) trace

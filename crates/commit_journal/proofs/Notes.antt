@@ -1,6 +1,7 @@
 -- A record is written behind the closed gate, and what is at rest stays so.
 use Rattle.std.proofs.Common.{◌≡◌, ◌≢◌, inl, ⊎_elim, refl, sym, ap, ◌∙◌, subst, arith, ℕ, ◌+◌, ◌≤◌, min, Bool, true, IsTrue, List, [], ◌∷◌, ◌++◌, length, set, take, drop, Option, Some, None, option_map, unwrap_or, Result, OnOk, IsSomeAnd}
 use Rattle.std.proofs.lemmas.List.{get_or-set_same, get_or-set_other, append-nil, drop_all}
+use Rattle.std.proofs.lemmas.Option.{same_Some}
 use Rattle.acq_outside.specs.Disk.{Files, spliced}
 use Rattle.acq_outside.specs.Crash.{State, Names, IsSound, AllSound, IsShown, IsTorn, Goes, after, changed_file, on_file, cut_or_made, file_at, no_file, names_of, all_renamed, reads, seen_at, synced, all_any, file_written, file_cut}
 use Rattle.acq_outside.specs.Moments.{Stands, Since}
@@ -16,7 +17,8 @@ use Rattle.journal_model.proofs.Views.{list_not_aside, list_not_journal}
 use Rattle.journal_model.proofs.Aside.{idle_quiet, quiet_unrecorded, leads_now, changed_by, first_kept, reads_named}
 use Rattle.commit_journal.specs.Laying.{IsIdleUnmoved, IsNoted, IsNotedLastingly}
 use Rattle.commit_journal.proofs.Carries.{turned_state, kept_closed}
-use Rattle.commit_journal.proofs.Recovers.{names_recover}
+use Rattle.commit_journal.proofs.Recovers.{names_recover, never}
+use Rattle.commit_journal.proofs.Others.{torn_as_done}
 
 journal_now : (s : State) (idle : IsIdle s) → names_of s journal ≡ Some idle.number
 journal_now s idle = leads_now s journal idle.aside refl ∙ idle.leads
@@ -87,9 +89,6 @@ torn_behind s done torn idle changed at part is = record {
   closed = closed_seen (file_at done.files idle.number) (file_at torn.files idle.number) (part.content idle.number).0 (part.content idle.number).1 is.closed;
 }
 
-some_same : (i k : ℕ) → Some i ≡ Some k → i ≡ k
-some_same i k is = cc
-
 -- The names are synced.
 names_behind : (s : State) → IsIdle s → IsIdle (after s SyncNames)
 names_behind s idle = record { aside = tt; number = idle.number; leads = journal_now s idle; closed = idle.closed }
@@ -106,16 +105,6 @@ names_stay s idle = record {
 
 torn_names : (done torn : State) → IsTorn None done torn → names_of torn ≡ names_of done
 torn_names done torn part = ap (λ (l : List NameChange). all_renamed torn.base l) part.pending ∙ ap (λ (m : Names). all_renamed m done.pending) part.base
-
-never : (i : ℕ) → Some i ≢ None
-never i is = absurd cc
-
-torn_file : (done torn : State) → IsTorn None done torn → (name : List ℕ) → file_named torn name ≡ file_named done name
-torn_file done torn part name = ap (λ (m : Names). option_map (file_at torn.files) (m name)) (torn_names done torn part) ∙ at (names_of done name)
-  where
-    at : (o : Option ℕ) → option_map (file_at torn.files) o ≡ option_map (file_at done.files) o
-    at None = refl
-    at (Some i) = ap (λ (f : FileState). Some f) (part.others i (never i))
 
 torn_idle : (done torn : State) → IsTorn None done torn → IsIdle done → IsIdle torn
 torn_idle done torn part idle = record {
@@ -136,7 +125,7 @@ torn_stays s done torn part idle stays = record {
             (λ recorded. absurd (quiet_unrecorded torn name (idle_quiet torn (torn_idle done torn part idle)) recorded))
             counts;
         lists_are = λ list of_list.
-            reads_named torn list ∙ ap (option_map (λ (f : FileState). f.seen)) (torn_file done torn part list) ∙ sym (reads_named done list) ∙ now.lists_are list of_list;
+            reads_named torn list ∙ ap (option_map (λ (f : FileState). f.seen)) (torn_as_done done torn part list) ∙ sym (reads_named done list) ∙ now.lists_are list of_list;
       };
   idle = λ before. torn_idle done torn part idle;
 }
@@ -165,7 +154,7 @@ cut_changed s idle = ap (λ (t : State). names_of t journal) (cut_is s idle) ∙
 -- reads of the journal's file after it changed
 seen_here : (s : State) (idle : IsIdle s) (file : FileState) (bytes : List ℕ) → IsSound s → file.seen ≡ bytes → (i : ℕ) → s.base journal ≡ Some i → (file_at (set s.files idle.number file) i).seen ≡ bytes
 seen_here s idle file bytes sound is i leads =
-    let same : i ≡ idle.number = some_same i idle.number (sym leads ∙ idle.leads) in
+    let same : i ≡ idle.number = same_Some i idle.number (sym leads ∙ idle.leads) in
     ap (λ (k : ℕ). (file_at (set s.files idle.number file) k).seen) same
     ∙ ap (λ (f : FileState). f.seen) (get_or-set_same s.files idle.number file no_file ((apart_now s sound).below journal idle.number (journal_now s idle))) ∙ is
 
@@ -185,7 +174,7 @@ pub cut_noted : {T E : Type 0} (name : List ℕ) (old new : List State) (result 
 cut_noted name old new result same sound stands is =
     goes StaysAtRest IsIdleUnmoved (IsNoted (0 ∷ [])) (Cut journal 1) old new result sound
     (λ s sound_s has. behind_stays s (after s (Cut journal 1)) has.idle sound_s (cut_behind s has.idle sound_s))
-    (λ s torn sound_s has part. behind_stays s torn has.idle sound_s (torn_behind s (after s (Cut journal 1)) torn has.idle (changed_file s (Cut journal 1)) (λ k at. some_same k has.idle.number (at ∙ cut_changed s has.idle)) part (cut_behind s has.idle sound_s)))
+    (λ s torn sound_s has part. behind_stays s torn has.idle sound_s (torn_behind s (after s (Cut journal 1)) torn has.idle (changed_file s (Cut journal 1)) (λ k at. same_Some k has.idle.number (at ∙ cut_changed s has.idle)) part (cut_behind s has.idle sound_s)))
     (λ s sound_s has. cut_ends s sound_s has)
     stands (subst (λ (n : List ℕ). Goes (Cut n 1) old new result) same is)
 
@@ -224,7 +213,7 @@ pub write_noted : {T E : Type 0} (name body : List ℕ) (old new : List State) (
 write_noted name body old new result same sound stands is =
     goes StaysAtRest (IsNoted (0 ∷ [])) (IsNoted (0 ∷ body)) (Write journal 1 body) old new result sound
     (λ s sound_s has. behind_stays s (after s (Write journal 1 body)) has.idle sound_s (write_behind s body has sound_s))
-    (λ s torn sound_s has part. behind_stays s torn has.idle sound_s (torn_behind s (after s (Write journal 1 body)) torn has.idle (names_of s journal) (λ k at. some_same k has.idle.number (at ∙ journal_now s has.idle)) part (write_behind s body has sound_s)))
+    (λ s torn sound_s has part. behind_stays s torn has.idle sound_s (torn_behind s (after s (Write journal 1 body)) torn has.idle (names_of s journal) (λ k at. same_Some k has.idle.number (at ∙ journal_now s has.idle)) part (write_behind s body has sound_s)))
     (λ s sound_s has. write_ends s body sound_s has)
     stands (subst (λ (n : List ℕ). Goes (Write n 1 body) old new result) same is)
 

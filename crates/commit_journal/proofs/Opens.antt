@@ -1,5 +1,5 @@
 -- The gate of a prepared commit is opened.
-use Rattle.std.proofs.Common.{◌≡◌, ◌≢◌, ◌⊎◌, inl, inr, ⊎_elim, refl, sym, ap, ◌∙◌, subst, arith, ℕ, ◌+◌, ◌<◌, ◌≤◌, min, nat_eq, Bool, true, false, List, [], ◌∷◌, length, set, Option, Some, None, option_map, Result, Ok, Err, OnOk, IsSomeAnd}
+use Rattle.std.proofs.Common.{◌≡◌, ◌≢◌, ◌⊎◌, inl, inr, ⊎_elim, refl, sym, ap, ◌∙◌, subst, arith, ℕ, ◌+◌, ◌≤◌, min, nat_eq, Bool, true, false, List, [], ◌∷◌, length, set, Option, Some, None, option_map, Result, Ok, Err, OnOk, IsSomeAnd}
 use Rattle.std.proofs.Math.Path.{fun_ext}
 use Rattle.std.proofs.lemmas.Bool.{cases_eq}
 use Rattle.std.proofs.lemmas.Bool.Decides.{nat_tests}
@@ -21,7 +21,7 @@ use Rattle.journal_model.specs.Spelling.{body_of, all_steps}
 use Rattle.journal_model.specs.Reopen.{lists, opened, reopened, Leaves, LeavesEither}
 use Rattle.journal_model.specs.Rest.{IsSettled, IsRecorded, PutsFrom, file_named, bytes_in, part_bytes}
 use Rattle.journal_model.specs.Steps.{AreOf}
-use Rattle.journal_model.proofs.Views.{view, view_image, settled_names, lists_same, list_not_journal, partial_aside, apart_names, instead, instead_same, instead_other}
+use Rattle.journal_model.proofs.Views.{view, view_image, settled_names, lists_same, list_not_journal, apart_names, instead, instead_same, instead_other, partial_not_journal}
 use Rattle.journal_model.specs.declared.step.Step.{Step}
 use Rattle.journal_model.specs.declared.step.Gate.TheVariants.{Shut, Open}
 use Rattle.commit_journal.specs.declared.changing.Change.{Change}
@@ -36,8 +36,8 @@ use Rattle.commit_journal.specs.Phases.{IsCarrying, AllNamed}
 use Rattle.commit_journal.specs.Turning.{IsOpening, IsOpeningTo, OpensAt, WritesOver}
 use Rattle.commit_journal.proofs.Recordable.{all_in, read_again}
 use Rattle.commit_journal.proofs.Stepping.{lists_after, laid_out_shown}
-use Rattle.commit_journal.proofs.Carries.{turned_state, unmoved_view, carrying_gate}
-use Rattle.commit_journal.proofs.Recovers.{puts_aside, sync_goes}
+use Rattle.commit_journal.proofs.Carries.{turned_state, unmoved_view, carrying_gate, open_same, journal_below}
+use Rattle.commit_journal.proofs.Recovers.{puts_aside, sync_goes, Lasts, recorded_back}
 use Rattle.commit_journal.proofs.Turns.{gate_named}
 
 -- the body of these groups' record
@@ -63,9 +63,6 @@ any_gate body (gate ∷ rest) outcome =
 journal_at : (s : State) (j : ℕ) → s.pending ≡ [] → s.base journal ≡ Some j → names_of s journal ≡ Some j
 journal_at s j unmoved leads = ap (λ (m : Names). m journal) (settled_names s unmoved) ∙ leads
 
-journal_low : (s : State) (j : ℕ) → IsSound s → s.pending ≡ [] → s.base journal ≡ Some j → j < length s.files
-journal_low s j sound unmoved leads = (apart_now s sound).below journal j (journal_at s j unmoved leads)
-
 -- the write of the gate
 abbrev opened_state : (groups : List (List Change)) (s : State) → IsReady groups s → State
 opened_state groups s ready = turned_state s ready.number (open_file (body_in groups))
@@ -76,7 +73,7 @@ written_open groups s ready =
     ∙ ap (λ (f : FileState). turned_state s ready.number (file_written f 0 (1 ∷ []))) ready.file
 
 open_here : (groups : List (List Change)) (s : State) (ready : IsReady groups s) → IsSound s → file_at (opened_state groups s ready).files ready.number ≡ open_file (body_in groups)
-open_here groups s ready sound = get_or-set_same s.files ready.number (open_file (body_in groups)) no_file (journal_low s ready.number sound ready.unmoved ready.leads)
+open_here groups s ready sound = get_or-set_same s.files ready.number (open_file (body_in groups)) no_file (journal_below s ready.number sound ready.unmoved ready.leads)
 
 open_gate : (groups : List (List Change)) (s : State) (ready : IsReady groups s) → IsSound s → (image : Files) (is : IsImage (opened_state groups s ready) image) → (gate : ℕ) × (is.bytes ready.number ≡ gate ∷ body_in groups)
 open_gate groups s ready sound image is = any_gate (body_in groups) (is.bytes ready.number) (subst (λ (f : FileState). IsOutcome f (is.bytes ready.number)) (open_here groups s ready sound) (is.outcomes ready.number))
@@ -148,9 +145,6 @@ other_named s j file name sound unmoved leads differ = at (names_of s name) refl
     at (Some i) led =
         ap (λ (f : FileState). Some f) (get_or-set_other s.files j i file no_file (λ same. differ ((apart_now s sound).one name journal i led (journal_at s j unmoved leads ∙ ap (λ (k : ℕ). Some k) (sym same)))))
 
-partial_not : (name : List ℕ) → partial name ≢ journal
-partial_not name = apart_names (partial name) journal (partial_aside name) refl
-
 open_ends : (groups : List (List Change)) (s : State) (ready : IsReady groups s) → IsSound s → IsOpening groups (opened_state groups s ready)
 open_ends groups s ready sound = record {
   can = ready.can;
@@ -158,7 +152,7 @@ open_ends groups s ready sound = record {
   number = ready.number;
   leads = ready.leads;
   file = open_here groups s ready sound;
-  laid_out = laid_out_stays s (opened_state groups s ready) (all_changes groups) (λ name. other_named s ready.number (open_file (body_in groups)) (partial name) sound ready.unmoved ready.leads (partial_not name)) ready.laid_out;
+  laid_out = laid_out_stays s (opened_state groups s ready) (all_changes groups) (λ name. other_named s ready.number (open_file (body_in groups)) (partial name) sound ready.unmoved ready.leads (partial_not_journal name)) ready.laid_out;
 }
 
 -- What a crash leaves then is read by its gate.
@@ -188,7 +182,7 @@ parts_same : (s t : State) → ((name : List ℕ) → file_named t (partial name
 parts_same s t same = fun_ext (λ name. ap bytes_in (same name))
 
 open_parts : (groups : List (List Change)) (s : State) (ready : IsReady groups s) → IsSound s → parts_of (opened_state groups s ready) ≡ parts_of s
-open_parts groups s ready sound = parts_same s (opened_state groups s ready) (λ name. other_named s ready.number (open_file (body_in groups)) (partial name) sound ready.unmoved ready.leads (partial_not name))
+open_parts groups s ready sound = parts_same s (opened_state groups s ready) (λ name. other_named s ready.number (open_file (body_in groups)) (partial name) sound ready.unmoved ready.leads (partial_not_journal name))
 
 open_leaves : (groups : List (List Change)) (folder : Files) (s : State) (over : IsReadyOver groups folder s) → IsSound s → LeavesEither folder (stepped_all (filled_all (parts_of s) groups) folder) (opened_state groups s over.ready)
 open_leaves groups folder s over sound image is =
@@ -209,9 +203,6 @@ puts_laid s (Put own content ∷ changes) laid name (inl is) = (content_of (part
 puts_laid s (Put own content ∷ changes) laid name (inr later) = puts_laid s changes laid.1 name later
 puts_laid s (Drop own ∷ changes) laid name puts = puts_laid s changes laid.1 name puts
 
-abbrev Lasts : FileState → Type 0
-Lasts file = file ≡ synced file.seen
-
 named_lasts : (s : State) (name bytes : List ℕ) (i : ℕ) → file_named s name ≡ Some (synced bytes) → names_of s name ≡ Some i → Lasts (file_at s.files i)
 named_lasts s name bytes i holds leads =
     let file : file_at s.files i ≡ synced bytes = get (ap (option_map (file_at s.files)) (sym leads) ∙ holds) in
@@ -219,9 +210,6 @@ named_lasts s name bytes i holds leads =
   where
     get : Some (file_at s.files i) ≡ Some (synced bytes) → file_at s.files i ≡ synced bytes
     get is = cc
-
-open_same : (a b : List Step) → Open a ≡ Open b → a ≡ b
-open_same a b is = cc
 
 -- a record that a crash then leaves open is this one
 recorded_here : (groups : List (List Change)) (s : State) (ready : IsReady groups s) → IsSound s → (name : List ℕ) → IsRecorded (opened_state groups s ready) name → PutsFrom (record_in groups) name
@@ -233,9 +221,6 @@ recorded_here groups s ready sound name recorded =
     (λ open_now. subst (λ (l : List Step). PutsFrom l name) (open_same recorded.steps (record_in groups) (sym recorded.gate ∙ holds ∙ open_now)) recorded.puts)
     (either_gate groups gate.0 ready.can)
 
-recorded_done : (done t : State) (name : List ℕ) → ((image : Files) → IsImage t image → IsImage done image) → IsRecorded t name → IsRecorded done name
-recorded_done done t name back recorded = record { image = recorded.image; left = back recorded.image recorded.left; steps = recorded.steps; gate = recorded.gate; puts = recorded.puts }
-
 -- a state that differs in the journal's file alone, and leaves no more than the gate that is written
 open_settled : (groups : List (List Change)) (s t : State) (ready : IsReady groups s) → IsSound s → names_of t ≡ names_of s → ((i : ℕ) → i ≢ ready.number → file_at t.files i ≡ file_at s.files i)
     → ((image : Files) → IsImage t image → IsImage (opened_state groups s ready) image) → IsSettled s → IsSettled t
@@ -244,7 +229,7 @@ open_settled groups s t ready sound names files back settled name i counts leads
     ⊎_elim
     (λ list. kept (list_not_journal name list) led (settled name i (inl list) led))
     (λ recorded.
-    let puts = recorded_here groups s ready sound name (recorded_done (opened_state groups s ready) t name back recorded) in
+    let puts = recorded_here groups s ready sound name (recorded_back (opened_state groups s ready) t name back recorded) in
     let laid = puts_laid s (all_changes groups) ready.laid_out name (subst (λ (l : List Step). PutsFrom l name) (all_in groups) puts) in
     kept (apart_names name journal (puts_aside (record_in groups) name puts) refl) led (named_lasts s name laid.0 i laid.1 led))
     counts
@@ -280,7 +265,7 @@ write_to groups folder new s sound over =
       to = ap (λ (part : List ℕ → List ℕ). stepped_all (filled_all part groups) folder) (open_parts groups s ready sound) ∙ over.to;
     })
 
-abbrev KeepsSettled : State → State → Type 0
+abbrev pub KeepsSettled : State → State → Type 0
 KeepsSettled s t = IsSettled s → IsSettled t
 
 write_settled : (groups : List (List Change)) (s : State) → IsSound s → IsReady groups s → KeepsSettled s (opening_write s)
@@ -368,7 +353,7 @@ open_says groups u opening sound = record {
     number = opening.number;
     leads = opening.leads;
     bytes = 1 ∷ body_in groups;
-    file = get_or-set_same u.files opening.number (synced (1 ∷ body_in groups)) no_file (journal_low u opening.number sound opening.unmoved opening.leads);
+    file = get_or-set_same u.files opening.number (synced (1 ∷ body_in groups)) no_file (journal_below u opening.number sound opening.unmoved opening.leads);
     gate = gate_reads groups opening.can;
   };
   pending = subst (λ (l : List NameChange). AreOf (record_in groups) l) (sym opening.unmoved) tt;

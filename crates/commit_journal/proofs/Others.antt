@@ -47,7 +47,7 @@ changed_away : (s : State) (o : Option ℕ) (change : NameChange) (name : List �
 changed_away s None change name away = refl
 changed_away s (Some i) change name away = ap (option_map (file_at s.files)) (ap (λ (m : Names). m name) (all_push s.base s.pending change) ∙ away)
 
-torn_as_done : (done torn : State) → IsTorn None done torn → (name : List ℕ) → file_named torn name ≡ file_named done name
+pub torn_as_done : (done torn : State) → IsTorn None done torn → (name : List ℕ) → file_named torn name ≡ file_named done name
 torn_as_done done torn part name = ap (λ (m : Names). option_map (file_at torn.files) (m name)) names ∙ at (names_of done name)
   where
     names : names_of torn ≡ names_of done

@@ -26,7 +26,7 @@ none_of_first : (a : List (List ℕ)) (y : List ℕ) (b : List (List ℕ)) → A
 none_of_first [] y b away = tt
 none_of_first (x ∷ a) y b away = ((λ same. away.0.0 (sym same)), none_of_first a y b away.1)
 
-away_rest : (a : List (List ℕ)) (y : List ℕ) (b : List (List ℕ)) → Away a (y ∷ b) → Away a b
+pub away_rest : (a : List (List ℕ)) (y : List ℕ) (b : List (List ℕ)) → Away a (y ∷ b) → Away a b
 away_rest [] y b away = tt
 away_rest (x ∷ a) y b away = (away.0.1, away_rest a y b away.1)
 

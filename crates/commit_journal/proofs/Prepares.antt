@@ -91,7 +91,7 @@ pub ready_after : (groups : List (List Change)) (old new : List State) → Stand
 ready_after groups old [] idle since ready = tt
 ready_after groups old (t ∷ past) idle since ready = λ folder rest. let now = rest_on folder old (t ∷ past) idle since rest in record { ready = ready; leaves = now.leaves; settled = now.settled }
 
-settled_at : (folder : Files) (now : List State) → Stands (IsAtRest folder) now → Stands IsSettled now
+pub settled_at : (folder : Files) (now : List State) → Stands (IsAtRest folder) now → Stands IsSettled now
 settled_at folder [] rest = tt
 settled_at folder (s ∷ past) rest = rest.settled
 

@@ -1,16 +1,16 @@
 -- Changes that may be recorded are read again from their record.
 use Rattle.std.proofs.Common.{◌≡◌, ◌≢◌, refl, sym, ap, ◌∙◌, subst, arith, ℕ, suc, ◌<◌, ◌≤◌, ◌^◌, nat_eq, nat_lt, Bool, true, false, List, [], ◌∷◌, ◌++◌, length, Ok, length-append}
 use Rattle.std.proofs.lemmas.Bool.Decides.{nat_tests}
-use Rattle.std.proofs.lemmas.Slice.Eq.{bytes_eq-Decides}
 use Rattle.std.proofs.lemmas.Str.{is_utf8-from_IsUtf8}
 use Rattle.std.specs.List.{list_any}
-use Rattle.acq_outside.specs.Disk.{IsName, same_name}
+use Rattle.acq_outside.specs.Disk.{IsName}
 use Rattle.journal_model.specs.Names.{lock, journal, partial}
 use Rattle.journal_model.specs.Reading.{clashes, is_name_of, is_allowed, most_long, steps_of_body}
 use Rattle.journal_model.specs.Spelling.{body_of, all_steps, AreAllowed, AreShort}
 use Rattle.journal_model.proofs.Again.{new_again}
 use Rattle.journal_model.specs.declared.step.Step.{Step}
 use Rattle.journal_model.specs.declared.step.Step.TheVariants as steps
+use Rattle.journal_model.proofs.Twice.{other_name}
 use Rattle.commit_journal.specs.declared.changing.Change.{Change}
 use Rattle.commit_journal.specs.declared.changing.Change.TheVariants.{Put, Drop}
 use Rattle.commit_journal.specs.Changes.{step_of, steps_of, steps_in, all_changes, touched_one, touched, IsNone, AreApart, AllAllowed, CanRecord}
@@ -35,14 +35,6 @@ groups_long (g ∷ groups) = ap suc (groups_long groups)
 short_groups : (groups : List (List Change)) → length (all_changes groups) < 2 ^ 32 → AreShort (steps_in groups)
 short_groups [] few = tt
 short_groups (g ∷ groups) few = (omega (arith, steps_long g, length-append g (all_changes groups)), short_groups groups (omega (arith, length-append g (all_changes groups))))
-
--- a name that is allowed passes the test of names
-other_name : (a b : List ℕ) → a ≢ b → same_name a b ≡ false
-other_name a b differ = by (same_name a b) refl
-  where
-    by : (t : Bool) → same_name a b ≡ t → same_name a b ≡ false
-    by true is = absurd (differ ((bytes_eq-Decides a b).0 is))
-    by false is = is
 
 name_fits : (put : Bool) (name : List ℕ) → IsName name → length name ≤ most_long put → name ≢ lock → name ≢ journal → is_name_of put name ≡ true
 name_fits put name named short not_lock not_journal =

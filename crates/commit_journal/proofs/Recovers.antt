@@ -24,7 +24,7 @@ Counts s name = (is_list name ≡ true) ⊎ IsRecorded s name
 pub by_steps : IsBySteps Recovers
 by_steps a b c first later = record { images = as_by_steps a b c first.images later.images; settled = λ settled. later.settled (first.settled settled) }
 
-recorded_back : (s t : State) (name : List ℕ) → ((image : Files) → IsImage t image → IsImage s image) → IsRecorded t name → IsRecorded s name
+pub recorded_back : (s t : State) (name : List ℕ) → ((image : Files) → IsImage t image → IsImage s image) → IsRecorded t name → IsRecorded s name
 recorded_back s t name back recorded = record { image = recorded.image; left = back recorded.image recorded.left; steps = recorded.steps; gate = recorded.gate; puts = recorded.puts }
 
 counts_back : (s t : State) (name : List ℕ) → ((image : Files) → IsImage t image → IsImage s image) → Counts t name → Counts s name
@@ -41,7 +41,7 @@ pub counts_not_journal : (s : State) (name : List ℕ) → Counts s name → nam
 counts_not_journal s name (inl list) = list_not_journal name list
 counts_not_journal s name (inr recorded) = λ same. let aside : is_aside journal ≡ true = subst (λ (n : List ℕ). is_aside n ≡ true) same (puts_aside recorded.steps name recorded.puts) in absurd cc
 
-abbrev Lasts : FileState → Type 0
+abbrev pub Lasts : FileState → Type 0
 Lasts file = file ≡ synced file.seen
 
 set_lasts : (files : List FileState) (j i : ℕ) (file : FileState) → Lasts file → Lasts (file_at files i) → Lasts (file_at (set files j file) i)
@@ -88,7 +88,7 @@ torn_recovers c s done torn part away recovers = record {
       subst Lasts (sym (part.others i (away name i counts_done led))) (recovers.settled settled name i counts_done led);
 }
 
-never : (i : ℕ) → Some i ≢ None
+pub never : (i : ℕ) → Some i ≢ None
 never i is = absurd cc
 
 -- a sync, over all that a disk has been

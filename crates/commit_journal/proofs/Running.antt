@@ -17,7 +17,7 @@ use Rattle.commit_journal.specs.Runs.{Commit, HasBegun, HasCommitted, Moment, re
 use Rattle.commit_journal.proofs.Prepares.{rest_on, keeps_lists}
 use Rattle.commit_journal.proofs.Turned.{since_more, newest_of}
 
-stands_as : (P Q : State → Type 0) (now : List State) → ((s : State) → P s → Q s) → Stands P now → Stands Q now
+pub stands_as : (P Q : State → Type 0) (now : List State) → ((s : State) → P s → Q s) → Stands P now → Stands Q now
 stands_as P Q [] change stands = tt
 stands_as P Q (s ∷ past) change stands = change s stands
 
@@ -49,7 +49,7 @@ more_begun commits folder least most greater s grows leaves image is =
     record { count = has.count; no_fewer = has.no_fewer; no_more = omega (arith, has.no_more, grows); is = has.is }
 
 -- within a preparation
-prepared_since : (folder : Files) (old now : List State) → Stands (IsAtRest folder) old → Since old now (KeepsLists old) → Since old now (Leaves folder)
+pub prepared_since : (folder : Files) (old now : List State) → Stands (IsAtRest folder) old → Since old now (KeepsLists old) → Since old now (Leaves folder)
 prepared_since folder old now rest since = since_map (KeepsLists old) (Leaves folder) old now (λ s keeps. keeps folder rest) since
 
 newest : (P : State → Type 0) (old now : List State) → Since old now P → Stands P old → Stands P now

@@ -22,24 +22,21 @@ use Rattle.commit_journal.specs.Changes.{Filled, PutFile, DropFile, content_of, 
 use Rattle.commit_journal.specs.Recorded.{HoldsOne, HoldsAll}
 use Rattle.commit_journal.specs.Commits.{parts_of, AreLaidOut}
 use Rattle.commit_journal.proofs.Recordable.{all_in, away_first, Away}
+use Rattle.commit_journal.proofs.Parted.{away_rest}
 
 untouched_part : (change : Change) (name : List ℕ) (names : List (List ℕ)) → Away (touched_one change) (partial name ∷ names) → Touches (step_of change) (partial name) → ⊥
 untouched_part (Put own content) name names away (inl is) = away.0.0 is
 untouched_part (Put own content) name names away (inr is) = away.1.0.0 is
 untouched_part (Drop own) name names away is = away.0.0 is
 
-tail_away : (names : List (List ℕ)) (first : List ℕ) (rest : List (List ℕ)) → Away names (first ∷ rest) → Away names rest
-tail_away [] first rest away = tt
-tail_away (name ∷ names) first rest away = (away.0.1, tail_away names first rest away.1)
-
 holds_after : (part : List ℕ → List ℕ) (files : Files) (change : Change) (changes : List Change) → Away (touched_one change) (touched changes) → HoldsAll part files changes → HoldsAll part (stepped files (step_of change)) changes
 holds_after part files change [] away holds = tt
 holds_after part files change (Put name content ∷ changes) away holds =
-    let later = tail_away (touched_one change) name.0 (partial name.0 ∷ touched changes) away in (
+    let later = away_rest (touched_one change) name.0 (partial name.0 ∷ touched changes) away in (
       step_untouched files (step_of change) (partial name.0) (untouched_part change name.0 (touched changes) later) ∙ holds.0,
-      holds_after part files change changes (tail_away (touched_one change) (partial name.0) (touched changes) later) holds.1,
+      holds_after part files change changes (away_rest (touched_one change) (partial name.0) (touched changes) later) holds.1,
     )
-holds_after part files change (Drop name ∷ changes) away holds = (tt, holds_after part files change changes (tail_away (touched_one change) name (touched changes) away) holds.1)
+holds_after part files change (Drop name ∷ changes) away holds = (tt, holds_after part files change changes (away_rest (touched_one change) name (touched changes) away) holds.1)
 
 -- one change, at a list's name
 abbrev Same : Files → Files → Type 0

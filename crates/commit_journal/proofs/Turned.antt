@@ -22,7 +22,7 @@ use Rattle.commit_journal.specs.Phases.{IsOfCommit}
 use Rattle.commit_journal.specs.Turning.{IsOpeningTo, OpensAt, WritesOver, OpensOver}
 use Rattle.commit_journal.proofs.Recordable.{all_in}
 use Rattle.commit_journal.proofs.Lists.{idle_rests, reads_stand}
-use Rattle.commit_journal.proofs.Opens.{since_first}
+use Rattle.commit_journal.proofs.Opens.{since_first, KeepsSettled}
 
 each_append : (P : State → Type 0) (a b : List State) → Each P a → Each P b → Each P (a ++ b)
 each_append P [] b in_a in_b = in_b
@@ -127,9 +127,6 @@ rests_after groups steps old mid new sound idle settled over since =
 -- what is settled stays so
 pub settled_on : (old mid new : List State) → (Stands IsSettled old → Stands IsSettled mid) → Since mid new (From Recovers mid) → Stands IsSettled old → Stands IsSettled new
 settled_on old mid new first since settled = handed_on Recovers IsSettled mid new (λ s t recovers. recovers.settled) since (first settled)
-
-abbrev KeepsSettled : State → State → Type 0
-KeepsSettled s t = IsSettled s → IsSettled t
 
 pub settled_first : (old new : List State) → Since old new (From KeepsSettled old) → Stands IsSettled old → Stands IsSettled new
 settled_first old new since settled = handed_on KeepsSettled IsSettled old new (λ s t keeps. keeps) since settled

@@ -20,9 +20,7 @@ use Rattle.configuration.specs.Refusals.{in_plan}
 use Rattle.configuration.proofs.Steps.{some_counted}
 use Rattle.configuration.proofs.Fronts.{some_text}
 use Rattle.configuration.proofs.Files.{some_files}
-
-abbrev Name : Type 0
-Name = List ℕ
+use Rattle.configuration.proofs.Order.{Name}
 
 -- ---- the steps of the definition
 

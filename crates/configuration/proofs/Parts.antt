@@ -7,9 +7,7 @@ use Rattle.configuration.specs.declared.error.ConfigurationError.{ConfigurationE
 use Rattle.configuration.specs.Answers.{Adds, AddsParts, AddsText, AreParts, IsOutside, IsText, part_names}
 use Rattle.configuration.specs.Configured.{◌>>=◌, all_of}
 use Rattle.configuration.specs.Folder.{Part, parts_at}
-
-abbrev Name : Type 0
-Name = List ℕ
+use Rattle.configuration.proofs.Order.{Name}
 
 -- ---- texts one behind another
 

@@ -12,10 +12,7 @@ use Rattle.configuration.specs.Configured.{all_of, conf_part, conf_text, entries
 use Rattle.configuration.specs.Folder.{Folder, Part, folder_of, parts_in}
 use Rattle.configuration.specs.Names.{counts}
 use Rattle.configuration.proofs.Fronts.{some_text}
-use Rattle.configuration.proofs.Order.{ordered_nil}
-
-abbrev Name : Type 0
-Name = List ℕ
+use Rattle.configuration.proofs.Order.{ordered_nil, Name}
 
 -- ---- parts that count
 

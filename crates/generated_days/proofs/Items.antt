@@ -1,7 +1,7 @@
 -- What each item of a source heard, over a mirror: one answer for each position of its route.
 use Rattle.std.proofs.Common.{◌≡◌, ◌≢◌, ◌<◌, ◌∙◌, ℕ, zero, suc, ◌+◌, Bool, true, false, List, [], ◌∷◌, length, map, AllPairs, Option, Some, None, refl, sym, ap, subst, arith, inl, inr, ◌⊎◌}
 use Rattle.std.specs.Prelude.{if◌then◌else◌, option_map, option_and_then, slice_get, filter_map}
-use Rattle.std.specs.List.{slice_index_or, cons_option, sum_by, AllByRecursion as Each}
+use Rattle.std.specs.List.{cons_option, sum_by, AllByRecursion as Each}
 use Rattle.std.proofs.lemmas.Bool.Decides.{nat_tests}
 use Rattle.std.proofs.lemmas.List.Sums.{sum_by-cons}
 use Rattle.std.proofs.lemmas.Bool.{cases_order}
@@ -29,6 +29,7 @@ use Rattle.update_model.specs.Walks.{Walk, target_walk}
 use Rattle.update_model.specs.Wanted.{want}
 use Rattle.update_model.specs.declared.end.End.{End}
 use Rattle.update_model.specs.declared.wanted.Wanted.{Wanted}
+use Rattle.board_model.proofs.Making.{get-name}
 use Rattle.generated_days.specs.Asks.{asks_along, asks_for_list}
 use Rattle.generated_days.proofs.Along.{counts-walk}
 use Rattle.generated_days.proofs.Answers.{NoFault, Said}
@@ -67,17 +68,11 @@ item-heard mirror parts config n place walk part notes end is agrees quiet asks 
 
 -- ---- the place of a list
 
-got : (targets : List Target) (k : ℕ) (t : Target) (d : List ℕ) → slice_get targets k ≡ Some t
-    → (k < length (map (λ (x : Target). x.name.0) targets)) × (slice_index_or (map (λ (x : Target). x.name.0) targets) k d ≡ t.name.0)
-got [] k t d e = absurd (cc)
-got (x ∷ targets) zero t d e = let same : x ≡ t = cc in (omega arith, ap (λ (y : Target). y.name.0) same)
-got (x ∷ targets) (suc k) t d e = let rest = got targets k t d e in (omega (arith, rest.0), rest.1)
-
 before-apart : (source : Source) (j k : ℕ) (a b : Target) → AllPairs (λ x y. x ≢ y) (names_of source) → slice_get source.targets j ≡ Some a → slice_get source.targets k ≡ Some b
     → j < k → a.name.0 ≡ b.name.0 → ⊥
 before-apart source j k a b distinct first second low same =
-    let one = got source.targets j a a.name.0 first in
-    let two = got source.targets k b a.name.0 second in
+    let one = get-name source.targets j a a.name.0 first in
+    let two = get-name source.targets k b a.name.0 second in
     distinct (suc j) (suc k) a.name.0 (omega (arith, low)) (omega (arith, two.0)) (one.1 ∙ same ∙ sym two.1)
 
 -- no two targets share a name

@@ -1,14 +1,16 @@
 -- Notes by the items that heard them: each is counted with just one item.
-use Rattle.std.proofs.Common.{◌≡◌, ◌≢◌, ◌≤◌, ◌<◌, ℕ, zero, suc, ◌+◌, ◌==◌, ◌&&◌, Bool, true, false, List, [], ◌∷◌, ◌++◌, length, Contains, refl, sym, ap, subst, arith}
+use Rattle.std.proofs.Common.{◌≡◌, ◌≢◌, ◌≤◌, ◌<◌, ℕ, zero, suc, ◌+◌, ◌==◌, Bool, true, false, List, [], ◌∷◌, ◌++◌, length, Contains, refl, sym, ap, subst, arith}
 use Rattle.std.specs.Prelude.{if◌then◌else◌}
 use Rattle.std.specs.List.{slice_index_or, AllByRecursion as Each}
 use Rattle.std.proofs.lemmas.Bool.Decides.{nat_tests}
+use Rattle.std.proofs.lemmas.Bool.{and_parts}
 use Rattle.acq_base.specs.declared.plan.Source.{Source}
 use Rattle.acq_base.specs.declared.plan.Target.{Target}
 use Rattle.board_model.specs.Keys.{keys_from, keys_in, places_from, same_key}
 use Rattle.board_model.specs.Runs.{Note}
 use Rattle.board_model.specs.Stands.{of_key}
 use Rattle.board_model.specs.declared.key.Key.{Key}
+use Rattle.board_model.proofs.Hearing.{same-refl}
 
 -- how many notes are of these items
 abbrev pub heard_by : List Key → List Note → ℕ
@@ -33,23 +35,16 @@ times-append : (key : Key) (xs ys : List Key) → times key (xs ++ ys) ≡ times
 times-append key [] ys = omega arith
 times-append key (x ∷ xs) ys = let rest = times-append key xs ys in omega (arith, rest)
 
-same-itself : (key : Key) → same_key key key ≡ true
-same-itself key = grind (arith, nat_tests)
-
 is-there : (keys : List Key) (key : Key) → Contains keys key → 1 ≤ times key keys
 is-there [] key c = absurd (omega (arith, c.1))
 is-there (other ∷ keys) key c = at c.0 c.1 c.2 (λ d. is-there keys key d)
   where
     at : (k : ℕ) → k < length (other ∷ keys) → slice_index_or (other ∷ keys) k key ≡ key → (Contains keys key → 1 ≤ times key keys) → 1 ≤ times key (other ∷ keys)
     at zero below is more =
-        let same : same_key key other ≡ true = subst (λ (o : Key). same_key key o ≡ true) (sym is) (same-itself key) in
+        let same : same_key key other ≡ true = subst (λ (o : Key). same_key key o ≡ true) (sym is) (same-refl key) in
         let one : one_if (same_key key other) ≡ 1 = ap one_if same in
         omega (arith, one)
     at (suc k) below is more = let rest = more (k, omega (arith, below), is) in omega (arith, rest)
-
-both : (a b : Bool) → (a && b) ≡ true → (a ≡ true) × (b ≡ true)
-both true b e = (refl, e)
-both false b e = absurd (cc)
 
 equal : (a b : ℕ) → (a == b) ≡ true → a ≡ b
 equal a b e = grind (arith, nat_tests, e)
@@ -65,7 +60,7 @@ none-before key source place [] low = refl
 none-before key source place (t ∷ ts) low =
     let rest = none-before key source (suc place) ts (omega (arith, low)) in
     counted (λ n. n + times key (places_from source (suc place) ts) ≡ 0) (same_key key (record { source = source; place = place }))
-    (λ same. let is = equal key.place place (both (key.source == source) (key.place == place) same).1 in absurd (omega (arith, is, low)))
+    (λ same. let is = equal key.place place (and_parts (key.source == source) (key.place == place) same).1 in absurd (omega (arith, is, low)))
     (λ other. omega (arith, rest))
 
 none-elsewhere : (key : Key) (source place : ℕ) (targets : List Target) → key.source ≢ source → times key (places_from source place targets) ≡ 0
@@ -73,7 +68,7 @@ none-elsewhere key source place [] far = refl
 none-elsewhere key source place (t ∷ ts) far =
     let rest = none-elsewhere key source (suc place) ts far in
     counted (λ n. n + times key (places_from source (suc place) ts) ≡ 0) (same_key key (record { source = source; place = place }))
-    (λ same. absurd (far (equal key.source source (both (key.source == source) (key.place == place) same).0)))
+    (λ same. absurd (far (equal key.source source (and_parts (key.source == source) (key.place == place) same).0)))
     (λ other. omega (arith, rest))
 
 once-in-places : (key : Key) (source place : ℕ) (targets : List Target) → times key (places_from source place targets) ≤ 1
@@ -81,7 +76,7 @@ once-in-places key source place [] = omega arith
 once-in-places key source place (t ∷ ts) =
     let rest = once-in-places key source (suc place) ts in
     counted (λ n. n + times key (places_from source (suc place) ts) ≤ 1) (same_key key (record { source = source; place = place }))
-    (λ same. let is = equal key.place place (both (key.source == source) (key.place == place) same).1 in
+    (λ same. let is = equal key.place place (and_parts (key.source == source) (key.place == place) same).1 in
     let none = none-before key source (suc place) ts (omega (arith, is)) in omega (arith, none))
     (λ other. omega (arith, rest))
 
@@ -89,7 +84,7 @@ once-in-source : (key : Key) (n : ℕ) (source : Source) → times key (keys_in 
 once-in-source key n source =
     let rest = once-in-places key n 1 source.targets in
     counted (λ k. k + times key (places_from n 1 source.targets) ≤ 1) (same_key key (record { source = n; place = 0 }))
-    (λ same. let is = equal key.place 0 (both (key.source == n) (key.place == 0) same).1 in
+    (λ same. let is = equal key.place 0 (and_parts (key.source == n) (key.place == 0) same).1 in
     let none = none-before key n 1 source.targets (omega (arith, is)) in omega (arith, none))
     (λ other. omega (arith, rest))
 
@@ -97,7 +92,7 @@ none-in-source : (key : Key) (n : ℕ) (source : Source) → key.source ≢ n �
 none-in-source key n source far =
     let rest = none-elsewhere key n 1 source.targets far in
     counted (λ k. k + times key (places_from n 1 source.targets) ≡ 0) (same_key key (record { source = n; place = 0 }))
-    (λ same. absurd (far (equal key.source n (both (key.source == n) (key.place == 0) same).0)))
+    (λ same. absurd (far (equal key.source n (and_parts (key.source == n) (key.place == 0) same).0)))
     (λ other. omega (arith, rest))
 
 none-behind : (key : Key) (n : ℕ) (sources : List Source) → key.source < n → times key (keys_from n sources) ≡ 0

@@ -16,24 +16,13 @@ use Rattle.update_model.specs.declared.ask.Closed.TheVariants as closed
 use Rattle.update_model.specs.declared.log.Asked.{Asked}
 use Rattle.update_model.specs.declared.log.Heard.{Heard}
 use Rattle.update_model.specs.declared.log.Heard.TheVariants.{Absent, Fault, Garbled, Moved, Served, TooBig}
+use Rattle.run_jobs.proofs.Telling.{counts_rise}
 
 abbrev pub IsQuietHeard : Heard → Type 0
 IsQuietHeard (Fault before after) = ⊥
 IsQuietHeard heard = Unit {0}
 
 -- ---- a log
-
-rises : (first last : ℕ) (entries : List Asked) → CountsUp first last entries → first ≤ last
-rises first last [] counts = counts
-rises first last (e ∷ entries) counts = by e.heard (λ count on. rises count last entries on) counts
-  where
-    by : (heard : Heard) → ((count : ℕ) → CountsUp count last entries → count ≤ last) → CountsOn heard first (λ count. CountsUp count last entries) → first ≤ last
-    by (Served sum) more c = more first c
-    by (Moved place) more c = more first c
-    by (Absent status) more c = more first c
-    by TooBig more c = more first c
-    by (Garbled at) more c = more first c
-    by (Fault before after) more c = let up = more after c.3 in omega (arith, c.0, c.2, up)
 
 not-risen : (before after : ℕ) → Rose before after → after ≤ 0 → ⊥
 not-risen before after (inl less) low = omega (arith, less, low)
@@ -50,7 +39,7 @@ none-told first (e ∷ entries) counts = by e.heard (λ count on. none-told coun
     by (Absent status) more c = (tt, more first c)
     by TooBig more c = (tt, more first c)
     by (Garbled at) more c = (tt, more first c)
-    by (Fault before after) more c = absurd (not-risen before after c.1 (rises after 0 entries c.3))
+    by (Fault before after) more c = absurd (not-risen before after c.1 (counts_rise after 0 entries c.3))
 
 -- where there is one lane, all entries are its
 quiet-entries : (asks : List Asked) → Each (λ e. e.lane < 1) asks → Each (λ e. IsQuietHeard e.heard) (asks_of_lane 0 asks) → Each (λ e. IsQuietHeard e.heard) asks

@@ -1,39 +1,21 @@
 -- The lists that a disk stands for.
 use Rattle.std.proofs.Common.{◌≡◌, ℕ, Bool, true, false, if◌then◌else◌, List, [], ◌∷◌, Option, Some, None, refl, sym, ap, subst}
-use Rattle.std.specs.Prelude.{option_map, unwrap_or}
-use Rattle.acq_outside.specs.Crash.{AllSound, IsImage, IsPart, IsSound, State, file_at, names_of, none, reads, seen_at, taken, trace_of}
+use Rattle.std.specs.Prelude.{unwrap_or}
+use Rattle.acq_outside.specs.Crash.{AllSound, State, reads, trace_of}
 use Rattle.acq_outside.specs.Disk.{Files}
 use Rattle.acq_outside.specs.History.{Past}
 use Rattle.acq_outside.specs.Moments.{IsTold, Stands, ToldAs}
-use Rattle.acq_outside.specs.declared.state.NameChange.{NameChange}
+use Rattle.acq_outside.proofs.Crashes.{reads_left}
 use Rattle.journal_model.specs.Names.{is_list}
 use Rattle.journal_model.specs.Reopen.{lists_now}
 use Rattle.journal_model.specs.Rest.{IsAtRest, IsSettled}
 
 -- ---- a disk at rest
 
-all-part : (changes : List NameChange) → IsPart changes changes
-all-part [] = none
-all-part (change ∷ changes) = taken change (all-part changes)
-
--- what reads give is something that a crash may leave
-reads-image : (s : State) → IsSound s → IsImage s (reads s)
-reads-image s sound = record {
-  some = s.pending;
-  part = all-part s.pending;
-  bytes = λ i. (file_at s.files i).seen;
-  outcomes = sound.outcomes;
-  shows = λ name. by (names_of s name);
-}
-  where
-    by : (i : Option ℕ) → seen_at s.files i ≡ option_map (λ k. (file_at s.files k).seen) i
-    by None = refl
-    by (Some k) = refl
-
 -- so it stands for the lists with which it is at rest
 rest-lists : (lists : Files) (trace : List State) → AllSound trace → IsTold trace → Stands (IsAtRest lists) trace → lists_now trace ≡ lists
 rest-lists lists [] sound told rests = absurd told
-rest-lists lists (s ∷ past) sound told rests = ap (λ (o : Option Files). unwrap_or o (λ name. None)) (rests.leaves (reads s) (reads-image s sound.0))
+rest-lists lists (s ∷ past) sound told rests = ap (λ (o : Option Files). unwrap_or o (λ name. None)) (rests.leaves (reads s) (reads_left s sound.0))
 
 at-rest : (lists : Files) (trace : List State) → IsTold trace → Stands (IsAtRest lists) trace → ToldAs (IsAtRest lists) trace
 at-rest lists [] told rests = absurd told

@@ -20,19 +20,17 @@ use Rattle.release_file.specs.Release.{listed_sum}
 use Rattle.run_model.specs.Asked.{IsListed}
 use Rattle.update_model.specs.Laws.{ReleasesEndAsObtained}
 use Rattle.update_model.specs.Outcomes.{Admitted, Directory, Parts, Staying, admitted, wanted_by}
-use Rattle.update_model.specs.Points.{Over, start}
+use Rattle.update_model.specs.Points.{start}
 use Rattle.update_model.specs.Releases.{obtain_release}
 use Rattle.update_model.specs.Walks.{release_walk}
 use Rattle.update_model.specs.declared.end.End.{End}
 use Rattle.update_model.specs.declared.settled.Verdict2.{Verdict2}
+use Rattle.run_model.proofs.Ends.{over_once}
 use Rattle.generated_days.specs.Asks.{asks_along, asks_for, asks_for_list}
 use Rattle.generated_days.proofs.Answers.{NoFault, agrees-along, lives-along}
 use Rattle.generated_days.proofs.Items.{from-first, item-heard, lists-heard, lists-unheard, said-by}
 use Rattle.generated_days.proofs.Keys.{heard-append, heard_by}
 use Rattle.generated_days.proofs.Quiet.{quiet-key}
-
-over-once : (a b : End) → Over a ≡ Over b → a ≡ b
-over-once a b e = cc
 
 module _
     (ends_as_obtained : ReleasesEndAsObtained) (mirror : World) (dir : Directory) (parts : Parts) (config : Config) (n : ℕ) (source : Source) (old : Old) (notes : List Note) (verdict : Verdict2)
@@ -59,7 +57,7 @@ module _
   set-of : (k : ℕ) (t : Target) → IsListed config old source t (history_of n notes 0)
       → (set : Admitted) × (sum : Sum) × (admitted comes.end old.release config.settings config.change config.now ≡ Ok set) × (listed_sum set.release t.path ≡ Some sum)
   set-of k t listed =
-      let same : listed.end ≡ comes.end = over-once listed.end comes.end (sym listed.ends ∙ comes.release.ends) in
+      let same : listed.end ≡ comes.end = over_once listed.end comes.end (sym listed.ends ∙ comes.release.ends) in
       (listed.set, listed.sum, subst (λ (e : End). admitted e old.release config.settings config.change config.now ≡ Ok listed.set) same listed.came_to, listed.listed)
 
   list-asks : (came : Result Admitted Staying) → admitted comes.end old.release config.settings config.change config.now ≡ came

@@ -1,6 +1,6 @@
 -- The log of a run over one mirror, whose method didn't fail.
-use Rattle.std.proofs.Common.{◌≡◌, ◌∙◌, ℕ, zero, suc, List, [], ◌∷◌, length, Option, Some, refl, sym, ap, subst, arith}
-use Rattle.std.specs.Prelude.{Contains, All, slice_get}
+use Rattle.std.proofs.Common.{◌≡◌, ◌∙◌, ℕ, List, [], ◌∷◌, length, Option, Some, sym, ap, subst}
+use Rattle.std.specs.Prelude.{Contains, slice_get}
 use Rattle.std.specs.List.{flat_map, count_by, sum_by, AllByRecursion as Each}
 use Rattle.std.proofs.lemmas.List.{length-map}
 use Rattle.acq_base.specs.Mirror.{World}
@@ -32,6 +32,8 @@ use Rattle.update_model.specs.Outcomes.{new_set}
 use Rattle.update_model.specs.declared.log.Asked.{Asked}
 use Rattle.update_model.specs.declared.log.RunLog.{RunLog}
 use Rattle.update_model.specs.declared.settled.Verdict2.{Verdict2}
+use Rattle.board_model.proofs.Resting.{olds-there}
+use Rattle.board_bounds.proofs.Walking.{at_all}
 use Rattle.generated_days.specs.Asks.{asks_for}
 use Rattle.generated_days.specs.Days.{is_gotten}
 use Rattle.generated_days.specs.Told.{IsQuiet, TellsDay}
@@ -43,18 +45,6 @@ use Rattle.generated_days.proofs.Quiet.{IsQuietHeard, none-dead, quiet-asks, qui
 use Rattle.generated_days.proofs.Rest.{rests-so}
 use Rattle.generated_days.proofs.Sources.{source-asks, sources-asks}
 use Rattle.generated_days.proofs.Verdicts.{Tells, count-verdicts, installed-is}
-
--- what is installed of a source stands at its place
-old-at : (sources : List Source) (olds : List Old) (n : ℕ) (source : Source) → length olds ≡ length sources → slice_get sources n ≡ Some source → (old : Old) × (slice_get olds n ≡ Some old)
-old-at [] olds n source same is = absurd (cc)
-old-at (s ∷ sources) [] n source same is = absurd (omega (arith, same))
-old-at (s ∷ sources) (o ∷ olds) zero source same is = (o, refl)
-old-at (s ∷ sources) (o ∷ olds) (suc n) source same is = old-at sources olds n source (omega (arith, same)) is
-
-source-of : (P : Source → Type 0) (sources : List Source) (n : ℕ) (source : Source) → All P sources → slice_get sources n ≡ Some source → P source
-source-of P [] n source all is = absurd (cc)
-source-of P (s ∷ sources) zero source all is = let same : s ≡ source = cc in subst P same (all 0 s (omega arith))
-source-of P (s ∷ sources) (suc n) source all is = source-of P sources n source (λ k d low. all (suc k) d (omega (arith, low))) is
 
 module _
     (tell : FinishedBoardsTell) (mirrors : FinishedBoardsTellMirrors) (items : NotesAreOfItems) (logs : LogsTellNotes) (others : OthersHearNothing)
@@ -82,7 +72,7 @@ module _
 
   at : (n : ℕ) (source : Source) → slice_get logged.begun.config.sources n ≡ Some source → (old : Old) × IsSourceAt logged.begun.config logged.begun.olds n source old
   at n source is =
-      let old = old-at logged.begun.config.sources logged.begun.olds n source logged.tells.reached.each is in
+      let old = olds-there logged.begun.config.sources logged.begun.olds n source logged.tells.reached.each is in
       (old.0, record { source_is = is; old_is = old.1 })
 
   -- ---- asks
@@ -94,7 +84,7 @@ module _
       let tells = tell logged.begun.config logged.begun.olds logged.heard logged.tells.board n source old.0 logged.tells.reached logged.tells.finished old.1 in
       let over = finished.read.begins.over in
       source-asks obtained mirror (lists_now before.trace) logged.begun.parts logged.begun.config n source old.0 logged.heard tells.0 is (over.installed n source old.0 old.1) over.sizes agree no-fault
-      (source-of IsPlanned logged.begun.config.sources n source finished.read.begins.planned is).distinct tells.2
+      (at_all IsPlanned logged.begun.config.sources n source finished.read.begins.planned is).distinct tells.2
       (λ k t named. others logged.begun.config logged.begun.olds logged.heard logged.tells.board n k source old.0 t logged.tells.reached logged.tells.finished old.1 named)
 
   asks-are : length log.asks ≡ sum_by (asks_for mirror (lists_now before.trace) logged.begun.parts logged.begun.config.settings logged.begun.config.change logged.begun.config.now) logged.begun.config.sources

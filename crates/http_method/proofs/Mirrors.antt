@@ -1,6 +1,7 @@
 -- What a method says is what the mirror of its link has.
 use Rattle.std.proofs.Common.{◌≡◌, ◌≢◌, ◌∙◌, ◌⊎◌, ℕ, ◌+◌, ◌-◌, ◌<◌, ◌≤◌, Bool, true, false, ◌&&◌, not, List, [], ◌∷◌, ◌++◌, length, take, drop, Option, Some, None, IfSome, inl, inr, refl, sym, ap, subst, arith, append_assoc, append-nil, length-append, length-drop}
 use Rattle.std.proofs.lemmas.List.{drop-drop, drop_at, take_at}
+use Rattle.std.proofs.lemmas.Bool.{not-true, and_parts}
 use Rattle.acq_base.specs.declared.fetch.Answer.{Answer}
 use Rattle.acq_base.specs.declared.fetch.Answer.TheVariants as answers
 use Rattle.acq_base.specs.declared.fetch.Job.{Job}
@@ -199,21 +200,12 @@ talk_open : (talk : Option Talk) (before : Talk) (job : Job) (bytes : List ℕ) 
 talk_open None before job bytes ended false_is told = tt
 talk_open (Some talk) before job bytes ended false_is told = ap (λ (t : Talk). t.ended) told ∙ false_is
 
-both_of : (a b : Bool) → a && b ≡ true → (a ≡ true) × (b ≡ true)
-both_of true true both = (refl, refl)
-both_of true false both = absurd cc
-both_of false b both = absurd cc
-
-not_true : (b : Bool) → not b ≡ true → b ≡ false
-not_true true is = absurd cc
-not_true false is = refl
-
 keeps_by : (one : OneReading) (stays : Stays) (till : StaysAtEnd) (line : Line) (job : Job) (before : Talk) (given : List ℕ) (word : Word) (kept : Option Place) → CanBegin job → (e : Ends line job before given word kept) → keeps e.heard e.ended ≡ true → IsOpen line (place_of job.uri)
 keeps_by one stays till line job before given word kept can e keep =
-    let first = both_of (leaves_open e.heard.ending && is_none e.heard.rest) (not e.ended) keep in
-    let second = both_of (leaves_open e.heard.ending) (is_none e.heard.rest) first.0 in
+    let first = and_parts (leaves_open e.heard.ending && is_none e.heard.rest) (not e.ended) keep in
+    let second = and_parts (leaves_open e.heard.ending) (is_none e.heard.rest) first.0 in
     record {
-      told = talk_open line.talk before job e.bytes e.ended (not_true e.ended first.1) e.told.told;
+      told = talk_open line.talk before job e.bytes e.ended (not-true e.ended first.1) e.told.told;
       ready = of_owed line.world line.due job e.bytes e.ended _
           (λ entries owed.
           let idle = idle_for (answer_at entries job.uri) job e.heard owed.rest owed.keep second.0 (answer_heard one stays till entries line.due job e.bytes e.ended e.heard can (open_some e.heard.ending second.0) e.is owed) in

@@ -1,6 +1,6 @@
 -- How a reading goes on with what a link receives.
 use Rattle.std.proofs.Common.{◌≡◌, ◌≢◌, ◌∙◌, ℕ, ◌+◌, ◌<◌, ◌≤◌, Bool, true, false, nat_eq, List, [], ◌∷◌, ◌++◌, length, take, drop, nat_lt, Option, Some, None, IfSome, option_map, refl, sym, ap, subst, arith, append_assoc, append-nil, length-append, length-drop, length-take}
-use Rattle.std.proofs.lemmas.List.{take-append-drop}
+use Rattle.std.proofs.lemmas.List.{take-append-drop, nil_from_length}
 use Rattle.std.proofs.lemmas.Bool.{ltb-true, ltb-false, eqb-true}
 use Rattle.acq_base.specs.declared.fetch.Job.{Job}
 use Rattle.acq_base.specs.Uri.{IsSound}
@@ -114,15 +114,11 @@ pub some_bytes : (piece : List ℕ) → 0 < length piece → is_none piece ≡ f
 some_bytes [] some = absurd (omega (arith, some))
 some_bytes (byte ∷ piece) some = refl
 
-nothing_behind : (l : List ℕ) → length l ≡ 0 → l ≡ []
-nothing_behind [] none = refl
-nothing_behind (byte ∷ l) none = absurd (omega (arith, none))
-
 stands_by : (taken : ℕ) (piece : List ℕ) (b : Bool) → nat_lt taken (length piece) ≡ b → (is_end (behind_of taken (length piece)) ≡ false) × StandsBehind (behind_of taken (length piece)) (drop taken piece)
 stands_by taken piece true is =
     rw is (refl, (λ none. let less : taken < length piece = ltb-true taken (length piece) is in let len = length-drop taken piece in let zero : length (drop taken piece) ≡ 0 = ap length none in absurd (omega (arith, less, len, zero))))
 stands_by taken piece false is =
-    rw is (refl, (let less : length piece ≤ taken = ltb-false taken (length piece) is in let len = length-drop taken piece in nothing_behind (drop taken piece) (omega (arith, less, len))))
+    rw is (refl, (let less : length piece ≤ taken = ltb-false taken (length piece) is in let len = length-drop taken piece in nil_from_length (drop taken piece) (omega (arith, less, len))))
 
 pub fed_behind : (taken : ℕ) (piece : List ℕ) → (is_end (behind_of taken (length piece)) ≡ false) × StandsBehind (behind_of taken (length piece)) (drop taken piece)
 fed_behind taken piece = stands_by taken piece (nat_lt taken (length piece)) refl
@@ -190,7 +186,7 @@ reading_on line later r next piece is goes same going small = record {
 }
 
 pub empty_is : (l : List ℕ) (b : Bool) → b ≡ nat_eq (length l) 0 → b ≡ true → l ≡ []
-empty_is l b is none = nothing_behind l (eqb-true (length l) 0 (sym is ∙ none))
+empty_is l b is none = nil_from_length l (eqb-true (length l) 0 (sym is ∙ none))
 
 -- ---- a wire holds no more than one piece
 

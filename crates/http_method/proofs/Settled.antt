@@ -1,5 +1,6 @@
 -- What a method shows behind a word or a fault of its link.
 use Rattle.std.proofs.Common.{◌≡◌, ◌∙◌, ℕ, ◌==◌, ◌&&◌, Bool, true, false, bytes_eq, if◌then◌else◌, [], ◌∷◌, Option, Some, None, IfSome, Result, Ok, Err, IfOk, OnOk, OnErr, refl, sym, ap, subst, arith}
+use Rattle.std.proofs.lemmas.Bool.{and_parts}
 use Rattle.acq_base.specs.declared.fetch.Reply.TheVariants as replies
 use Rattle.acq_outside.specs.Count.{Rose, one_more}
 use Rattle.acq_outside.specs.declared.fault.Fault.{Fault}
@@ -101,11 +102,6 @@ pub narrowed : (n m : ℕ) (world : Option World) (fetch : Fetch) (under : Optio
 narrowed n m None fetch under word is = is
 narrowed n m (Some entries) fetch under word is = narrowed_by n m entries (has_no_file entries) fetch under word is
 
-both_of : (a b : Bool) → a && b ≡ true → (a ≡ true) × (b ≡ true)
-both_of true true both = (refl, refl)
-both_of true false both = absurd cc
-both_of false b both = absurd cc
-
 http_apart : (scheme : Scheme) → is_http scheme ≡ true → (scheme_index scheme == scheme_index File) ≡ false
 http_apart Http is = refl
 http_apart File is = absurd cc
@@ -117,7 +113,7 @@ other_uri a uri is other = ap (λ b. b && bytes_eq a.host uri.host && (a.port ==
 file_absent : (uri : Uri) → uri.scheme ≡ File → (entries : World) → has_no_file entries ≡ true → answer_at entries uri ≡ answers.Absent 404
 file_absent uri is [] none = refl
 file_absent uri is (entry ∷ entries) none =
-    let both = both_of (is_http entry.0.scheme) (has_no_file entries) none in
+    let both = and_parts (is_http entry.0.scheme) (has_no_file entries) none in
     ap (λ b. if b then entry.1 else answer_at entries uri) (other_uri entry.0 uri is both.0) ∙ file_absent uri is entries both.1
 
 tells_absent : (answer : Answer) (job : Job) → answer ≡ answers.Absent 404 → Tells answer job (replies.Absent 404)

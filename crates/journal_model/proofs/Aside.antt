@@ -246,7 +246,7 @@ stays_at_rest name changed s t sound only aside = record {
   idle = λ before. stays_idle name changed s t only aside before;
 }
 
-any_stands : (old : List State) → Stands (λ s. Unit {0}) old
+pub any_stands : (old : List State) → Stands (λ s. Unit {0}) old
 any_stands [] = tt
 any_stands (s ∷ past) = tt
 

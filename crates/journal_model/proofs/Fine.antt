@@ -1,5 +1,5 @@
 -- The steps that a journal says change each name but once, leave the journal's alone, and have names that a disk may have.
-use Rattle.std.proofs.Common.{◌≡◌, ◌≢◌, ◌⊎◌, inl, inr, ⊎_elim, refl, sym, ap, ◌∙◌, subst, arith, ℕ, zero, suc, ◌≤◌, ◌-◌, nat_eq, nat_lt, Bool, true, false, not, ◌&&◌, ◌||◌, if◌then◌else◌, List, [], ◌∷◌, ◌++◌, length, take, drop, Result, Ok, Err, bytes_eq}
+use Rattle.std.proofs.Common.{◌≡◌, ◌≢◌, ◌⊎◌, inl, inr, ⊎_elim, refl, sym, ap, ◌∙◌, subst, arith, ℕ, zero, suc, ◌≤◌, ◌-◌, nat_eq, nat_lt, Bool, true, false, not, ◌&&◌, if◌then◌else◌, List, [], ◌∷◌, ◌++◌, length, take, drop, Result, Ok, Err, bytes_eq}
 use Rattle.std.proofs.lemmas.Bool.Decides.{nat_tests}
 use Rattle.std.proofs.lemmas.Slice.Eq.{bytes_eq-Decides}
 use Rattle.std.proofs.lemmas.Str.{IsUtf8-from_is_utf8}
@@ -7,6 +7,7 @@ use Rattle.std.specs.Str.{is_utf8}
 use Rattle.std.specs.Int.{w16, w32}
 use Rattle.std.specs.List.{list_any}
 use Rattle.sha2.specs.Sha256.{sha256}
+use Rattle.std.proofs.lemmas.Bool.{not-true, and_parts, or_left, or_right}
 use Rattle.acq_outside.specs.Disk.{IsName, same_name}
 use Rattle.journal_model.specs.Names.{journal, lock, partial}
 use Rattle.journal_model.specs.Reading.{◌>>=◌, number_at, kind_at, step_named, most_long, clashes, is_name_of, is_allowed, name_at, step_at, steps_at, group_at, groups_at, ended, sealed, old_at, new_at, steps_of_body, gate_with, gate_of}
@@ -15,6 +16,7 @@ use Rattle.journal_model.specs.Steps.{Touches, IsIn, IsNamedStep}
 use Rattle.journal_model.specs.declared.step.Step.{Step}
 use Rattle.journal_model.specs.declared.step.Step.TheVariants.{Put, Drop}
 use Rattle.journal_model.specs.declared.step.Gate.TheVariants.{Open, Shut}
+use Rattle.journal_model.proofs.Views.{partial_one}
 
 pub record AreFine (steps : List Step) : Type 0 where
   pub apart : Apart steps
@@ -24,17 +26,6 @@ pub record AreFine (steps : List Step) : Type 0 where
 -- one more step
 is_same : (a b : List ℕ) → a ≡ b → same_name a b ≡ true
 is_same a b = (bytes_eq-Decides a b).1
-
-or_left : (a b : Bool) → a ≡ true → (a || b) ≡ true
-or_left true b is = refl
-or_left false b is = absurd cc
-
-or_right : (a b : Bool) → b ≡ true → (a || b) ≡ true
-or_right true b is = refl
-or_right false b is = is
-
-partial_one : (a b : List ℕ) → partial a ≡ partial b → a ≡ b
-partial_one a b is = ap (drop 8) is
 
 put_put : (a b name : List ℕ) → (name ≡ a) ⊎ (name ≡ partial a) → (name ≡ b) ⊎ (name ≡ partial b) → clashes (Put a) (Put b) ≡ true
 put_put a b name (inl x) (inl y) = or_left (same_name a b) _ (is_same a b (sym x ∙ y))
@@ -71,14 +62,6 @@ apart_push (u ∷ steps) s apart new = (
   apart_push steps s apart.1 (λ b name is. new b name (inr is)),
 )
 
-pub both : (a b : Bool) → (a && b) ≡ true → (a ≡ true) × (b ≡ true)
-both true b is = (refl, is)
-both false b is = absurd cc
-
-pub never : (a : Bool) → not a ≡ true → a ≡ false
-never true is = absurd cc
-never false is = refl
-
 -- what the test of a name tells
 pub record IsFit (put : Bool) (name : List ℕ) : Type 0 where
   pub named : IsName name
@@ -92,19 +75,19 @@ most_short false = omega arith
 
 pub fit_name : (put : Bool) (name : List ℕ) → is_name_of put name ≡ true → IsFit put name
 fit_name put name is =
-    let parts = both (not (nat_eq (length name) 0) && not (nat_lt (most_long put) (length name))) (is_utf8 name && (not (same_name name lock) && not (same_name name journal))) is in
-    let lengths = both (not (nat_eq (length name) 0)) (not (nat_lt (most_long put) (length name))) parts.0 in
-    let texts = both (is_utf8 name) (not (same_name name lock) && not (same_name name journal)) parts.1 in
-    let others = both (not (same_name name lock)) (not (same_name name journal)) texts.1 in
-    let some : nat_eq (length name) 0 ≡ false = never _ lengths.0 in
-    let few : nat_lt (most_long put) (length name) ≡ false = never _ lengths.1 in
+    let parts = and_parts (not (nat_eq (length name) 0) && not (nat_lt (most_long put) (length name))) (is_utf8 name && (not (same_name name lock) && not (same_name name journal))) is in
+    let lengths = and_parts (not (nat_eq (length name) 0)) (not (nat_lt (most_long put) (length name))) parts.0 in
+    let texts = and_parts (is_utf8 name) (not (same_name name lock) && not (same_name name journal)) parts.1 in
+    let others = and_parts (not (same_name name lock)) (not (same_name name journal)) texts.1 in
+    let some : nat_eq (length name) 0 ≡ false = not-true _ lengths.0 in
+    let few : nat_lt (most_long put) (length name) ≡ false = not-true _ lengths.1 in
     let within : length name ≤ most_long put = grind (arith, nat_tests) in
     let most = most_short put in
     record {
       named = record { text = IsUtf8-from_is_utf8 name texts.0; nonempty = grind (arith, nat_tests); short = omega (arith, within, most) };
       short = within;
-      not_lock = λ same. let yes : same_name name lock ≡ true = is_same name lock same in let no_clash : same_name name lock ≡ false = never _ others.0 in cc;
-      other = λ same. let yes : same_name name journal ≡ true = is_same name journal same in let no_clash : same_name name journal ≡ false = never _ others.1 in cc;
+      not_lock = λ same. let yes : same_name name lock ≡ true = is_same name lock same in let no_clash : same_name name lock ≡ false = not-true _ others.0 in cc;
+      other = λ same. let yes : same_name name journal ≡ true = is_same name journal same in let no_clash : same_name name journal ≡ false = not-true _ others.1 in cc;
     }
 
 named_step : (put : Bool) (name : List ℕ) → IsFit put name → IsNamedStep (step_named put name) × (Touches (step_named put name) journal → ⊥)
@@ -114,9 +97,9 @@ named_step false name fit = (fit.named, λ same. fit.other (sym same))
 pub fine_push : (before : List Step) (put : Bool) (name : List ℕ) → AreFine before → is_allowed before put name ≡ true → AreFine (before ++ step_named put name ∷ [])
 fine_push before put name fine allowed =
     let s : Step = step_named put name in
-    let tests = both (is_name_of put name) (not (list_any (clashes s) before)) allowed in
+    let tests = and_parts (is_name_of put name) (not (list_any (clashes s) before)) allowed in
     let fit = named_step put name (fit_name put name tests.0) in
-    let free : list_any (clashes s) before ≡ false = never _ tests.1 in
+    let free : list_any (clashes s) before ≡ false = not-true _ tests.1 in
     record {
       apart = apart_push before s fine.apart (λ b other is touch_s touch_b. let hit : list_any (clashes s) before ≡ true = any_in (clashes s) before b is (clash_tells s b other touch_s touch_b) in cc);
       away = λ t is touch. ⊎_elim (λ old. fine.away t old touch) (λ last. fit.1 (subst (λ (v : Step). Touches v journal) last touch)) (in_push before s t is);
@@ -239,5 +222,5 @@ open_fine bytes steps is = let bytes_are = open_bytes bytes steps is in body_fin
 -- a name that a record may have is short
 pub allowed_short : (before : List Step) (put : Bool) (name : List ℕ) → is_allowed before put name ≡ true → length name ≤ 255
 allowed_short before put name allowed =
-    let tests = both (is_name_of put name) (not (list_any (clashes (step_named put name)) before)) allowed in
+    let tests = and_parts (is_name_of put name) (not (list_any (clashes (step_named put name)) before)) allowed in
     (fit_name put name tests.0).named.short

@@ -1,6 +1,7 @@
 -- A disk that has nothing to lose is at rest.
 use Rattle.std.proofs.Common.{◌≡◌, ◌≢◌, refl, sym, ap, ◌∙◌, subst, inl, ⊎_elim, arith, ℕ, zero, suc, ◌≤◌, List, [], ◌∷◌, length, Option, Some, None, option_map}
 use Rattle.std.proofs.lemmas.Bool.{cases_eq}
+use Rattle.std.proofs.lemmas.Option.{same_Some}
 use Rattle.acq_outside.specs.Disk.{Files}
 use Rattle.acq_outside.specs.Crash.{State, IsSound, IsOutcome, FitsAll, names_of, reads, file_at}
 use Rattle.acq_outside.specs.Outcomes.{only_synced}
@@ -49,16 +50,13 @@ some_least file (suc n) is begins = omega (arith, is)
 closed_from : (file : FileState) (later : List ℕ) → IsOutcome file (0 ∷ later) → BeginsClosed file → IsClosed file
 closed_from file later one begins = let first = first_cell file file.cells later refl one begins in record { rest = first.0; cells = first.1; least = some_least file file.least refl begins }
 
-some_same : (a b : List ℕ) → Some a ≡ Some b → a ≡ b
-some_same a b is = cc
-
 at_journal : (s : State) (o : Option ℕ) (bytes : ℕ → List ℕ) → LeavesClosed s → s.base journal ≡ o → ((i : ℕ) → IsOutcome (file_at s.files i) (bytes i)) → (later : List ℕ) × (option_map bytes o ≡ Some (0 ∷ later))
 at_journal s o bytes closed leads outcomes = let left = closed (view s.base bytes) (view_image s bytes outcomes) in (left.0, ap (option_map bytes) (sym leads) ∙ left.1)
 
 begins_closed : (s : State) (i : ℕ) → IsSound s → LeavesClosed s → s.base journal ≡ Some i → BeginsClosed (file_at s.files i)
 begins_closed s i sound closed leads left outcome =
     let at = at_journal s (Some i) bytes closed leads outcomes in
-    (at.0, sym (instead_same i left seen) ∙ some_same (bytes i) (0 ∷ at.0) at.1)
+    (at.0, sym (instead_same i left seen) ∙ same_Some (bytes i) (0 ∷ at.0) at.1)
   where
     seen : ℕ → List ℕ
     seen = λ k. (file_at s.files k).seen
@@ -76,7 +74,7 @@ idle_at : (s : State) (o : Option ℕ) → IsSound s → AllAside s.pending → 
 idle_at s None sound aside closed leads = absurd (let wrong = (at_journal s None (λ k. (file_at s.files k).seen) closed leads sound.outcomes).1 in cc)
 idle_at s (Some i) sound aside closed leads =
     let at = at_journal s (Some i) (λ k. (file_at s.files k).seen) closed leads sound.outcomes in
-    let first : (file_at s.files i).seen ≡ 0 ∷ at.0 = some_same (file_at s.files i).seen (0 ∷ at.0) at.1 in
+    let first : (file_at s.files i).seen ≡ 0 ∷ at.0 = same_Some (file_at s.files i).seen (0 ∷ at.0) at.1 in
     record {
       aside = aside;
       number = i;

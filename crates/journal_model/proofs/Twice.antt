@@ -29,6 +29,13 @@ same_or_not a b = by (same_name a b) refl
     by true is = inl ((bytes_eq-Decides a b).0 is)
     by false is = inr (λ same. let yes : same_name a b ≡ true = (bytes_eq-Decides a b).1 same in cc)
 
+pub other_name : (a b : List ℕ) → a ≢ b → same_name a b ≡ false
+other_name a b differ = by (same_name a b) refl
+  where
+    by : (t : Bool) → same_name a b ≡ t → same_name a b ≡ false
+    by true is = absurd (differ ((bytes_eq-Decides a b).0 is))
+    by false is = is
+
 pub with_same : {A : Type 0} (m : List ℕ → Option A) (n : List ℕ) (x : Option A) (name : List ℕ) → n ≡ name → with_at m n x name ≡ x
 with_same m n x name is = rw ((bytes_eq-Decides n name).1 is) refl
 

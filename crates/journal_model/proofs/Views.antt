@@ -1,7 +1,8 @@
 -- What a crash leaves, as names over bytes, and which lists that stands for.
-use Rattle.std.proofs.Common.{◌≡◌, ◌≢◌, refl, ap, ◌∙◌, subst, arith, ℕ, nat_eq, Bool, true, false, not, ◌&&◌, ◌||◌, if◌then◌else◌, List, [], ◌∷◌, ◌++◌, Option, Some, None, option_map}
+use Rattle.std.proofs.Common.{◌≡◌, ◌≢◌, refl, ap, ◌∙◌, subst, arith, ℕ, nat_eq, Bool, true, false, not, ◌&&◌, if◌then◌else◌, List, [], ◌∷◌, ◌++◌, drop, Option, Some, None, option_map}
 use Rattle.std.proofs.Math.Path.{fun_ext}
 use Rattle.std.proofs.lemmas.Bool.Decides.{nat_tests}
+use Rattle.std.proofs.lemmas.Bool.{or_right}
 use Rattle.acq_outside.specs.Disk.{Files, same_name}
 use Rattle.acq_outside.specs.Crash.{Names, State, IsOutcome, IsPart, none, left_out, taken, IsImage, all_renamed, renamed, with_name, moved_name, file_at, names_of, reads, seen_at}
 use Rattle.acq_outside.specs.declared.state.NameChange.{NameChange}
@@ -72,12 +73,18 @@ gated_view m bytes gate is = ap (opened (view m bytes)) is
 pub apart_names : (a b : List ℕ) → is_aside a ≡ true → is_aside b ≡ false → a ≢ b
 apart_names a b aside outside same = let also : is_aside b ≡ true = subst (λ (n : List ℕ). is_aside n ≡ true) same aside in absurd cc
 
-or_right : (a b : Bool) → b ≡ true → (a || b) ≡ true
-or_right true b is = refl
-or_right false b is = is
-
 pub partial_aside : (name : List ℕ) → is_aside (partial name) ≡ true
 partial_aside name = or_right (same_name (partial name) lock) (is_partial (partial name)) refl
+
+-- two lists on their way under one name are one
+pub partial_one : (a b : List ℕ) → partial a ≡ partial b → a ≡ b
+partial_one a b is = ap (drop 8) is
+
+pub partial_apart : (a b : List ℕ) → (a ≡ b → ⊥) → partial a ≡ partial b → ⊥
+partial_apart a b apart is = apart (partial_one a b is)
+
+pub partial_not_journal : (name : List ℕ) → partial name ≢ journal
+partial_not_journal name = apart_names (partial name) journal (partial_aside name) refl
 
 list_case : (a b : Bool) → (not a && not b) ≡ true → (a ≡ false) × (b ≡ false)
 list_case true b is = absurd cc

@@ -2,7 +2,7 @@
 use Rattle.std.proofs.Common.{◌≡◌, ◌≢◌, ◌∙◌, ℕ, zero, suc, ◌+◌, ◌<◌, ◌≤◌, List, [], ◌∷◌, ◌++◌, map, Option, None, length, get_or, slice_index, slice_index_or, sym, refl, ap, arith, append-nil, append_assoc}
 use mathlib.Core.Logic.{dite}
 use native.Mathlib.Decide.{ℕ_discrete}
-use Rattle.std.proofs.lemmas.List.{length-append, get_or-map, ext_get_or}
+use Rattle.std.proofs.lemmas.List.{length-append, get_or-map, ext_get_or, length-map}
 use Rattle.crossbeam_channel.specs.Claims.{view}
 use Rattle.acq_base.specs.Mirror.{World}
 use Rattle.acq_outside.specs.declared.word.Fetch.{Fetch}
@@ -14,10 +14,6 @@ use Rattle.lane_pool.specs.Pool.{NoneFell}
 use Rattle.lane_pool.specs.Rule.{with_note, AreBounded}
 use Rattle.lane_pool.specs.Standing.{IsLane, AreLanes, AreBack, pool_of}
 use Rattle.lane_pool.proofs.Rows.{get_snoc_or, get_last_or, none_fell_at}
-
-length_map : {A B : Type 0} (f : A → B) (l : List A) → length (map f l) ≡ length l
-length_map f [] = refl
-length_map f (x ∷ xs) = ap suc (length_map f xs)
 
 module _ {M : Type 0} (world : M → Option World) (faults : M → ℕ) where
   -- where a loop that joins the workers stands: those of `lanes` were joined
@@ -100,8 +96,8 @@ module _ {M : Type 0} (world : M → Option World) (faults : M → ℕ) (under :
   worlds_back own all lanes back one b =
       let f : Lane M → Option World = λ z. world z.worker.method.value in
       let len = len_back own all lanes back one b in
-      ext_get_or None (map world back) (world own ∷ map f lanes) (length_map world back ∙ len ∙ ap suc (sym (length_map f lanes)))
-      (λ i h. at i (let a = length_map world back in omega arith))
+      ext_get_or None (map world back) (world own ∷ map f lanes) (length-map back world ∙ len ∙ ap suc (sym (length-map lanes f)))
+      (λ i h. at i (let a = length-map back world in omega arith))
     where
       at : (i : ℕ) → i < length back → get_or (map world back) i None ≡ get_or (world own ∷ map (λ (z : Lane M). world z.worker.method.value) lanes) i None
       at zero h = get_or-map world back 0 own None h ∙ ap world (own_back own all lanes back own one b)
@@ -117,8 +113,8 @@ module _ {M : Type 0} (world : M → Option World) (faults : M → ℕ) (under :
   counts_back own all lanes back one b =
       let f : Lane M → ℕ = λ z. z.last in
       let len = len_back own all lanes back one b in
-      none_fell_at (faults own ∷ map f lanes) (map faults back) (ap suc (length_map f lanes) ∙ sym len ∙ sym (length_map faults back))
-      (λ i h. at i (let a = length_map f lanes in omega arith))
+      none_fell_at (faults own ∷ map f lanes) (map faults back) (ap suc (length-map lanes f) ∙ sym len ∙ sym (length-map back faults))
+      (λ i h. at i (let a = length-map lanes f in omega arith))
     where
       at : (i : ℕ) → i < length back → get_or (faults own ∷ map (λ (z : Lane M). z.last) lanes) i 0 ≤ get_or (map faults back) i 0
       at zero h = let a = get_or-map faults back 0 own 0 h in let c = ap faults (own_back own all lanes back own one b) in omega arith
@@ -133,7 +129,3 @@ module _ {M : Type 0} (world : M → Option World) (faults : M → ℕ) (under :
               let d = get_or-map (λ (z : Lane M). z.last) lanes i p 0 h' in
               let o = b.counts i own p h' in
               omega arith
-
-pub empty : {A : Type 0} (l : List A) → length l ≡ 0 → l ≡ []
-empty [] e = refl
-empty (x ∷ xs) e = absurd (omega arith)

@@ -1,28 +1,22 @@
 -- Lists of names, never two of which are one.
-use Rattle.std.proofs.Common.{◌≡◌, ◌≢◌, ◌⊎◌, inl, inr, ⊎_elim, refl, sym, arith, ℕ, zero, suc, List, [], ◌∷◌, ◌++◌, Contains, AllPairs}
+use Rattle.std.proofs.Common.{◌≡◌, ◌≢◌, ◌⊎◌, ⊎_elim, refl, sym, arith, ℕ, suc, List, [], ◌∷◌, ◌++◌, Contains, AllPairs}
 use Rattle.std.proofs.lemmas.List.Elements.{Contains-append_right}
+use Rattle.board_model.proofs.Making.{none-in, first-or-rest}
 use Rattle.commit_journal.specs.Changes.{IsNone, AreApart}
 
-pub here : (x : List ℕ) (xs : List (List ℕ)) (name : List ℕ) → x ≡ name → Contains (x ∷ xs) name
-here x xs name same = (0, omega arith, same)
+pub here : {X : Type 0} (x : X) (xs : List X) (y : X) → x ≡ y → Contains (x ∷ xs) y
+here x xs y same = (0, omega arith, same)
 
-pub there : (x : List ℕ) (xs : List (List ℕ)) (name : List ℕ) → Contains xs name → Contains (x ∷ xs) name
-there x xs name is = Contains-append_right (x ∷ []) xs name is
-
-pub split : (x : List ℕ) (xs : List (List ℕ)) (name : List ℕ) → Contains (x ∷ xs) name → (x ≡ name) ⊎ Contains xs name
-split x xs name (zero, low, is) = inl is
-split x xs name (suc k, low, is) = inr (k, omega (arith, low), is)
-
-pub nothing_in : (name : List ℕ) → Contains [] name → ⊥
-nothing_in name (k, low, is) = absurd (omega (arith, low))
+pub there : {X : Type 0} (x : X) (xs : List X) (y : X) → Contains xs y → Contains (x ∷ xs) y
+there x xs y is = Contains-append_right (x ∷ []) xs y is
 
 pub none_if : (name : List ℕ) (names : List (List ℕ)) → (Contains names name → ⊥) → IsNone name names
 none_if name [] never = tt
 none_if name (x ∷ xs) never = (λ same. never (here x xs name same), none_if name xs (λ is. never (there x xs name is)))
 
 pub not_in : (name : List ℕ) (names : List (List ℕ)) → IsNone name names → Contains names name → ⊥
-not_in name [] none is = nothing_in name is
-not_in name (x ∷ xs) none is = ⊎_elim none.0 (not_in name xs none.1) (split x xs name is)
+not_in name [] none is = none-in name is
+not_in name (x ∷ xs) none is = ⊎_elim none.0 (not_in name xs none.1) (first-or-rest x xs name is)
 
 pub apart_of : (names : List (List ℕ)) → AllPairs (λ a b. a ≢ b) names → AreApart names
 apart_of [] all = tt
@@ -50,5 +44,5 @@ pub contains_insert : (x name : List ℕ) (xs ys : List (List ℕ)) → Contains
 contains_insert x name [] ys is = is
 contains_insert x name (y ∷ xs) ys is = ⊎_elim
     (λ same. there x (y ∷ (xs ++ ys)) name (here y (xs ++ ys) name same))
-    (λ in_rest. ⊎_elim (here x (y ∷ (xs ++ ys)) name) (λ later. there x (y ∷ (xs ++ ys)) name (there y (xs ++ ys) name later)) (split x (xs ++ ys) name (contains_insert x name xs ys in_rest)))
-    (split y (xs ++ x ∷ ys) name is)
+    (λ in_rest. ⊎_elim (here x (y ∷ (xs ++ ys)) name) (λ later. there x (y ∷ (xs ++ ys)) name (there y (xs ++ ys) name later)) (first-or-rest x (xs ++ ys) name (contains_insert x name xs ys in_rest)))
+    (first-or-rest y (xs ++ x ∷ ys) name is)

@@ -13,11 +13,12 @@ use Rattle.journal_model.proofs.Twice.{with_same}
 use Rattle.journal_model.proofs.Views.{list_not_aside, partial_aside}
 use Rattle.update_model.specs.Carried.{AreLoose, Does}
 use Rattle.update_model.specs.Next.{CleansUp}
+use Rattle.board_model.proofs.Making.{none-in, first-or-rest}
 use Rattle.commit_journal.specs.Changes.{DropFile, filled, folder_step, folder_steps}
 use Rattle.list_commits.specs.Changes.{drops_for}
 use Rattle.list_commits.specs.Loose.{AreLooseNames, kept_names, kept_of, with_parts}
 use Rattle.list_commits.specs.SetLaws.{HasListsAlone}
-use Rattle.list_commits.proofs.Apart.{here, none_if, nothing_in, split, there}
+use Rattle.list_commits.proofs.Apart.{here, none_if, there}
 use Rattle.list_commits.proofs.Folding.{names_in, steps_beside}
 
 pub names_gone : (names : List (List ℕ)) → names_in (drops_for names) ≡ names
@@ -47,11 +48,11 @@ stays_none part [] folder name none = none
 stays_none part (gone ∷ names) folder name none = stays_none part names (folder_step folder (DropFile gone)) name (dropped_none folder gone name none)
 
 gone_all : (part : List ℕ → List ℕ) (names : List (List ℕ)) (folder : Files) → HasListsAlone folder → (name : List ℕ) → Contains names name → folder_steps (filled part (drops_for names)) folder name ≡ None
-gone_all part [] folder alone name is = absurd (nothing_in name is)
+gone_all part [] folder alone name is = absurd (none-in name is)
 gone_all part (gone ∷ names) folder alone name is = ⊎_elim
     (λ same. stays_none part names (folder_step folder (DropFile gone)) name (dropped_here folder gone name alone same))
     (gone_all part names (folder_step folder (DropFile gone)) (λ other aside. dropped_none folder gone other (alone other aside)) name)
-    (split gone names name is)
+    (first-or-rest gone names name is)
 
 pub cleans_up : (part : List ℕ → List ℕ) (names : List (List ℕ)) (folder : Files) → HasListsAlone folder → Does (CleansUp names) folder (folder_steps (filled part (drops_for names)) folder)
 cleans_up part names folder alone = (
@@ -65,25 +66,25 @@ name_kept [] name is = is
 name_kept (first ∷ names) name is = ⊎_elim
     (here first (partial first ∷ with_parts names) name)
     (λ later. there first (partial first ∷ with_parts names) name (there (partial first) (with_parts names) name (name_kept names name later)))
-    (split first names name is)
+    (first-or-rest first names name is)
 
 pub part_kept : (names : List (List ℕ)) (name : List ℕ) → Contains names name → Contains (with_parts names) (partial name)
-part_kept [] name is = absurd (nothing_in name is)
+part_kept [] name is = absurd (none-in name is)
 part_kept (first ∷ names) name is = ⊎_elim
     (λ same. there first (partial first ∷ with_parts names) (partial name) (here (partial first) (with_parts names) (partial name) (ap partial same)))
     (λ later. there first (partial first ∷ with_parts names) (partial name) (there (partial first) (with_parts names) (partial name) (part_kept names name later)))
-    (split first names name is)
+    (first-or-rest first names name is)
 
 -- a list's name, or that of a list on its way
 abbrev IsOf : List (List ℕ) → List ℕ → Type 0
 IsOf names name = Contains names name ⊎ ((list : List ℕ) × (partial list ≡ name))
 
 kept_case : (names : List (List ℕ)) (name : List ℕ) → Contains (with_parts names) name → IsOf names name
-kept_case [] name is = absurd (nothing_in name is)
+kept_case [] name is = absurd (none-in name is)
 kept_case (first ∷ names) name is = ⊎_elim
     (λ same. inl (here first names name same))
-    (λ behind. ⊎_elim (λ same. inr (first, same)) (λ later. ⊎_elim (λ listed. inl (there first names name listed)) (λ on_its_way. inr on_its_way) (kept_case names name later)) (split (partial first) (with_parts names) name behind))
-    (split first (partial first ∷ with_parts names) name is)
+    (λ behind. ⊎_elim (λ same. inr (first, same)) (λ later. ⊎_elim (λ listed. inl (there first names name listed)) (λ on_its_way. inr on_its_way) (kept_case names name later)) (first-or-rest (partial first) (with_parts names) name behind))
+    (first-or-rest first (partial first ∷ with_parts names) name is)
 
 pub all_kept : (sources : List Source) (name : List ℕ) → Contains (flat_map names_of sources) name → Contains (flat_map kept_of sources) name
 all_kept [] name is = is
@@ -93,7 +94,7 @@ all_kept (source ∷ sources) name is = ⊎_elim
     (Contains-append_cases (names_of source) (flat_map names_of sources) name is)
 
 pub parts_kept : (sources : List Source) (name : List ℕ) → Contains (flat_map names_of sources) name → Contains (flat_map kept_of sources) (partial name)
-parts_kept [] name is = absurd (nothing_in name is)
+parts_kept [] name is = absurd (none-in name is)
 parts_kept (source ∷ sources) name is = ⊎_elim
     (λ own. Contains-append_left (kept_of source) (flat_map kept_of sources) (partial name) (part_kept (names_of source) name own))
     (λ other. Contains-append_right (kept_of source) (flat_map kept_of sources) (partial name) (parts_kept sources name other))
@@ -113,8 +114,8 @@ kept_list sources name list is = ⊎_elim
     (λ behind. ⊎_elim
     (λ same. absurd (let wrong : is_list journal ≡ true = subst (λ (n : List ℕ). is_list n ≡ true) (sym same) list in cc))
     (λ later. ⊎_elim (λ planned. planned) (λ (other, same). absurd (let wrong = sym (list_not_aside name list) ∙ sym (ap is_aside same) ∙ partial_aside other in cc)) (all_cases sources name later))
-    (split journal (flat_map kept_of sources) name behind))
-    (split lock (journal ∷ flat_map kept_of sources) name is)
+    (first-or-rest journal (flat_map kept_of sources) name behind))
+    (first-or-rest lock (journal ∷ flat_map kept_of sources) name is)
 
 pub are_loose : (files : Files) (plan : Plan) (names : List (List ℕ)) → AreLooseNames files plan.sources names → AreLoose (lists files) plan names
 are_loose files plan names are = record {

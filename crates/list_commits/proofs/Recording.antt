@@ -1,5 +1,5 @@
 -- The changes that are gathered for one commit.
-use Rattle.std.proofs.Common.{◌≡◌, ◌≢◌, ◌⊎◌, inl, inr, ⊎_elim, refl, sym, ap, ◌∙◌, subst, arith, ℕ, suc, ◌+◌, ◌<◌, ◌≤◌, ◌^◌, List, [], ◌∷◌, ◌++◌, length, length-append, drop, map, Option, Some, None, IfSome, Contains, All}
+use Rattle.std.proofs.Common.{◌≡◌, ◌≢◌, ◌⊎◌, inl, inr, ⊎_elim, refl, sym, ap, ◌∙◌, subst, arith, ℕ, suc, ◌+◌, ◌<◌, ◌≤◌, ◌^◌, List, [], ◌∷◌, ◌++◌, length, length-append, map, Option, Some, None, IfSome, Contains, All}
 use Rattle.std.proofs.lemmas.List.{append-nil}
 use Rattle.std.proofs.lemmas.List.Elements.{All-contains, Contains-append_left, Contains-append_right, Contains-append_cases}
 use Rattle.std.proofs.lemmas.Cmp.{nat_list_cmp_total}
@@ -18,6 +18,8 @@ use Rattle.journal_model.specs.Names.{IsPutName, journal, lock, partial}
 use Rattle.update_model.specs.declared.ask.Body.{Body}
 use Rattle.update_model.specs.declared.ask.Body.TheVariants as bodies
 use Rattle.update_model.specs.declared.settled.Settled.{Settled}
+use Rattle.board_model.proofs.Making.{none-in, first-or-rest}
+use Rattle.journal_model.proofs.Views.{partial_one}
 use Rattle.commit_journal.specs.declared.changing.Change.{Change}
 use Rattle.commit_journal.specs.declared.changing.Change.TheVariants.{Put, Drop}
 use Rattle.commit_journal.specs.Changes.{AllAllowed, AreAllStaged, AreApart, AreStaged, CanRecord, IsDropName, IsNone, IsStaged, all_changes, touched, touched_all}
@@ -25,7 +27,7 @@ use Rattle.list_commits.specs.Changes.{changes_for, content_for, drop_for, drops
 use Rattle.list_commits.specs.Loose.{AreSorted, IsLoose, kept_of}
 use Rattle.list_commits.specs.SetLaws.{HasPutNames, OwnsChanges}
 use Rattle.list_commits.specs.RecordLaws.{AllLast, AreGathered, Lasts, MayGo, group_of, groups_of, names_gathered, names_of_group}
-use Rattle.list_commits.proofs.Apart.{apart_append, apart_of, here, none_if, not_in, nothing_in, split, there}
+use Rattle.list_commits.proofs.Apart.{apart_append, apart_of, here, none_if, not_in, there}
 use Rattle.list_commits.proofs.Gone.{names_gone, all_kept, parts_kept}
 use Rattle.list_commits.proofs.Folding.{names_in}
 use Rattle.list_commits.proofs.Owned.{changed_apart, changed_is_touched}
@@ -42,9 +44,6 @@ PutsAside names [] = Unit {0}
 PutsAside names (Put name content ∷ changes) = IsNone (partial name.0) names × PutsAside names changes
 PutsAside names (Drop name ∷ changes) = PutsAside names changes
 
-partial_same : (a b : List ℕ) → partial a ≡ partial b → a ≡ b
-partial_same a b same = ap (drop 8) same
-
 -- What is touched is apart where the names are, and the names on the way are none of them.
 aside_tail : (name : List ℕ) (names : List (List ℕ)) (changes : List Change) → PutsAside (name ∷ names) changes → PutsAside names changes
 aside_tail name names [] aside = tt
@@ -58,7 +57,7 @@ none_touched name names (Drop list ∷ changes) none aside = (none.0, none_touch
 
 none_on_way : (name : List ℕ) (changes : List Change) → IsNone name (names_in changes) → IsNone (partial name) (names_in changes) → IsNone (partial name) (touched changes)
 none_on_way name [] none none_part = tt
-none_on_way name (Put list content ∷ changes) none none_part = (none_part.0, (λ same. none.0 (partial_same list.0 name same), none_on_way name changes none.1 none_part.1))
+none_on_way name (Put list content ∷ changes) none none_part = (none_part.0, (λ same. none.0 (partial_one list.0 name same), none_on_way name changes none.1 none_part.1))
 none_on_way name (Drop list ∷ changes) none none_part = (none_part.0, none_on_way name changes none.1 none_part.1)
 
 touched_apart : (changes : List Change) → AreApart (names_in changes) → PutsAside (names_in changes) changes → AreApart (touched changes)
@@ -116,17 +115,17 @@ pub record Without (x : List ℕ) (ys : List (List ℕ)) : Type 0 where
   pub others : (name : List ℕ) → Contains ys name → (x ≡ name) ⊎ Contains rest name
 
 taken_out : (x : List ℕ) (ys : List (List ℕ)) → Contains ys x → Without x ys
-taken_out x [] is = absurd (nothing_in x is)
-taken_out x (y ∷ ys) is = by (taken_out x ys) (split y ys x is)
+taken_out x [] is = absurd (none-in x is)
+taken_out x (y ∷ ys) is = by (taken_out x ys) (first-or-rest y ys x is)
   where
     by : (Contains ys x → Without x ys) → (y ≡ x) ⊎ Contains ys x → Without x (y ∷ ys)
-    by deeper (inl same) = record { rest = ys; one_less = refl; others = λ name in_ys. ⊎_elim (λ first. inl (sym same ∙ first)) (λ later. inr later) (split y ys name in_ys) }
+    by deeper (inl same) = record { rest = ys; one_less = refl; others = λ name in_ys. ⊎_elim (λ first. inl (sym same ∙ first)) (λ later. inr later) (first-or-rest y ys name in_ys) }
     by deeper (inr later) =
         let out : Without x ys = deeper later in
         record {
           rest = y ∷ out.rest;
           one_less = ap suc out.one_less;
-          others = λ name in_ys. ⊎_elim (λ first. inr (here y out.rest name first)) (λ behind. ⊎_elim (λ same. inl same) (λ left. inr (there y out.rest name left)) (out.others name behind)) (split y ys name in_ys);
+          others = λ name in_ys. ⊎_elim (λ first. inr (here y out.rest name first)) (λ behind. ⊎_elim (λ same. inl same) (λ left. inr (there y out.rest name left)) (out.others name behind)) (first-or-rest y ys name in_ys);
         }
 
 fits_in : (xs ys : List (List ℕ)) → AreApart xs → ((name : List ℕ) → Contains xs name → Contains ys name) → length xs ≤ length ys
@@ -159,14 +158,14 @@ record Gathers (planned gone : List (List ℕ)) (changes : List Change) : Type 0
 abbrev AreAway : List (List ℕ) → List (List ℕ) → Type 0
 AreAway planned gone = (name : List ℕ) → Contains planned name → Contains gone name → ⊥
 
-both_apart : (xs ys : List (List ℕ)) (name : List ℕ) → AreApart (xs ++ ys) → Contains xs name → Contains ys name → ⊥
-both_apart [] ys name apart in_x in_y = nothing_in name in_x
+pub both_apart : (xs ys : List (List ℕ)) (name : List ℕ) → AreApart (xs ++ ys) → Contains xs name → Contains ys name → ⊥
+both_apart [] ys name apart in_x in_y = none-in name in_x
 both_apart (x ∷ xs) ys name apart in_x in_y = ⊎_elim
     (λ same. not_in x (xs ++ ys) apart.0 (subst (Contains (xs ++ ys)) (sym same) (Contains-append_right xs ys name in_y)))
     (λ later. both_apart xs ys name apart.1 later in_y)
-    (split x xs name in_x)
+    (first-or-rest x xs name in_x)
 
-right_apart : (xs ys : List (List ℕ)) → AreApart (xs ++ ys) → AreApart ys
+pub right_apart : (xs ys : List (List ℕ)) → AreApart (xs ++ ys) → AreApart ys
 right_apart [] ys apart = apart
 right_apart (x ∷ xs) ys apart = right_apart xs ys apart.1
 
@@ -209,7 +208,7 @@ drop_named sources name loose named = record {
 }
 
 clean_up_alone : (sources : List Source) (loose : Option (List (List ℕ))) → IfSome loose (MayGo sources) → Gathers [] (names_of_group loose) (all_changes (group_of loose))
-clean_up_alone sources None may = record { within = λ name is. absurd (nothing_in name is); apart = tt; allowed = tt; puts = tt; short = omega arith }
+clean_up_alone sources None may = record { within = λ name is. absurd (none-in name is); apart = tt; allowed = tt; puts = tt; short = omega arith }
 clean_up_alone sources (Some names) may = subst (Gathers [] names) (sym (append-nil (drops_for names))) (record {
   within = λ name is. inr (subst (λ (l : List (List ℕ)). Contains l name) (names_gone names) is);
   apart = subst AreApart (sym (names_gone names)) (apart_sorted names may.sorted);
@@ -227,7 +226,7 @@ gathers sources loose (s ∷ gathered) may put own apart away =
 
 -- no name on its way is one of the planned names
 others_gathered : (gathered : List (Source × Settled)) → Each (λ s. HasPutNames s.0) gathered → (name other : List ℕ) → Contains (names_gathered gathered) name → partial other ≢ name
-others_gathered [] put name other is same = nothing_in name is
+others_gathered [] put name other is same = none-in name is
 others_gathered (s ∷ gathered) put name other is same = ⊎_elim
     (λ own. put.0.others name other own same)
     (λ later. others_gathered gathered put.1 name other later same)
@@ -237,11 +236,11 @@ kept_away : (sources : List Source) (names : List (List ℕ)) (name : List ℕ) 
 kept_away sources names name loose kept is = All-contains (IsLoose sources) names name loose is (there lock (journal ∷ flat_map kept_of sources) name (there journal (flat_map kept_of sources) name kept))
 
 are_away : (sources : List Source) (gathered : List (Source × Settled)) (loose : Option (List (List ℕ))) → AreGathered sources gathered → IfSome loose (MayGo sources) → AreAway (names_gathered gathered) (names_of_group loose)
-are_away sources gathered None are may name planned is = nothing_in name is
+are_away sources gathered None are may name planned is = none-in name is
 are_away sources gathered (Some names) are may name planned is = kept_away sources names name may.loose (all_kept sources name (are.among name planned)) is
 
 parts_away : (sources : List Source) (gathered : List (Source × Settled)) (loose : Option (List (List ℕ))) → AreGathered sources gathered → IfSome loose (MayGo sources) → (name : List ℕ) → Contains (names_gathered gathered) name → Contains (names_of_group loose) (partial name) → ⊥
-parts_away sources gathered None are may name planned is = nothing_in (partial name) is
+parts_away sources gathered None are may name planned is = none-in (partial name) is
 parts_away sources gathered (Some names) are may name planned is = kept_away sources names (partial name) may.loose (parts_kept sources name (are.among name planned)) is
 
 many_names : (gathered : List (Source × Settled)) → length (map (λ s. changes_for s.0 s.1) gathered) ≤ length (names_gathered gathered)

@@ -10,9 +10,10 @@ use Rattle.std.proofs.lemmas.Map.Keys.{Less-from_sorted}
 use Rattle.std.proofs.lemmas.Map.Views.{btree_set_contains_from_list, btree_set_contains_iff, btree_set_len-le_from_list}
 use Rattle.std.proofs.lemmas.List.Elements.{Contains-get_or}
 use Rattle.acq_base.specs.declared.plan.Source.{Source}
+use Rattle.board_model.proofs.Making.{none-in, first-or-rest}
 use Rattle.acq_outside.specs.Disk.{Files, IsNames}
 use Rattle.list_commits.specs.Loose.{AreLooseNames, AreSorted, IsLoose, kept_names}
-use Rattle.list_commits.proofs.Apart.{here, nothing_in, split, there}
+use Rattle.list_commits.proofs.Apart.{here, there}
 
 abbrev IsMade : List (List ℕ) → BTreeSet (List ℕ) → Type 0
 IsMade xs set = IsFromIterResult (slice_cmp nat_cmp) xs set
@@ -36,18 +37,18 @@ pub keys_few : (xs : List (List ℕ)) (set : BTreeSet (List ℕ)) → IsMade xs 
 keys_few xs set made = btree_set_len-le_from_list nat_list_cmp_total xs set made
 
 -- what a filter leaves
-in_names : (p : List ℕ → Bool) (names : List (List ℕ)) (name : List ℕ) → Contains (filter p names) name → Contains names name × (p name ≡ true)
-in_names p [] name is = absurd (nothing_in name is)
+pub in_names : (p : List ℕ → Bool) (names : List (List ℕ)) (name : List ℕ) → Contains (filter p names) name → Contains names name × (p name ≡ true)
+in_names p [] name is = absurd (none-in name is)
 in_names p (first ∷ names) name is = by (in_names p names name) (p first) refl is
   where
     by : (Contains (filter p names) name → Contains names name × (p name ≡ true)) → (t : Bool) → p first ≡ t → Contains (cond t (first ∷ filter p names) (filter p names)) name → Contains (first ∷ names) name × (p name ≡ true)
     by others true passes is = ⊎_elim
         (λ same. (here first names name same, subst (λ (n : List ℕ). p n ≡ true) same passes))
         (λ later. let rest = others later in (there first names name rest.0, rest.1))
-        (split first (filter p names) name is)
+        (first-or-rest first (filter p names) name is)
     by others false fails is = let rest = others is in (there first names name rest.0, rest.1)
 
-stays_in : (p : List ℕ → Bool) (names : List (List ℕ)) (name : List ℕ) → p name ≡ true → Contains names name → Contains (filter p names) name
+pub stays_in : (p : List ℕ → Bool) (names : List (List ℕ)) (name : List ℕ) → p name ≡ true → Contains names name → Contains (filter p names) name
 stays_in p [] name passes is = is
 stays_in p (first ∷ names) name passes is = by (stays_in p names name passes) (p first) refl
   where
@@ -55,11 +56,11 @@ stays_in p (first ∷ names) name passes is = by (stays_in p names name passes) 
     by others true first_passes = ⊎_elim
         (here first (filter p names) name)
         (λ later. there first (filter p names) name (others later))
-        (split first names name is)
+        (first-or-rest first names name is)
     by others false fails = ⊎_elim
         (λ same. absurd (let clash : p first ≡ true = subst (λ (n : List ℕ). p n ≡ true) (sym same) passes in let wrong : false ≡ true = sym fails ∙ clash in cc))
         others
-        (split first names name is)
+        (first-or-rest first names name is)
 
 -- the names that aren't kept, sorted
 pub record AreOthers (sources : List Source) (names rest : List (List ℕ)) : Type 0 where

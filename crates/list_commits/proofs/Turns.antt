@@ -3,11 +3,13 @@ use Rattle.std.proofs.Common.{◌≡◌, refl, sym, subst, arith, ℕ, suc, ◌+
 use Rattle.std.proofs.lemmas.List.{append-nil}
 use Rattle.acq_outside.specs.Disk.{Files}
 use Rattle.acq_outside.specs.Crash.{State}
-use Rattle.acq_outside.specs.Moments.{Stands, Since, Each}
-use Rattle.journal_model.specs.Rest.{IsIdle, IsAtRest, KeepsRest, StaysAtRest}
+use Rattle.acq_outside.specs.Moments.{Stands}
+use Rattle.journal_model.specs.Rest.{IsAtRest}
 use Rattle.commit_journal.specs.Changes.{stepped_all}
 use Rattle.commit_journal.specs.Commits.{IsReadyOver, ReadyAfter, RestsAfter}
 use Rattle.commit_journal.specs.Runs.{Commit, HasBegun, HasCommitted, Moment, rests as rest_now, waits, prepares, begins, acknowledges}
+use Rattle.commit_journal.proofs.Prepares.{rest_on}
+use Rattle.commit_journal.proofs.Running.{stands_as}
 use Rattle.list_commits.specs.Made.{NoneBegun, Made, none, rests, makes, after_all}
 
 moment_as : (commits commits' : List Commit) (a a' b b' : ℕ) (old now : List State) → commits ≡ commits' → a ≡ a' → b ≡ b' → Moment commits a b old now → Moment commits' a' b' old now
@@ -44,22 +46,6 @@ made_in_turn commits _ old mid _ made none = subst (λ (l : List Commit). Made l
 made_in_turn commits later old mid _ made (rests {mid = between} others idle since) = rests (made_in_turn commits later old mid between made others) idle since
 made_in_turn commits _ old mid now made (makes {commits = later} {mid = between} others commit done) =
     subst (λ (l : List Commit). Made l old now) (append_assoc commits later (commit ∷ [])) (makes (made_in_turn commits later old mid between made others) commit done)
-
--- The lists.
-stands_as : (P Q : State → Type 0) (now : List State) → ((s : State) → P s → Q s) → Stands P now → Stands Q now
-stands_as P Q [] change stands = tt
-stands_as P Q (s ∷ past) change stands = change s stands
-
-newest : (P : State → Type 0) (old states now : List State) → now ≡ states ++ old → Each P states → Stands P old → Stands P now
-newest P old [] now joined each stands = subst (Stands P) (sym joined) stands
-newest P old (s ∷ states) now joined each stands = subst (Stands P) (sym joined) each.0
-
--- what keeps a disk at rest keeps it with its lists
-rest_on : (folder : Files) (old now : List State) → Stands IsIdle old → Since old now (KeepsRest old) → Stands (IsAtRest folder) old → Stands (IsAtRest folder) now
-rest_on folder [] now idle since rest = subst (Stands (IsAtRest folder)) (sym (since.untold refl)) tt
-rest_on folder (s ∷ past) now idle since rest =
-    stands_as (λ t. StaysAtRest s t) (IsAtRest folder) now (λ t stays. stays.rest idle folder rest)
-    (newest (λ t. StaysAtRest s t) (s ∷ past) since.states now since.joined since.each (record { rest = λ i f at_rest. at_rest; idle = λ i. i }))
 
 committed_on : (commit : Commit) (folder : Files) (old now : List State) → HasCommitted commit old now → Stands (IsAtRest folder) old → Stands (IsAtRest (stepped_all commit folder)) now
 committed_on commit folder old now done rest =

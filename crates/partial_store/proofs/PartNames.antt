@@ -1,26 +1,14 @@
 -- The names of lists on their way are names that a disk may have.
-use Rattle.std.proofs.Common.{◌≡◌, refl, sym, ap, ◌∙◌, subst, arith, true, List, [], ◌∷◌, ℕ, ◌<◌, ◌≤◌, length, drop, length-append, codes}
-use Rattle.std.specs.Str.{IsAscii, is_utf8}
-use Rattle.std.proofs.lemmas.Str.{IsUtf8-from_ascii, IsUtf8-append, IsUtf8-from_is_utf8, is_utf8-from_IsUtf8}
-use Rattle.std.proofs.lemmas.Str.Ascii.{IsAscii-nil, IsAscii-cons}
+use Rattle.std.proofs.Common.{◌≡◌, refl, sym, ap, ◌∙◌, subst, arith, true, List, [], ℕ, ◌≤◌, length, drop, length-append, codes}
+use Rattle.std.specs.Str.{is_utf8}
+use Rattle.std.proofs.lemmas.Str.{IsUtf8-from_is_utf8, is_utf8-from_IsUtf8}
 use Rattle.acq_outside.specs.Disk.{IsName}
 use Rattle.journal_model.specs.Names.{IsPutName, partial}
+use Rattle.journal_model.proofs.Literals.{partial_named}
 use Rattle.partial_store.specs.Parts.{PartOf, part_of}
 
-abbrev Small : List ℕ → Type 0
-Small [] = Unit {0}
-Small (b ∷ bytes) = (b < 128) × Small bytes
-
-small_ascii : (bytes : List ℕ) → Small bytes → IsAscii bytes
-small_ascii [] small = IsAscii-nil
-small_ascii (b ∷ bytes) small = IsAscii-cons b bytes small.0 (small_ascii bytes small.1)
-
 pub partial_name : (name : List ℕ) → IsPutName name → IsName (partial name)
-partial_name name put = record {
-  text = IsUtf8-append (codes "partial/") name (IsUtf8-from_ascii (codes "partial/") (small_ascii (codes "partial/") (omega arith, (omega arith, (omega arith, (omega arith, (omega arith, (omega arith, (omega arith, (omega arith, tt)))))))))) put.named.text;
-  nonempty = omega (arith, length-append (codes "partial/") name);
-  short = omega (arith, put.short, length-append (codes "partial/") name);
-}
+partial_name name put = partial_named name put.named put.short
 
 -- what a part keeps of its path
 abbrev pub IsKept : List ℕ → Type 0

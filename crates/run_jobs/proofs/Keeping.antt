@@ -1,6 +1,5 @@
 -- What a board wants of the lists on their way is there once a job has ended.
-use Rattle.std.proofs.Common.{◌≡◌, ◌∙◌, ◌⊎◌, ◌≤◌, ℕ, zero, suc, Bool, true, false, List, [], ◌∷◌, length, take, Option, Some, None, IfSome, refl, inl, inr, bytes_eq, arith}
-use Rattle.std.proofs.lemmas.Slice.Eq.{bytes_eq-Decides}
+use Rattle.std.proofs.Common.{◌≡◌, ◌∙◌, ◌⊎◌, ◌≤◌, ℕ, zero, suc, List, [], ◌∷◌, length, take, Option, Some, None, IfSome, refl, inl, inr, arith}
 use Rattle.acq_base.specs.declared.uri.ListName.{ListName}
 use Rattle.acq_outside.specs.Crash.{State}
 use Rattle.acq_outside.specs.Moments.{IsTold, Since}
@@ -12,6 +11,8 @@ use Rattle.update_model.specs.Outcomes.{Parts}
 use Rattle.update_model.specs.declared.ask.Body.TheVariants as bodies
 use Rattle.update_model.specs.declared.ask.Closed.{Closed}
 use Rattle.update_model.specs.declared.ask.Closed.TheVariants as closings
+use Rattle.journal_model.proofs.Views.{partial_apart}
+use Rattle.journal_model.proofs.Twice.{same_or_not}
 use Rattle.run_jobs.specs.Coupling.{HoldsUse, UsesHold}
 use Rattle.run_jobs.specs.Fetching.{ComesTo, IsFetched, KeepsBytes}
 
@@ -44,12 +45,12 @@ pub front_is : (from : ℕ) (wanted : List ℕ → PartUse) (name : List ℕ) (f
     → take from (part_bytes now name) ≡ take from (first name)
 front_is from wanted name first now e uses told = front_by from (wanted name) name (first name) now e (uses.each name told)
 
-falls_holds : (before after : PartUse) (name first : List ℕ) (now : List State) → Falls before after → HoldsUse before name first now → HoldsUse after name first now
+pub falls_holds : (before after : PartUse) (name first : List ℕ) (now : List State) → Falls before after → HoldsUse before name first now → HoldsUse after name first now
 falls_holds before after name first now (inl e) holds = rw e holds
 falls_holds before after name first now (inr e) holds = rw e tt
 
 -- a file that stays holds what it held
-stays_holds : (wanted : PartUse) (name first : List ℕ) (old now : List State) → part_file now name ≡ part_file old name → HoldsUse wanted name first old → HoldsUse wanted name first now
+pub stays_holds : (wanted : PartUse) (name first : List ℕ) (old now : List State) → part_file now name ≡ part_file old name → HoldsUse wanted name first old → HoldsUse wanted name first now
 stays_holds (Resumes size) name first old now same holds = record { front = rw same holds.front; within = rw same holds.within }
 stays_holds (Whole sum) name first old now same holds = record { bytes = holds.bytes; file = same ∙ holds.file; sums = holds.sums }
 stays_holds Free name first old now same holds = tt
@@ -70,18 +71,6 @@ whole_holds staged name first closings.TooBig after now told ends is = absurd is
 whole_holds staged name first (closings.Garbled at) after now told ends is = absurd is
 whole_holds staged name first (closings.Fault a b) after now told ends is = absurd is
 
--- the same name or another
-pub same_name : (a b : List ℕ) → (a ≡ b) ⊎ ((a ≡ b) → ⊥)
-same_name a b = by (bytes_eq a b) refl
-  where
-    by : (t : Bool) → bytes_eq a b ≡ t → (a ≡ b) ⊎ ((a ≡ b) → ⊥)
-    by true is = inl ((bytes_eq-Decides a b).0 is)
-    by false is = inr (λ same. let yes = (bytes_eq-Decides a b).1 same in cc)
-
--- two lists on their way under one name are one
-pub partial_apart : (a b : List ℕ) → (a ≡ b → ⊥) → partial a ≡ partial b → ⊥
-partial_apart a b apart e = apart (grind (arith, partial))
-
 -- what a board wants is there once a job has ended
 pub uses_after : (staged : Option ListName) (from : ℕ) (closed : Closed) (wanted after : List ℕ → PartUse) (first : Parts) (old now : List State) → IsFetched staged old now
     → KeepsBytes staged from old now → ComesTo staged now closed → IfSome staged (λ name. wanted name.0 ≡ use_from from)
@@ -91,7 +80,7 @@ uses_after None from closed wanted after first old now fetched keeps comes e fal
     by : (name : List ℕ) → IsTold now → Falls (wanted name) (after name) ⊎ IsWholeOf None closed name (after name) → HoldsUse (after name) name (first name) now
     by name told (inl f) = falls_holds (wanted name) (after name) name (first name) now f (rw fetched (uses.each name (rw fetched at told)))
     by name told (inr w) = absurd w
-uses_after (Some staged) from closed wanted after first old now fetched keeps comes e falls uses = record { each = λ name told. by name told (falls name) (same_name name staged.0) }
+uses_after (Some staged) from closed wanted after first old now fetched keeps comes e falls uses = record { each = λ name told. by name told (falls name) (same_or_not name staged.0) }
   where
     by : (name : List ℕ) → IsTold now → Falls (wanted name) (after name) ⊎ IsWholeOf (Some staged) closed name (after name) → (name ≡ staged.0) ⊎ ((name ≡ staged.0) → ⊥) → HoldsUse (after name) name (first name) now
     by name told (inr w) is = whole_holds staged name (first name) closed (after name) now told comes w

@@ -1,5 +1,5 @@
-mod Telling
-mod Keeping
+pub mod Telling
+pub mod Keeping
 mod StagedLists
-mod OneJob
+pub mod OneJob
 mod Idle

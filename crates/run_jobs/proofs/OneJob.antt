@@ -1,12 +1,11 @@
 -- One job, from the board to the disk and back.
-use Rattle.std.proofs.Common.{◌≡◌, ◌∙◌, ◌≤◌, ℕ, zero, suc, ◌==◌, ◌+◌, ◌++◌, Bool, true, false, List, [], ◌∷◌, length, take, All, Option, Some, None, IfSome, refl, sym, ap, subst, arith}
+use Rattle.std.proofs.Common.{◌≡◌, ◌∙◌, ◌≤◌, ℕ, zero, suc, ◌==◌, ◌+◌, ◌++◌, Bool, true, false, List, [], ◌∷◌, length, take, Option, Some, None, IfSome, refl, sym, ap, subst, arith}
 use Rattle.std.specs.Prelude.{option_map, option_and_then, slice_get, is_some, map}
 use Rattle.acq_base.specs.Mirror.{World as Mirror, answer_at}
 use Rattle.acq_base.specs.Plan.{IsPlanned, names_of}
 use Rattle.acq_base.specs.declared.fetch.Job.{Job}
 use Rattle.std.proofs.lemmas.Bool.Decides.{nat_tests}
-use Rattle.std.proofs.lemmas.List.{append-nil}
-use Rattle.std.proofs.lemmas.List.Elements.{All-head, All-tail}
+use Rattle.std.proofs.lemmas.List.{append-nil, length_push}
 use Rattle.acq_base.specs.declared.plan.Source.{Source}
 use Rattle.acq_base.specs.declared.plan.Target.{Target}
 use Rattle.acq_base.specs.declared.uri.Uri.{Uri}
@@ -34,11 +33,13 @@ use Rattle.update_model.specs.declared.ask.Ask.{Ask}
 use Rattle.update_model.specs.declared.ask.Body.TheVariants as bodies
 use Rattle.update_model.specs.declared.ask.Closed.{Closed}
 use Rattle.update_model.specs.declared.ask.Closed.TheVariants as closings
+use Rattle.board_model.proofs.Askers.{asker-asks}
+use Rattle.board_bounds.proofs.Walking.{at_all}
 use Rattle.run_jobs.specs.Coupling.{UsesHold}
 use Rattle.run_jobs.specs.Fetching.{Answers, CanFetch, ComesTo, IsFetched, KeepsBytes, front_of}
 use Rattle.run_jobs.specs.Running.{Begun, GoesOn, GoesOnWith, HasHeard, IsReady, IsSoundBegun, IsUnderWay}
 use Rattle.run_jobs.proofs.Keeping.{front_is, keep_of, moments_of, told_back, uses_after}
-use Rattle.run_jobs.proofs.StagedLists.{asker_asks, staged_named}
+use Rattle.run_jobs.proofs.StagedLists.{staged_named}
 use Rattle.run_jobs.proofs.Telling.{answered_front, counts_last, each_last, if_both, sound_answer}
 
 -- what is known of boards
@@ -51,7 +52,7 @@ pub record Laws : Type 0 where
   pub fetched : AsksMayBeFetched
   pub put : PlannedNamesArePutNames
 
-same_number : (n : ℕ) → (n == n) ≡ true
+pub same_number : (n : ℕ) → (n == n) ≡ true
 same_number n = grind (arith, nat_tests)
 
 -- ---- the job that goes out
@@ -97,11 +98,6 @@ staged_is b n a lane asks = rw lane (rw asks refl)
 
 -- ---- whether it may be fetched
 
-at_all : {A : Type 0} (P : A → Type 0) (xs : List A) (n : ℕ) (x : A) → All P xs → slice_get xs n ≡ Some x → P x
-at_all P [] n x all e = absurd (cc)
-at_all P (y ∷ xs) zero x all e = let same : y ≡ x = cc in subst P same (All-head P y xs all)
-at_all P (y ∷ xs) (suc n) x all e = at_all P xs n x (All-tail P y xs all) e
-
 name_there : (targets : List Target) (k : ℕ) (target : Target) → slice_get targets k ≡ Some target → slice_get (map (λ (t : Target). t.name.0) targets) k ≡ Some target.name.0
 name_there [] k target e = absurd (cc)
 name_there (t ∷ targets) zero target e = let same : t ≡ target = cc in rw same refl
@@ -118,7 +114,7 @@ kind_of laws begun b n a notes sound config reached asks may = by a.ask.stage re
     by false e = rw e (refl, may.held e)
     by true e =
         let i = staged_named laws.stand begun.config begun.olds notes b n a reached asks e in
-        let source_is : slice_get begun.config.sources a.key.source ≡ Some a.source = subst (λ (c : Config). slice_get c.sources a.key.source ≡ Some a.source) config (asker_asks b n a asks).source_is in
+        let source_is : slice_get begun.config.sources a.key.source ≡ Some a.source = subst (λ (c : Config). slice_get c.sources a.key.source ≡ Some a.source) config (asker-asks b n a asks).source_is in
         let planned = at_all IsPlanned begun.config.sources a.key.source a.source sound.planned source_is in
         let wanted = laws.asks b n a i.target.name (subst (λ (c : Config). AreNamedApart c) (sym config) sound.apart) asks e i.is in
         rw e (rw i.is (refl, i.is, put_name laws.put a.source i.k i.target planned i.at, wanted))
@@ -193,12 +189,12 @@ mirrors_note : (begun : Begun) (b : Board) (job : Job) (staged : Option ListName
     → (mirror : Mirror) → Says closed (answered (front_of staged old) (record { uri = job.uri; max = job.max; from = job.from; stage = is_some staged }) (answer_at mirror job.uri))
     → IsMirrors mirror begun.parts begun.config.sources (note_of j.a (record { lane = lane; closed = closed }))
 mirrors_note begun b job None old now closed lane j config uses told_old told mirror says =
-    let source_is : slice_get begun.config.sources j.a.key.source ≡ Some j.a.source = subst (λ (c : Config). slice_get c.sources j.a.key.source ≡ Some j.a.source) config (asker_asks b job.no j.a j.asks).source_is in
+    let source_is : slice_get begun.config.sources j.a.key.source ≡ Some j.a.source = subst (λ (c : Config). slice_get c.sources j.a.key.source ≡ Some j.a.source) config (asker-asks b job.no j.a j.asks).source_is in
     let front : take j.a.ask.from [] ≡ take j.a.ask.from (part_of begun.parts (name_at j.a.source j.a.key.place)) = rw j.kind.1 refl in
     let same = answered_front [] (part_of begun.parts (name_at j.a.source j.a.key.place)) j.a.ask (answer_at mirror j.a.ask.uri) front in
     rw source_is (says_same closed _ _ same (says_ask mirror [] job j.a.ask false closed j.job_is j.kind.0 says))
 mirrors_note begun b job (Some name) old now closed lane j config uses told_old told mirror says =
-    let source_is : slice_get begun.config.sources j.a.key.source ≡ Some j.a.source = subst (λ (c : Config). slice_get c.sources j.a.key.source ≡ Some j.a.source) config (asker_asks b job.no j.a j.asks).source_is in
+    let source_is : slice_get begun.config.sources j.a.key.source ≡ Some j.a.source = subst (λ (c : Config). slice_get c.sources j.a.key.source ≡ Some j.a.source) config (asker-asks b job.no j.a j.asks).source_is in
     let front : take j.a.ask.from (part_bytes old name.0) ≡ take j.a.ask.from (begun.parts name.0) = front_is j.a.ask.from (rests b) name.0 begun.parts old j.kind.3 uses told_old in
     let same = answered_front (part_bytes old name.0) (begun.parts name.0) j.a.ask (answer_at mirror j.a.ask.uri) front in
     rw source_is (rw j.kind.1 (says_same closed _ _ same (says_ask mirror (part_bytes old name.0) job j.a.ask true closed j.job_is j.kind.0 says)))
@@ -276,17 +272,13 @@ goes_job laws mirror before after b c d job closed old now e issued_is absorbed_
     let same : d ≡ absorbed (issued b 0) 0 job.no closed = absorbed_as ∙ ap (λ (x : Board). absorbed x 0 job.no closed) issued_is in
     subst (λ (x : Board). GoesOnWith begun notes after x now) (sym same) whole
 
-length_last : {A : Type 0} (xs : List A) (x : A) → length (xs ++ x ∷ []) ≡ length xs + 1
-length_last [] x = refl
-length_last (y ∷ xs) x = let more = length_last xs x in omega (arith, more)
-
 -- its answer is one more entry of the log
 pub one_more : Laws → (mirror : Option Mirror) (count : ℕ) (b c d : Board) (job : Job) (closed : Closed) (now : List State) → IsReady mirror count b now → issued_job b 0 ≡ Some job → c ≡ issued b 0 → d ≡ absorbed c 0 job.no closed
     → length d.asks ≡ length b.asks + 1
 one_more laws mirror count b c d job closed now ready e issued_is absorbed_as =
     let j = job_of laws ready.begun ready.notes count b job now ready.sound ready.under_way e in
     let same : d ≡ absorbed (issued b 0) 0 job.no closed = absorbed_as ∙ ap (λ (x : Board). absorbed x 0 job.no closed) issued_is in
-    rw (same ∙ absorbed_is (issued b 0) job.no closed j.a j.lane j.asks) (length_last b.asks _)
+    rw (same ∙ absorbed_is (issued b 0) job.no closed j.a j.lane j.asks) (length_push b.asks _)
 
 -- none goes out, and the run stands as it did
 pub goes_idle : IssuedBoardsAreReached → (mirror : Option Mirror) (count : ℕ) (b c : Board) (now : List State) → c ≡ issued b 0 → issued_job b 0 ≡ None → GoesOn mirror count count b c now now

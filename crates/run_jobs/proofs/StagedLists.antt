@@ -1,12 +1,11 @@
 -- What is staged is a list of its source.
-use Rattle.std.proofs.Common.{◌≡◌, ℕ, zero, suc, true, false, List, [], ◌∷◌, length, Option, Some, None, refl, sym, subst, arith, inl, inr}
-use Rattle.std.specs.Prelude.{option_and_then, slice_get}
+use Rattle.std.proofs.Common.{◌≡◌, ℕ, zero, suc, true, false, List, [], ◌∷◌, Option, Some, None, refl, sym, subst, inl, inr}
+use Rattle.std.specs.Prelude.{slice_get}
 use Rattle.acq_base.specs.declared.installed.Old.{Old}
 use Rattle.acq_base.specs.declared.plan.Source.{Source}
 use Rattle.acq_base.specs.declared.plan.Target.{Target}
 use Rattle.item_graph.specs.Items.{asked}
 use Rattle.release_file.specs.declared.release.Release.{Release}
-use Rattle.update_model.specs.Obtained.{◌>>=◌}
 use Rattle.update_model.specs.Points.{Point, Over, At, run, start, step, lead}
 use Rattle.update_model.specs.Reach.{Way, On, Stop, way}
 use Rattle.update_model.specs.Trails.{Told, Leads}
@@ -18,13 +17,14 @@ use Rattle.update_model.specs.declared.ask.Ending.{Ending}
 use Rattle.update_model.specs.declared.ask.Ending.TheVariants as endings
 use Rattle.update_model.specs.declared.settled.Verdict2.{Verdict2}
 use Rattle.board_model.specs.Boards.{Asker, Board, asker_of}
-use Rattle.board_model.specs.Keys.{key_at, name_at}
+use Rattle.board_model.specs.Keys.{name_at}
 use Rattle.board_model.specs.Laws.{BoardsStand}
 use Rattle.board_model.specs.Reached.{Reached}
 use Rattle.board_model.specs.Runs.{Note, World}
-use Rattle.board_model.specs.Slots.{Config, Standing, Slot, Asking, Listing, Refused, Closed as Settled, ask_of, item_at, item_in, joined}
+use Rattle.board_model.specs.Slots.{Config, Standing, Slot, Asking, Listing, Refused, Closed as Settled, ask_of, item_in, joined}
 use Rattle.board_model.specs.Stands.{AllStand, History, IsOpen, ListsStand, SourceStands, history_of, tolds}
-use Rattle.board_model.specs.declared.key.Key.{Key}
+use Rattle.board_model.proofs.Askers.{asker-asks}
+use Rattle.board_model.proofs.Resting.{olds-there}
 
 -- ---- a Release is held in memory
 
@@ -79,43 +79,6 @@ held_asks (At other left faults next) ask h e = let same : other ≡ ask = cc in
 
 -- ---- an item that asks
 
-bound : {A B : Type 0} (o : Option A) (f : A → Option B) (b : B) → (o >>= f) ≡ Some b → (a : A) × (o ≡ Some a) × (f a ≡ Some b)
-bound None f b e = absurd (cc)
-bound (Some a) f b e = (a, refl, e)
-
--- what is known of it
-pub record IsAsking (b : Board) (number : ℕ) (a : Asker) : Type 0 where
-  pub key_is : key_at b.config.sources number ≡ Some a.key
-  pub source_is : slice_get b.config.sources a.key.source ≡ Some a.source
-  pub slot : Slot
-  pub slot_is : slice_get b.slots a.key.source ≡ Some slot
-  pub asks : ask_of (item_in slot a.key.place) ≡ Some a.ask
-
-slot_asks : (slots : List Slot) (key : Key) (ask : Ask) → ask_of (item_at slots key) ≡ Some ask
-    → (slot : Slot) × (slice_get slots key.source ≡ Some slot) × (ask_of (item_in slot key.place) ≡ Some ask)
-slot_asks slots key ask e = one (slice_get slots key.source) refl e
-  where
-    one : (o : Option Slot) → slice_get slots key.source ≡ o → ask_of (option_and_then (λ slot. item_in slot key.place) o) ≡ Some ask
-        → (slot : Slot) × (slice_get slots key.source ≡ Some slot) × (ask_of (item_in slot key.place) ≡ Some ask)
-    one None is e = absurd (cc)
-    one (Some slot) is e = (slot, is, e)
-
-pub asker_asks : (b : Board) (number : ℕ) (a : Asker) → asker_of b number ≡ Some a → IsAsking b number a
-asker_asks b number a e =
-    let k = bound (key_at b.config.sources number) _ a e in
-    let s = bound (slice_get b.config.sources k.0.source) _ a k.2 in
-    let q = bound (ask_of (item_at b.slots k.0)) _ a s.2 in
-    let same : (record { key = k.0; source = s.0; ask = q.0 }) ≡ a = cc in
-    let there = slot_asks b.slots k.0 q.0 q.1 in
-    subst (λ (x : Asker). IsAsking b number x) same (record { key_is = k.1; source_is = s.1; slot = there.0; slot_is = there.1; asks = there.2 })
-
-olds_there : (sources : List Source) (olds : List Old) (n : ℕ) (source : Source) → length olds ≡ length sources → slice_get sources n ≡ Some source
-    → (old : Old) × (slice_get olds n ≡ Some old)
-olds_there [] olds n source each there = absurd (cc)
-olds_there (x ∷ sources) [] n source each there = absurd (omega (arith, each))
-olds_there (x ∷ sources) (old ∷ olds) zero source each there = (old, refl)
-olds_there (x ∷ sources) (old ∷ olds) (suc n) source each there = olds_there sources olds n source (omega (arith, each)) there
-
 list_of : (config : Config) (n : ℕ) (source : Source) (old : Old) (release : Release) (place : ℕ) (targets : List Target) (lists : List (Option Standing)) (history : History) (k : ℕ) (item : Standing)
     → ListsStand config n source old release place targets lists history → slice_get lists k ≡ Some (Some item) → (target : Target) × (slice_get targets k ≡ Some target)
 list_of config n source old release place [] lists history k item h e =
@@ -159,11 +122,11 @@ stands_named config a old slot verdict history asks stage (inr closed) =
 pub staged_named : BoardsStand → (config : Config) (olds : List Old) (notes : List Note) (b : Board) (number : ℕ) (a : Asker) → Reached config olds notes b → asker_of b number ≡ Some a → a.ask.stage ≡ true
     → IsNamed a.source a.key.place
 staged_named law config olds notes b number a reached e stage =
-    let i = asker_asks b number a e in
+    let i = asker-asks b number a e in
     let w : World = record { board = b; jobs = reached.jobs; queue = []; notes = notes } in
     let all : AllStand config olds w = subst (λ (x : World). AllStand config olds x) reached.leads (law config olds reached.lanes reached.events) in
     let source_is : slice_get config.sources a.key.source ≡ Some a.source = subst (λ (c : Config). slice_get c.sources a.key.source ≡ Some a.source) all.config_is i.source_is in
-    let old = olds_there config.sources olds a.key.source a.source reached.each source_is in
+    let old = olds-there config.sources olds a.key.source a.source reached.each source_is in
     let at = all.sources a.key.source a.source old.0 source_is old.1 in
     let same : at.slot ≡ i.slot = cc in
     stands_named config a old.0 at.slot at.verdict (history_of a.key.source notes) (subst (λ (s : Slot). ask_of (item_in s a.key.place) ≡ Some a.ask) (sym same) i.asks) stage at.stands

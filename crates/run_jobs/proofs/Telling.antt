@@ -59,3 +59,16 @@ pub counts_last : (entries : List Asked) (entry : Asked) (closed : Closed) (firs
 counts_last [] entry closed first before after e up is le = counts_one entry closed first before after e up is le
 counts_last (other ∷ entries) entry closed first before after e up is le =
     on_heard other.heard first _ _ (λ n rest. counts_last entries entry closed n before after e rest is le) up
+
+-- counts go up
+pub counts_rise : (first last : ℕ) (entries : List Asked) → CountsUp first last entries → first ≤ last
+counts_rise first last [] counts = counts
+counts_rise first last (e ∷ entries) counts = by e.heard (λ count on. counts_rise count last entries on) counts
+  where
+    by : (heard : Heard) → ((count : ℕ) → CountsUp count last entries → count ≤ last) → CountsOn heard first (λ count. CountsUp count last entries) → first ≤ last
+    by (heards.Served sum) more c = more first c
+    by (heards.Moved place) more c = more first c
+    by (heards.Absent status) more c = more first c
+    by heards.TooBig more c = more first c
+    by (heards.Garbled at) more c = more first c
+    by (heards.Fault before after) more c = let up = more after c.3 in omega (arith, c.0, c.2, up)

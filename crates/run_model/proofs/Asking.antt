@@ -18,9 +18,10 @@ use Rattle.update_model.specs.Trails.{Told}
 use Rattle.update_model.specs.declared.ask.Closed.{Closed as Answered_as}
 use Rattle.update_model.specs.declared.settled.Settled.{Settled}
 use Rattle.update_model.specs.declared.settled.Verdict2.{Verdict2}
+use Rattle.board_model.proofs.Places.{bound}
+use Rattle.board_bounds.proofs.Asking.{reached-stands}
 use Rattle.run_model.specs.Asked.{IsListed, LogsTellNotes, NotesAreOfItems, OthersHearNothing}
 use Rattle.run_model.proofs.Names.{each_in, get_in}
-use Rattle.run_model.proofs.Ready.{bound, reached_stands}
 
 -- ---- each note is of an item
 
@@ -127,7 +128,7 @@ open_heard config n k source old target Closed history h ready is = absurd h
 
 pub others_hear_nothing : BoardsStand → FinishedExactly → OthersHearNothing
 others_hear_nothing stand exactly config olds notes b n k source old target r finished at is =
-    let all_stand = reached_stands stand config olds notes b r in
+    let all_stand = reached-stands stand config olds notes b r in
     let s : StandsAt config n source old (record { board = b; jobs = r.jobs; queue = []; notes = notes }) = all_stand.sources n source old at.source_is at.old_is in
     let board : (run r.events (start config olds r.lanes)).board ≡ b = ap (λ (w : World). w.board) r.leads in
     let all : Each (λ slot. slot ≡ Closed) b.slots =
@@ -140,4 +141,4 @@ others_hear_nothing stand exactly config olds notes b n k source old target r fi
     one slot verdict closed (inr settled) = let was = settled.1 in open_heard config n k source old target was.slot (history_of n notes) was.open_slot was.ready is
 
 pub logs_tell_notes : BoardsStand → LogsTellNotes
-logs_tell_notes stand config olds notes b r = (reached_stands stand config olds notes b r).log
+logs_tell_notes stand config olds notes b r = (reached-stands stand config olds notes b r).log

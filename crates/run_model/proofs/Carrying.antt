@@ -1,5 +1,5 @@
 -- What groups of changes, one after another, make of the lists.
-use Rattle.std.proofs.Common.{◌≡◌, ◌≢◌, ◌∙◌, inl, inr, refl, sym, ap, subst, arith, ℕ, zero, suc, Bool, true, false, List, [], ◌∷◌, ◌++◌, length, map, All, Contains, Some, None}
+use Rattle.std.proofs.Common.{◌≡◌, ◌≢◌, ◌∙◌, inl, inr, refl, sym, ap, subst, ℕ, Bool, true, false, List, [], ◌∷◌, ◌++◌, map, All, Contains, Some, None}
 use Rattle.std.specs.Prelude.{if◌then◌else◌, slice_get}
 use Rattle.std.specs.List.{flat_map, AllByRecursion as Each}
 use Rattle.std.proofs.lemmas.Bool.{cases_eq}
@@ -13,14 +13,17 @@ use Rattle.board_model.specs.Changes.{AreMade}
 use Rattle.board_model.specs.Reached.{Reached}
 use Rattle.board_model.specs.RunLaws.{IsSourceAt}
 use Rattle.board_model.specs.Runs.{Note}
+use Rattle.board_model.proofs.Making.{none-in, first-or-rest}
+use Rattle.board_model.proofs.Resting.{olds-there}
 use Rattle.commit_journal.specs.Changes.{AreApart, Filled, DropFile, folder_step, folder_steps, stepped_all}
 use Rattle.journal_model.specs.Names.{is_list}
 use Rattle.journal_model.proofs.Twice.{with_other}
 use Rattle.list_commits.specs.Made.{after_all}
 use Rattle.list_commits.specs.SetLaws.{OwnsChanges}
+use Rattle.list_commits.proofs.Apart.{here, there}
 use Rattle.run_model.specs.Begun.{Begun}
 use Rattle.run_model.specs.Groups.{Group, OfSource, OfNone, AreGroups, AreOfNone, IsNewSet, all_groups, changes_in, commit_of, commits_of, removed_in, sources_in}
-use Rattle.run_model.proofs.Names.{SameUnder, each_in, get_in, here, in_plan, nothing_in, sources_apart, split, there}
+use Rattle.run_model.proofs.Names.{SameUnder, each_in, get_in, in_plan, sources_apart}
 use Rattle.run_model.proofs.Ready.{Below, WasReady, owns, put_names, was_ready}
 
 -- ---- groups in turn
@@ -29,7 +32,7 @@ abbrev pub after_groups : List Group → Files → Files
 after_groups [] lists = lists
 after_groups (group ∷ groups) lists = after_groups groups (folder_steps (changes_in group) lists)
 
-after_both : (first later : List Group) (lists : Files) → after_groups (first ++ later) lists ≡ after_groups later (after_groups first lists)
+pub after_both : (first later : List Group) (lists : Files) → after_groups (first ++ later) lists ≡ after_groups later (after_groups first lists)
 after_both [] later lists = refl
 after_both (group ∷ first) later lists = after_both first later (folder_steps (changes_in group) lists)
 
@@ -47,12 +50,6 @@ all_in_turn (groups ∷ commits) lists =
 
 -- ---- a source's changes
 
-pub old_there : (sources : List Source) (olds : List Old) (n : ℕ) (source : Source) → length olds ≡ length sources → slice_get sources n ≡ Some source → (old : Old) × (slice_get olds n ≡ Some old)
-old_there [] olds n source each is = absurd (cc)
-old_there (x ∷ sources) [] n source each is = absurd (omega (arith, each))
-old_there (x ∷ sources) (old ∷ olds) zero source each is = (old, refl)
-old_there (x ∷ sources) (old ∷ olds) (suc n) source each is = old_there sources olds n source (omega (arith, each)) is
-
 -- a source's new set, made on these lists
 pub record Made (begun : Begun) (heard : List Note) (n : ℕ) (changes : List Filled) (new_set : IsNewSet begun heard n changes) (lists : Files) : Type 0 where
   pub old : Old
@@ -66,7 +63,7 @@ pub is_made : Below → (begun : Begun) (heard : List Note) (n : ℕ) (changes :
 is_made below begun heard n changes new_set lists planned =
     let s = new_set.settles in
     let r : Reached begun.config begun.olds s.notes s.board = s.reached in
-    let old = old_there begun.config.sources begun.olds n new_set.source r.each new_set.source_is in
+    let old = olds-there begun.config.sources begun.olds n new_set.source r.each new_set.source_is in
     let stands : IsSourceAt begun.config begun.olds n new_set.source old.0 = record { source_is = new_set.source_is; old_is = old.1 } in
     let was = was_ready below.stand begun.config begun.olds s.notes s.board n new_set.source old.0 new_set.settled r s.ready s.comes_to stands in
     let is_planned = All-contains IsPlanned begun.config.sources new_set.source planned (get_in begun.config.sources n new_set.source new_set.source_is) in
@@ -106,7 +103,7 @@ drops_beside (drop ∷ names) lists name never =
 -- ---- names that no group changes
 
 removed_apart : (begun : Begun) (heard : List Note) (groups : List Group) (name : List ℕ) → AreGroups begun heard groups → Contains (removed_in groups) name → Contains (flat_map names_of begun.config.sources) name → ⊥
-removed_apart begun heard [] name are removed within = nothing_in name removed
+removed_apart begun heard [] name are removed within = none-in name removed
 removed_apart begun heard (OfSource n changes ∷ groups) name are removed within = removed_apart begun heard groups name are.1 removed within
 removed_apart begun heard (OfNone names ∷ groups) name are removed within = let none : AreOfNone begun names = are.0 in none.apart name removed within
 
@@ -143,9 +140,9 @@ never_again n ns others is = each_in (λ m. m ≢ n) ns n others is refl
 
 pub has_group : Below → (begun : Begun) (heard : List Note) (groups : List Group) (lists : Files) (n : ℕ) (source : Source) → All IsPlanned begun.config.sources → AreApart (flat_map names_of begun.config.sources)
     → AreGroups begun heard groups → AreOnce (sources_in groups) → slice_get begun.config.sources n ≡ Some source → Contains (sources_in groups) n → HasGroup begun heard n source lists (after_groups groups lists)
-has_group below begun heard [] lists n source planned apart are once is among = absurd (nothing_in n among)
+has_group below begun heard [] lists n source planned apart are once is among = absurd (none-in n among)
 has_group below begun heard (OfNone names ∷ groups) lists n source planned apart are once is among =
-    absurd (nothing_in n (subst (λ (gs : List Group). Contains (sources_in gs) n) are.1 among))
+    absurd (none-in n (subst (λ (gs : List Group). Contains (sources_in gs) n) are.1 among))
 has_group below begun heard (OfSource m changes ∷ groups) lists n source planned apart are once is among = elim (cases_eq m n) [
   | inl same ↦ record {
     changes = changes;
@@ -169,4 +166,4 @@ has_group below begun heard (OfSource m changes ∷ groups) lists n source plann
 ]
   where
     later_in : (m n : ℕ) (ns : List ℕ) → m ≢ n → Contains (m ∷ ns) n → Contains ns n
-    later_in m n ns differ among = elim (split m ns n among) [ inl same ↦ absurd (differ same) | inr later ↦ later ]
+    later_in m n ns differ among = elim (first-or-rest m ns n among) [ inl same ↦ absurd (differ same) | inr later ↦ later ]

@@ -9,13 +9,14 @@ use Rattle.commit_journal.specs.Changes.{DropFile, folder_step, folder_steps}
 use Rattle.journal_model.specs.Names.{is_list}
 use Rattle.journal_model.proofs.Twice.{with_same}
 use Rattle.update_model.specs.declared.log.RunLog.{RunLog}
+use Rattle.board_model.proofs.Making.{none-in, first-or-rest}
 use Rattle.run_model.specs.Begun.{Begun}
 use Rattle.run_model.specs.Groups.{Group, OfSource, OfNone, AreGroups, IsNewSet, all_groups, removed_in}
 use Rattle.run_model.specs.Laws.{RunsCleanUp}
 use Rattle.run_model.specs.Runs.{HasRun, Cleans, cleans_up}
 use Rattle.run_model.proofs.Carrying.{after_groups, all_in_turn, beside, untouched}
 use Rattle.run_model.proofs.Loose.{Loose, loose_of}
-use Rattle.run_model.proofs.Names.{in_plan, nothing_in, split}
+use Rattle.run_model.proofs.Names.{in_plan}
 use Rattle.run_model.proofs.Ready.{Below}
 
 -- ---- a name that is dropped
@@ -39,11 +40,11 @@ drop_here : (lists : Files) (name : List ℕ) → is_list name ≡ true → fold
 drop_here lists name list = rw list (with_same lists name None name refl)
 
 drops_gone : (names : List (List ℕ)) (lists : Files) (name : List ℕ) → is_list name ≡ true → Contains names name → folder_steps (map DropFile names) lists name ≡ None
-drops_gone [] lists name list is = absurd (nothing_in name is)
+drops_gone [] lists name list is = absurd (none-in name is)
 drops_gone (drop ∷ names) lists name list is = ⊎_elim
     (λ same. drops_none names (folder_step lists (DropFile drop)) name (subst (λ (d : List ℕ). folder_step lists (DropFile d) name ≡ None) (sym same) (drop_here lists name list)))
     (λ later. drops_gone names (folder_step lists (DropFile drop)) name list later)
-    (split drop names name is)
+    (first-or-rest drop names name is)
 
 -- ---- groups in turn, under a name of no source
 
@@ -62,7 +63,7 @@ stays_none below begun heard (OfNone names ∷ groups) lists name planned are lo
 
 goes : Below → (begun : Begun) (heard : List Note) (groups : List Group) (lists : Files) (name : List ℕ) → AreGroups begun heard groups → is_list name ≡ true → Contains (removed_in groups) name
     → after_groups groups lists name ≡ None
-goes below begun heard [] lists name are list removed = absurd (nothing_in name removed)
+goes below begun heard [] lists name are list removed = absurd (none-in name removed)
 goes below begun heard (OfSource n changes ∷ groups) lists name are list removed = goes below begun heard groups (folder_steps changes lists) name are.1 list removed
 goes below begun heard (OfNone names ∷ groups) lists name are list removed =
     ap (λ (gs : List Group). after_groups gs (folder_steps (map DropFile names) lists) name) are.1 ∙ drops_gone names lists name list removed
@@ -102,4 +103,4 @@ runs_clean_up below together begun lists log commits name begins run loose =
     one : (c : Bool) → Cleans c begun.config.sources lists (removed_in groups) → after_groups groups lists name ≡ (if c then None else lists name)
     one true cleans = two (lists name) refl (loose_of below.loose begun.config.sources lists (removed_in groups) begins.alone cleans)
     one false none = stays_loose below begun run.heard groups lists name begins.planned run.groups loose
-        (λ among. nothing_in name (subst (λ (ns : List (List ℕ)). Contains ns name) none among))
+        (λ among. none-in name (subst (λ (ns : List (List ℕ)). Contains ns name) none among))

@@ -1,29 +1,21 @@
 -- A board has a verdict for each source.
-use Rattle.std.proofs.Common.{◌≡◌, ◌∙◌, refl, sym, ap, arith, ℕ, zero, suc, Bool, true, false, List, [], ◌∷◌, ◌++◌, length, map, Option, Some, None}
+use Rattle.std.proofs.Common.{◌≡◌, ◌∙◌, refl, sym, ap, arith, ℕ, zero, suc, Bool, true, false, List, [], ◌∷◌, ◌++◌, length, Option, Some, None}
 use Rattle.std.specs.Prelude.{◌==◌, if◌then◌else◌, slice_get}
 use Rattle.std.specs.List.{list_any}
+use Rattle.std.proofs.lemmas.List.{length-map}
 use Rattle.acq_base.specs.declared.fetch.Job.{Job}
 use Rattle.acq_base.specs.declared.installed.Old.{Old}
 use Rattle.board_model.specs.Boards.{Asker, Board, asker_of, first_ready, lane_with, settled_of, took_from}
 use Rattle.board_model.specs.Reached.{Reached}
 use Rattle.board_model.specs.Runs.{Answered, Event, Issue, Answer, Absorb, Settle, Note, World, answered, happens, run, settle_as, settle_first, start, take_first, told_by}
 use Rattle.board_model.specs.Slots.{Config, joined}
-use Rattle.host_queues.specs.Lanes.{changed_at}
 use Rattle.update_model.specs.Trails.{Told}
 use Rattle.update_model.specs.declared.ask.Closed.{Closed}
 use Rattle.update_model.specs.declared.settled.Settled.{Settled}
+use Rattle.host_queues.proofs.Changes.{length-changed}
 
 abbrev count : World → ℕ
 count w = length w.board.verdicts
-
-changed_length : {A : Type 0} (f : A → A) (xs : List A) (n : ℕ) → length (changed_at n f xs) ≡ length xs
-changed_length f [] n = refl
-changed_length f (x ∷ xs) zero = refl
-changed_length f (x ∷ xs) (suc n) = ap suc (changed_length f xs n)
-
-mapped_length : {A B : Type 0} (f : A → B) (xs : List A) → length (map f xs) ≡ length xs
-mapped_length f [] = refl
-mapped_length f (x ∷ xs) = ap suc (mapped_length f xs)
 
 answered_count : (w : World) (method : ℕ) (closed : Closed) (job : Option Job) → count (answered w method closed job) ≡ count w
 answered_count w method closed None = refl
@@ -44,7 +36,7 @@ taken_count w (a ∷ queue) = took_count w.board a.job.no (told_by a) (lane_with
 
 settled_count : (w : World) (n : ℕ) (settled : Option Settled) → count (settle_as w n settled) ≡ count w
 settled_count w n None = refl
-settled_count w n (Some settled) = changed_length (λ other. settled.verdict) w.board.verdicts n
+settled_count w n (Some settled) = length-changed (λ other. settled.verdict) w.board.verdicts n
 
 first_count : (w : World) (first : Option ℕ) → count (settle_first w first) ≡ count w
 first_count w None = refl
@@ -62,7 +54,7 @@ run_count (event ∷ events) w = run_count events (happens w event) ∙ happens_
 
 pub verdicts_count : (config : Config) (olds : List Old) (notes : List Note) (b : Board) → Reached config olds notes b → length b.verdicts ≡ length config.sources
 verdicts_count config olds notes b r =
-    sym (ap count r.leads) ∙ run_count r.events (start config olds r.lanes) ∙ mapped_length _ config.sources
+    sym (ap count r.leads) ∙ run_count r.events (start config olds r.lanes) ∙ length-map config.sources _
 
 -- lists of one length have elements at the same places
 pub there_too : {X Y : Type 0} (xs : List X) (ys : List Y) (n : ℕ) (x : X) → length xs ≡ length ys → slice_get xs n ≡ Some x → (y : Y) × (slice_get ys n ≡ Some y)

@@ -33,7 +33,7 @@ set_admitted config old end lists set is = outcome_admitted end (map (λ (l : Li
 
 -- ---- what is heard behind an end
 
-over_once : (end end' : End) → Over end ≡ Over end' → end ≡ end'
+pub over_once : (end end' : End) → Over end ≡ Over end' → end ≡ end'
 over_once end end' is = cc
 
 -- an item that has ended is told nothing more
@@ -61,3 +61,6 @@ same_release config n source old heard notes later verdict verdict' so_far came 
     ends_once config.settings.retries (start config.settings.retries (release_walk source)) (history_of n notes 0) (history_of n later 0) came.end last.end came.release.ends
     (subst (λ (ns : List Note). AreAsked config.settings.retries (start config.settings.retries (release_walk source)) ns) behind last.release.asks)
     (subst (λ (ns : List Note). run config.settings.retries (start config.settings.retries (release_walk source)) (tolds ns) ≡ Over last.end) behind last.release.ends)
+
+pub ok_once : (o : Result Admitted Staying) (a b : Admitted) → o ≡ Ok a → o ≡ Ok b → a ≡ b
+ok_once o a b is is' = let both : Ok a ≡ Ok b = sym is ∙ is' in cc

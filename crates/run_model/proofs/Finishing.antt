@@ -1,5 +1,5 @@
 -- A run that has ended: what each source has, and what its log tells.
-use Rattle.std.proofs.Common.{◌≡◌, ◌≢◌, ◌∙◌, ⊎_elim, refl, sym, ap, subst, ℕ, Bool, true, false, List, [], ◌∷◌, ◌++◌, Contains, Some, Result, Ok, Err}
+use Rattle.std.proofs.Common.{◌≡◌, ◌≢◌, ◌∙◌, ⊎_elim, refl, sym, ap, subst, ℕ, Bool, true, false, List, [], ◌∷◌, ◌++◌, Contains, Some, Ok, Err}
 use Rattle.std.specs.Prelude.{filter, if◌then◌else◌, slice_get}
 use Rattle.std.specs.List.{flat_map, AllByRecursion as Each}
 use Rattle.std.proofs.lemmas.List.{append-nil}
@@ -21,21 +21,25 @@ use Rattle.board_model.specs.Stands.{StandsAt, history_of}
 use Rattle.commit_journal.specs.Changes.{AreApart, folder_steps}
 use Rattle.update_model.specs.Laws.{HeldSetsAreFound}
 use Rattle.update_model.specs.Next.{Leaves, holds}
-use Rattle.update_model.specs.Outcomes.{Admitted, Outcome, Staying, admitted}
+use Rattle.update_model.specs.Outcomes.{Admitted, Outcome, admitted}
 use Rattle.update_model.specs.declared.end.End.{End}
 use Rattle.update_model.specs.declared.log.RunLog.{RunLog}
 use Rattle.update_model.specs.declared.settled.Held.{Held}
 use Rattle.update_model.specs.declared.settled.Verdict2.{Verdict2}
 use Rattle.update_model.specs.declared.settled.Verdict2.TheVariants.{Installed, Hit, Older, Kept}
+use Rattle.board_model.proofs.Making.{none-in, first-or-rest}
+use Rattle.board_model.proofs.Resting.{olds-there}
+use Rattle.board_bounds.proofs.Asking.{reached-stands}
+use Rattle.list_commits.proofs.Apart.{here, there, apart_of}
 use Rattle.run_model.specs.Begun.{Begun, BeginsOver}
 use Rattle.run_model.specs.Coming.{LeavesOutcome, outcome_at}
 use Rattle.run_model.specs.Groups.{Group, IsNewSet, all_groups, sources_in}
 use Rattle.run_model.specs.Laws.{RunsLeaveOutcomes}
 use Rattle.run_model.specs.Runs.{installed_by, is_installed, is_told_installed}
-use Rattle.run_model.proofs.Carrying.{HasGroup, Made, after_groups, all_in_turn, has_group, is_made, kept, old_there}
-use Rattle.run_model.proofs.Ends.{same_release, set_admitted}
-use Rattle.run_model.proofs.Names.{SameUnder, apart_of, each_in, get_in, here, holds_moved, installed_moved, keeps_same, nothing_in, split, there}
-use Rattle.run_model.proofs.Ready.{Below, installed_set, reached_stands}
+use Rattle.run_model.proofs.Carrying.{HasGroup, Made, after_groups, all_in_turn, has_group, is_made, kept}
+use Rattle.run_model.proofs.Ends.{same_release, set_admitted, ok_once}
+use Rattle.run_model.proofs.Names.{SameUnder, each_in, get_in, holds_moved, installed_moved, keeps_same}
+use Rattle.run_model.proofs.Ready.{Below, installed_set}
 use Rattle.run_model.proofs.Setting.{LeavesSet, leaves_set}
 
 -- what the crates below say of a board that is finished
@@ -50,20 +54,20 @@ pub record Finished : Type 0 where
 -- ---- filtered numbers
 
 filter_in : (p : ℕ → Bool) (ns : List ℕ) (n : ℕ) → p n ≡ true → Contains ns n → Contains (filter p ns) n
-filter_in p [] n passes is = absurd (nothing_in n is)
+filter_in p [] n passes is = absurd (none-in n is)
 filter_in p (m ∷ ns) n passes is = one (p m) refl (filter_in p ns n passes)
   where
     one : (c : Bool) → p m ≡ c → (Contains ns n → Contains (filter p ns) n) → Contains (if c then m ∷ filter p ns else filter p ns) n
-    one true passes' rest = ⊎_elim (here m (filter p ns) n) (λ later. there m (filter p ns) n (rest later)) (split m ns n is)
+    one true passes' rest = ⊎_elim (here m (filter p ns) n) (λ later. there m (filter p ns) n (rest later)) (first-or-rest m ns n is)
     one false fails rest = ⊎_elim
-        (λ same. let wrong : true ≡ false = sym passes ∙ ap p (sym same) ∙ fails in absurd (cc)) rest (split m ns n is)
+        (λ same. let wrong : true ≡ false = sym passes ∙ ap p (sym same) ∙ fails in absurd (cc)) rest (first-or-rest m ns n is)
 
 filter_out : (p : ℕ → Bool) (ns : List ℕ) (n : ℕ) → p n ≡ false → Contains (filter p ns) n → ⊥
-filter_out p [] n fails is = nothing_in n is
+filter_out p [] n fails is = none-in n is
 filter_out p (m ∷ ns) n fails is = one (p m) refl (filter_out p ns n fails) is
   where
     one : (c : Bool) → p m ≡ c → (Contains (filter p ns) n → ⊥) → Contains (if c then m ∷ filter p ns else filter p ns) n → ⊥
-    one true passes rest is = ⊎_elim (λ same. let wrong : true ≡ false = sym passes ∙ ap p same ∙ fails in absurd (cc)) rest (split m (filter p ns) n is)
+    one true passes rest is = ⊎_elim (λ same. let wrong : true ≡ false = sym passes ∙ ap p same ∙ fails in absurd (cc)) rest (first-or-rest m (filter p ns) n is)
     one false fails' rest is = rest is
 
 others_filtered : (p : ℕ → Bool) (n : ℕ) (ns : List ℕ) → Each (λ m. m ≢ n) ns → Each (λ m. m ≢ n) (filter p ns)
@@ -87,7 +91,7 @@ once_filtered p (n ∷ ns) once = one (p n) (once_filtered p ns once.1)
 is_settled : Finished → (config : Config) (olds : List Old) (notes : List Note) (b : Board) (n : ℕ) (source : Source) (old : Old) → Reached config olds notes b → is_finished b ≡ true → IsSourceAt config olds n source old
     → Contains b.settled n
 is_settled laws config olds notes b n source old r finished at =
-    let stand = reached_stands laws.below.stand config olds notes b r in
+    let stand = reached-stands laws.below.stand config olds notes b r in
     let s : StandsAt config n source old (record { board = b; jobs = r.jobs; queue = []; notes = notes }) = stand.sources n source old at.source_is at.old_is in
     let board : (run_world r.events (start_world config olds r.lanes)).board ≡ b = ap (λ (w : World). w.board) r.leads in
     let all : Each (λ slot. slot ≡ Closed) b.slots =
@@ -110,14 +114,11 @@ left_alone laws source old (Ok set) verdict lists after is never installed same 
 
 -- ---- a source that is
 
-is_held : (verdict : Verdict2) → is_installed verdict ≡ true → (held : Held) × (verdict ≡ Installed held)
+pub is_held : (verdict : Verdict2) → is_installed verdict ≡ true → (held : Held) × (verdict ≡ Installed held)
 is_held (Installed held) is = (held, refl)
 is_held (Hit held) is = absurd (cc)
 is_held (Older date) is = absurd (cc)
 is_held (Kept cause) is = absurd (cc)
-
-ok_once : (o : Result Admitted Staying) (a b : Admitted) → o ≡ Ok a → o ≡ Ok b → a ≡ b
-ok_once o a b is is' = let both : Ok a ≡ Ok b = sym is ∙ is' in cc
 
 same_set : (begun : Begun) (heard : List Note) (n : ℕ) (source : Source) (old : Old) (notes later : List Note) (before_verdict verdict : Verdict2) (held held' : Held) (before after : Files) → heard ≡ notes ++ later
     → (s : LeavesSet begun.config n source old notes before_verdict held before after) (comes : ComesTo begun.config n source old (history_of n heard) verdict) → verdict ≡ Installed held'
@@ -193,7 +194,7 @@ runs_leave_outcomes laws together begun lists log commits run n source begins is
     passes = λ k. is_told_installed (slice_get log.verdicts k)
 
     old : (o : Old) × (slice_get begun.olds n ≡ Some o)
-    old = old_there begun.config.sources begun.olds n source r.each is
+    old = olds-there begun.config.sources begun.olds n source r.each is
 
     at : IsSourceAt begun.config begun.olds n source old.0
     at = record { source_is = is; old_is = old.1 }

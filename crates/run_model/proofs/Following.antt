@@ -14,6 +14,11 @@ use Rattle.board_model.specs.Laws.{BoardsStand}
 use Rattle.board_model.specs.Slots.{Config, Slot, Closed, is_ready}
 use Rattle.host_queues.specs.Lanes.{changed_at}
 use Rattle.update_model.specs.declared.settled.Verdict2.{Verdict2}
+use Rattle.board_model.proofs.Making.{none-in}
+use Rattle.board_model.proofs.Places.{bound}
+use Rattle.board_model.proofs.Events.{ready-slot}
+use Rattle.board_bounds.proofs.Asking.{reached-stands}
+use Rattle.list_commits.proofs.Apart.{here, there}
 use Rattle.run_model.specs.Beginnings.{InstalledAreOnce, InstalledFollow, InstalledAreInTurn, ListsAreRead, LooseListsStay, NextIsInTurn, NoneIsInTurn}
 use Rattle.run_model.specs.Groups.{all_groups}
 use Rattle.run_model.specs.Runs.{AreRising, is_told_installed}
@@ -21,15 +26,15 @@ use Rattle.run_model.proofs.Carrying.{all_in_turn}
 use Rattle.run_model.proofs.Cleaning.{stays_loose}
 use Rattle.run_model.proofs.Counting.{there_too, verdicts_count}
 use Rattle.run_model.proofs.Finishing.{once_filtered}
-use Rattle.run_model.proofs.Names.{each_all, here, nothing_in, there}
-use Rattle.run_model.proofs.Ready.{Below, bound, reached_stands, ready_slot}
+use Rattle.run_model.proofs.Names.{each_all}
+use Rattle.run_model.proofs.Ready.{Below}
 
 pub installed_are_once : SourcesAreSettledOnce → InstalledAreOnce
 installed_are_once law config olds notes b told r = once_filtered (λ n. is_told_installed (slice_get told n)) b.settled (law config olds notes b r).once
 
 -- ---- the next that is ready
 
-later_than : (slots : List Slot) (n m : ℕ) → first_ready slots ≡ Some n → first_ready (changed_at n (λ slot. Closed) slots) ≡ Some m → n < m
+pub later_than : (slots : List Slot) (n m : ℕ) → first_ready slots ≡ Some n → first_ready (changed_at n (λ slot. Closed) slots) ≡ Some m → n < m
 later_than [] n m is is' = absurd (cc)
 later_than (slot ∷ slots) zero m is is' = one (first_ready slots) is'
   where
@@ -138,7 +143,7 @@ installed_follow stand law config olds notes b n settled r ready comes =
     told = λ k. is_told_installed (slice_get (changed_at n given b.verdicts) k)
 
     found : (slot : Slot) × (slice_get b.slots n ≡ Some slot) × (is_ready slot ≡ true)
-    found = ready_slot b.slots n ready
+    found = ready-slot b.slots n ready
 
     never : Contains b.settled n → ⊥
     never is =
@@ -150,7 +155,7 @@ installed_follow stand law config olds notes b n settled r ready comes =
     source : (s : Source) × (slice_get config.sources n ≡ Some s)
     source =
         let p = bound (slice_get b.config.sources n) _ settled comes in
-        let at = reached_stands stand config olds notes b r in
+        let at = reached-stands stand config olds notes b r in
         (p.0, ap (λ (c : Config). slice_get c.sources n) (sym at.config_is) ∙ p.1)
 
     was : (v : Verdict2) × (slice_get b.verdicts n ≡ Some v)
@@ -164,5 +169,5 @@ loose_lists_stay below begun lists files heard commits names begins groups none 
   are = are;
   same = λ name list out. same name list
       ∙ ap (λ (after : Files). after name) (all_in_turn commits lists)
-      ∙ stays_loose below begun heard (all_groups commits) lists name begins.planned groups out (λ removed. nothing_in name (subst (λ (ns : List (List ℕ)). Contains ns name) none removed));
+      ∙ stays_loose below begun heard (all_groups commits) lists name begins.planned groups out (λ removed. none-in name (subst (λ (ns : List (List ℕ)). Contains ns name) none removed));
 }

@@ -9,6 +9,7 @@ use Rattle.acq_outside.specs.Crash.{reads}
 use Rattle.acq_outside.specs.Disk.{Files}
 use Rattle.board_model.specs.Changes.{IsInstalled}
 use Rattle.board_model.specs.Keys.{named}
+use Rattle.board_model.proofs.Making.{none-in, first-or-rest}
 use Rattle.journal_model.specs.Names.{journal}
 use Rattle.journal_model.specs.Reading.{gate_in}
 use Rattle.journal_model.specs.Reopen.{opened}
@@ -16,7 +17,7 @@ use Rattle.journal_model.specs.declared.step.Gate.{Gate}
 use Rattle.journal_model.specs.declared.step.Gate.TheVariants.{Open, Damaged, Shut}
 use Rattle.lists_dir.specs.Installed.{installed_of, listed, lists_of}
 use Rattle.run_model.specs.Beginnings.{InstalledListsBegin, OpenedListsAreAlone}
-use Rattle.run_model.proofs.Names.{each_all, map_in, nothing_in, split}
+use Rattle.run_model.proofs.Names.{each_all, map_in}
 
 -- ---- names of rows
 
@@ -34,8 +35,8 @@ absent files (target ∷ targets) name none = one (files target.name.0) refl (ab
     one (Some bytes) is rest = two bytes is (bytes_eq target.name.0 name) refl rest
 
 present : (files : Files) (targets : List Target) (name bytes : List ℕ) → files name ≡ Some bytes → Contains (map (λ (t : Target). t.name.0) targets) name → named (lists_of files targets) name ≡ Some bytes
-present files [] name bytes is among = absurd (nothing_in name among)
-present files (target ∷ targets) name bytes is among = one (files target.name.0) refl (present files targets name bytes is) (split target.name.0 (map (λ (t : Target). t.name.0) targets) name among)
+present files [] name bytes is among = absurd (none-in name among)
+present files (target ∷ targets) name bytes is among = one (files target.name.0) refl (present files targets name bytes is) (first-or-rest target.name.0 (map (λ (t : Target). t.name.0) targets) name among)
   where
     two : (b : List ℕ) → files target.name.0 ≡ Some b → (c : Bool) → bytes_eq target.name.0 name ≡ c → (Contains (map (λ (t : Target). t.name.0) targets) name → named (lists_of files targets) name ≡ Some bytes)
         → (target.name.0 ≡ name) ⊎ Contains (map (λ (t : Target). t.name.0) targets) name → (if c then Some b else named (lists_of files targets) name) ≡ Some bytes

@@ -10,9 +10,10 @@ use Rattle.journal_model.specs.Names.{is_list, is_partial, journal, lock}
 use Rattle.list_commits.specs.Loose.{kept_of}
 use Rattle.list_commits.specs.SetLaws.{HasListsAlone, LooseNamesAreLoose}
 use Rattle.update_model.specs.Carried.{AreLoose}
+use Rattle.board_model.proofs.Making.{none-in, first-or-rest}
 use Rattle.journal_model.specs.Reopen.{lists as folder_lists}
+use Rattle.list_commits.proofs.Apart.{here, there}
 use Rattle.run_model.specs.Runs.{AreLooseLists}
-use Rattle.run_model.proofs.Names.{here, nothing_in, split, there}
 
 -- what is known of them
 pub record Loose (sources : List Source) (lists : Files) (names : List (List ℕ)) : Type 0 where
@@ -21,14 +22,14 @@ pub record Loose (sources : List Source) (lists : Files) (names : List (List ℕ
   pub exists : (name : List ℕ) → Contains names name → is_list name ≡ true → is_some (lists name) ≡ true
   pub all : (name : List ℕ) → is_some (lists name) ≡ true → Contains names name ⊎ Contains (flat_map names_of sources) name
 
-among : (name : List ℕ) (names : List (List ℕ)) → Contains names name ⊎ (Contains names name → ⊥)
-among name [] = inr (nothing_in name)
+pub among : (name : List ℕ) (names : List (List ℕ)) → Contains names name ⊎ (Contains names name → ⊥)
+among name [] = inr (none-in name)
 among name (other ∷ names) = one (bytes_eq other name) refl (among name names)
   where
     one : (c : Bool) → bytes_eq other name ≡ c → Contains names name ⊎ (Contains names name → ⊥) → Contains (other ∷ names) name ⊎ (Contains (other ∷ names) name → ⊥)
     one true same rest = inl (here other names name ((bytes_eq-Decides other name).0 same))
     one false differ (inl later) = inl (there other names name later)
-    one false differ (inr never) = inr (λ is. ⊎_elim (λ same. let wrong : true ≡ false = sym ((bytes_eq-Decides other name).1 same) ∙ differ in absurd (cc)) never (split other names name is))
+    one false differ (inr never) = inr (λ is. ⊎_elim (λ same. let wrong : true ≡ false = sym ((bytes_eq-Decides other name).1 same) ∙ differ in absurd (cc)) never (first-or-rest other names name is))
 
 list_if : (name : List ℕ) → (name ≡ lock → ⊥) → (name ≡ journal → ⊥) → is_partial name ≡ false → is_list name ≡ true
 list_if name no_lock no_journal whole = one (same_name name journal) (same_name name lock) (is_partial name) refl refl whole

@@ -24,6 +24,7 @@ use Rattle.update_model.specs.declared.log.RunLog.{RunLog}
 use Rattle.update_model.specs.declared.settled.Verdict2.{Verdict2}
 use Rattle.update_model.specs.declared.settled.Verdict2.TheVariants as verdicts
 use Rattle.update_model.specs.declared.settled.Verdict2.TheVariants.{Installed, Hit}
+use Rattle.board_model.proofs.Making.{none-in, first-or-rest}
 use Rattle.run_model.specs.Begun.{Begun, BeginsOver}
 use Rattle.run_model.specs.Coming.{CameTo, LeavesMirrored, mirrored}
 use Rattle.run_model.specs.Groups.{commits_of}
@@ -32,10 +33,10 @@ use Rattle.run_model.specs.Runs.{cleans_up, is_kept}
 use Rattle.run_model.proofs.Always.{has_set, same_verdict, set_of}
 use Rattle.run_model.proofs.Cleaning.{runs_clean_up}
 use Rattle.run_model.proofs.Counting.{there_too, verdicts_count}
-use Rattle.run_model.proofs.Ends.{outcome_admitted, set_admitted}
+use Rattle.run_model.proofs.Ends.{outcome_admitted, set_admitted, ok_once}
 use Rattle.run_model.proofs.Finishing.{Finished, runs_leave_outcomes}
 use Rattle.run_model.proofs.Hearing.{release_is_mirrors}
-use Rattle.run_model.proofs.Names.{each_all, nothing_in, split}
+use Rattle.run_model.proofs.Names.{each_all}
 
 -- what the crates below say of a board that heard a mirror
 pub record Heard : Type 0 where
@@ -47,9 +48,6 @@ pub record Heard : Type 0 where
   pub alike : NextsAreAlike
 
 -- ---- one source
-
-ok_once : (o : Outcome) (a b : Admitted) → o ≡ Ok a → o ≡ Ok b → a ≡ b
-ok_once o a b is is' = let both : Ok a ≡ Ok b = sym is ∙ is' in cc
 
 -- a set that a source came to is the mirror's, where that has one
 same_as_mirrors : Heard → (begun : Begun) (lists : Files) (mirror : Mirror) (heard : List Note) (n : ℕ) (source : Source) (came_to : Outcome) (set mirrors : Admitted)
@@ -129,8 +127,8 @@ runs_are_complete laws together begun lists log commits run mirror n source set 
 -- ---- all sources
 
 get_of : {X : Type 0} (xs : List X) (x : X) → Contains xs x → (n : ℕ) × (slice_get xs n ≡ Some x)
-get_of [] x is = absurd (nothing_in x is)
-get_of (y ∷ ys) x is = ⊎_elim (λ same. (0, ap (λ z. Some z) same)) (λ later. let rest = get_of ys x later in (suc rest.0, rest.1)) (split y ys x is)
+get_of [] x is = absurd (none-in x is)
+get_of (y ∷ ys) x is = ⊎_elim (λ same. (0, ap (λ z. Some z) same)) (λ later. let rest = get_of ys x later in (suc rest.0, rest.1)) (first-or-rest y ys x is)
 
 well : (source : Source) (old : Old) (o : Outcome) (verdict : Verdict2) → verdict ≡ verdict_for source old o → not (is_kept verdict) ≡ is_settled_well o
 well source old (Ok set) verdict is = one (is_there source old set) is

@@ -4,10 +4,11 @@ use Rattle.acq_outside.specs.Crash.{State}
 use Rattle.acq_outside.specs.Disk.{Files}
 use Rattle.acq_outside.specs.Moments.{Each, Since, Stands}
 use Rattle.commit_journal.specs.Changes.{stepped_all}
-use Rattle.commit_journal.specs.Commits.{IsReadyOver, KeepsLists, KeepsOrSteps, ReadyAfter, RestsAfter}
+use Rattle.commit_journal.specs.Commits.{IsReadyOver, KeepsOrSteps, ReadyAfter, RestsAfter}
 use Rattle.commit_journal.specs.Runs.{Commit, HasBegun, rests, waits, prepares, begins, acknowledges}
 use Rattle.journal_model.specs.Reopen.{Leaves, LeavesEither}
 use Rattle.journal_model.specs.Rest.{IsAtRest, IsIdle, KeepsRest, StaysAtRest}
+use Rattle.commit_journal.proofs.Running.{prepared_since}
 use Rattle.run_model.specs.InTurn.{InTurn, CommitsAreInTurn, none, within, behind}
 
 -- ---- moments since another
@@ -70,9 +71,6 @@ leaves_of lists old now since = since_more (IsAtRest lists) (Leaves lists) old n
     one : (t : State) → IsAtRest lists t → Leaves lists t
     one t rest = rest.leaves
 
-prepared_leaves : (lists : Files) (old now : List State) → Stands (IsAtRest lists) old → Since old now (KeepsLists old) → Since old now (Leaves lists)
-prepared_leaves lists old now rest since = since_more (KeepsLists old) (Leaves lists) old now (λ t keeps. keeps lists rest) since
-
 -- ---- in turn
 
 earlier : (commits : List Commit) (lists : Files) (a b : ℕ) (old mid now : List State) → Since old mid (Leaves lists) → InTurn commits lists a b mid now → InTurn commits lists a b old now
@@ -92,11 +90,11 @@ commits_are_in_turn commits lists _ _ _ now rest rests = none (since_none (Leave
 commits_are_in_turn commits lists a b old now rest (waits {mid = mid} idle since moment) =
     let at_rest = stays lists old mid idle rest since in
     earlier commits lists a b old mid now (leaves_of lists old mid at_rest) (commits_are_in_turn commits lists a b mid now (stands_since (IsAtRest lists) old mid rest at_rest) moment)
-commits_are_in_turn commits lists _ _ old now rest (prepares since) = none (prepared_leaves lists old now rest since)
-commits_are_in_turn _ lists _ _ old now rest (begins commit h) = within commit h.prepared (prepared_leaves lists old h.prepared rest h.before) (either commit lists old now rest h)
+commits_are_in_turn commits lists _ _ old now rest (prepares since) = none (prepared_since lists old now rest since)
+commits_are_in_turn _ lists _ _ old now rest (begins commit h) = within commit h.prepared (prepared_since lists old h.prepared rest h.before) (either commit lists old now rest h)
 commits_are_in_turn _ lists _ _ old now rest (acknowledges {commits = commits} {acknowledged = a} {begun = b} {mid = mid} commit h moment) =
     let after : Stands (IsAtRest (stepped_all commit lists)) mid =
     stands_more (RestsAfter h.begun.groups commit h.begun.prepared) (IsAtRest (stepped_all commit lists)) mid (λ s rests_after. rests_after lists (ready commit lists old mid rest h.begun)) h.rests in
-    behind commit h.begun.prepared mid (prepared_leaves lists old h.begun.prepared rest h.begun.before) (either commit lists old mid rest h.begun)
+    behind commit h.begun.prepared mid (prepared_since lists old h.begun.prepared rest h.begun.before) (either commit lists old mid rest h.begun)
     (stands_more (IsAtRest (stepped_all commit lists)) (Leaves (stepped_all commit lists)) mid (λ s r. r.leaves) after)
     (commits_are_in_turn commits (stepped_all commit lists) a b mid now after moment)

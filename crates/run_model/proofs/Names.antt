@@ -1,5 +1,5 @@
 -- Names of a plan's sources, no two of which are one.
-use Rattle.std.proofs.Common.{◌≡◌, ◌≢◌, ◌⊎◌, inl, inr, ⊎_elim, refl, sym, ap, ◌∙◌, subst, arith, ℕ, zero, suc, List, [], ◌∷◌, ◌++◌, map, Contains, AllPairs, Some, option_map}
+use Rattle.std.proofs.Common.{◌≡◌, ◌≢◌, ◌⊎◌, ⊎_elim, refl, sym, ap, ◌∙◌, subst, ℕ, zero, suc, List, [], ◌∷◌, map, Contains, Some, option_map}
 use Rattle.std.specs.Prelude.{slice_get}
 use Rattle.std.specs.List.{flat_map, AllByRecursion as Each}
 use Rattle.std.proofs.lemmas.List.Elements.{Contains-append_left, Contains-append_right}
@@ -11,37 +11,27 @@ use Rattle.acq_base.specs.declared.plan.Target.{Target}
 use Rattle.acq_outside.specs.Disk.{Files}
 use Rattle.board_model.specs.Changes.{IsInstalled}
 use Rattle.board_model.specs.Keys.{named}
-use Rattle.commit_journal.specs.Changes.{IsNone, AreApart}
+use Rattle.commit_journal.specs.Changes.{AreApart}
 use Rattle.release_file.specs.Release.{listed_sum}
 use Rattle.update_model.specs.Next.{Holds, Keeps}
 use Rattle.update_model.specs.Outcomes.{Admitted}
+use Rattle.board_model.proofs.Making.{none-in, first-or-rest}
+use Rattle.list_commits.proofs.Apart.{here, there}
+use Rattle.list_commits.proofs.Recording.{both_apart, right_apart}
 
 -- ---- elements of lists
-
-pub here : {X : Type 0} (x : X) (xs : List X) (y : X) → x ≡ y → Contains (x ∷ xs) y
-here x xs y same = (0, omega arith, same)
-
-pub there : {X : Type 0} (x : X) (xs : List X) (y : X) → Contains xs y → Contains (x ∷ xs) y
-there x xs y is = Contains-append_right (x ∷ []) xs y is
-
-pub split : {X : Type 0} (x : X) (xs : List X) (y : X) → Contains (x ∷ xs) y → (x ≡ y) ⊎ Contains xs y
-split x xs y (zero, low, is) = inl is
-split x xs y (suc k, low, is) = inr (k, omega (arith, low), is)
-
-pub nothing_in : {X : Type 0} (y : X) → Contains [] y → ⊥
-nothing_in y (k, low, is) = absurd (omega (arith, low))
 
 pub each_all : {X : Type 0} (P : X → Type 0) (xs : List X) → ((x : X) → Contains xs x → P x) → Each P xs
 each_all P [] all = tt
 each_all P (x ∷ xs) all = (all x (here x xs x refl), each_all P xs (λ y is. all y (there x xs y is)))
 
 pub each_in : {X : Type 0} (P : X → Type 0) (xs : List X) (x : X) → Each P xs → Contains xs x → P x
-each_in P [] x each is = absurd (nothing_in x is)
-each_in P (y ∷ ys) x each is = ⊎_elim (λ same. subst P same each.0) (λ later. each_in P ys x each.1 later) (split y ys x is)
+each_in P [] x each is = absurd (none-in x is)
+each_in P (y ∷ ys) x each is = ⊎_elim (λ same. subst P same each.0) (λ later. each_in P ys x each.1 later) (first-or-rest y ys x is)
 
 pub map_in : {X Y : Type 0} (f : X → Y) (xs : List X) (x : X) → Contains xs x → Contains (map f xs) (f x)
-map_in f [] x is = absurd (nothing_in x is)
-map_in f (y ∷ ys) x is = ⊎_elim (λ same. here (f y) (map f ys) (f x) (ap f same)) (λ later. there (f y) (map f ys) (f x) (map_in f ys x later)) (split y ys x is)
+map_in f [] x is = absurd (none-in x is)
+map_in f (y ∷ ys) x is = ⊎_elim (λ same. here (f y) (map f ys) (f x) (ap f same)) (λ later. there (f y) (map f ys) (f x) (map_in f ys x later)) (first-or-rest y ys x is)
 
 pub get_in : {X : Type 0} (xs : List X) (n : ℕ) (x : X) → slice_get xs n ≡ Some x → Contains xs x
 get_in [] n x is = absurd (cc)
@@ -49,29 +39,6 @@ get_in (y ∷ ys) zero x is = let same : y ≡ x = cc in here y ys x same
 get_in (y ∷ ys) (suc n) x is = there y ys x (get_in ys n x is)
 
 -- ---- names
-
-not_in : (name : List ℕ) (names : List (List ℕ)) → IsNone name names → Contains names name → ⊥
-not_in name [] none is = nothing_in name is
-not_in name (x ∷ xs) none is = ⊎_elim none.0 (not_in name xs none.1) (split x xs name is)
-
-none_if : (name : List ℕ) (names : List (List ℕ)) → (Contains names name → ⊥) → IsNone name names
-none_if name [] never = tt
-none_if name (x ∷ xs) never = (λ same. never (here x xs name same), none_if name xs (λ is. never (there x xs name is)))
-
-pub apart_of : (names : List (List ℕ)) → AllPairs (λ a b. a ≢ b) names → AreApart names
-apart_of [] all = tt
-apart_of (x ∷ xs) all = (none_if x xs (λ is. all 0 (suc is.0) x (omega arith) (omega (arith, is.1)) (sym is.2)), apart_of xs (λ i j d low high. all (suc i) (suc j) d (omega (arith, low)) (omega (arith, high))))
-
-apart_front : (xs ys : List (List ℕ)) (name : List ℕ) → AreApart (xs ++ ys) → Contains xs name → Contains ys name → ⊥
-apart_front [] ys name apart first second = nothing_in name first
-apart_front (x ∷ xs) ys name apart first second = ⊎_elim
-    (λ same. not_in x (xs ++ ys) apart.0 (subst (λ (n : List ℕ). Contains (xs ++ ys) n) (sym same) (Contains-append_right xs ys name second)))
-    (λ later. apart_front xs ys name apart.1 later second)
-    (split x xs name first)
-
-apart_behind : (xs ys : List (List ℕ)) → AreApart (xs ++ ys) → AreApart ys
-apart_behind [] ys apart = apart
-apart_behind (x ∷ xs) ys apart = apart_behind xs ys apart.1
 
 pub in_plan : (sources : List Source) (n : ℕ) (source : Source) (name : List ℕ) → slice_get sources n ≡ Some source → Contains (names_of source) name → Contains (flat_map names_of sources) name
 in_plan [] n source name is within = absurd (cc)
@@ -86,12 +53,12 @@ sources_apart [] n m source other name apart is is' differ within within' = absu
 sources_apart (s ∷ sources) zero zero source other name apart is is' differ within within' = differ refl
 sources_apart (s ∷ sources) zero (suc m) source other name apart is is' differ within within' =
     let same : s ≡ source = cc in
-    apart_front (names_of s) (flat_map names_of sources) name apart (subst (λ (x : Source). Contains (names_of x) name) (sym same) within) (in_plan sources m other name is' within')
+    both_apart (names_of s) (flat_map names_of sources) name apart (subst (λ (x : Source). Contains (names_of x) name) (sym same) within) (in_plan sources m other name is' within')
 sources_apart (s ∷ sources) (suc n) zero source other name apart is is' differ within within' =
     let same : s ≡ other = cc in
-    apart_front (names_of s) (flat_map names_of sources) name apart (subst (λ (x : Source). Contains (names_of x) name) (sym same) within') (in_plan sources n source name is within)
+    both_apart (names_of s) (flat_map names_of sources) name apart (subst (λ (x : Source). Contains (names_of x) name) (sym same) within') (in_plan sources n source name is within)
 sources_apart (s ∷ sources) (suc n) (suc m) source other name apart is is' differ within within' =
-    sources_apart sources n m source other name (apart_behind (names_of s) (flat_map names_of sources) apart) is is' (λ same. differ (ap suc same)) within within'
+    sources_apart sources n m source other name (right_apart (names_of s) (flat_map names_of sources) apart) is is' (λ same. differ (ap suc same)) within within'
 
 -- ---- what lies under the names of a source
 

@@ -1,7 +1,6 @@
 -- A source as it is settled: its changes, and the outcome that they leave.
-use Rattle.std.proofs.Common.{◌≡◌, inl, inr, refl, sym, ap, ◌∙◌, subst, arith, ℕ, suc, ◌+◌, Bool, true, false, List, [], ◌∷◌, Option, Some, None, Ok, Err}
-use Rattle.std.specs.Prelude.{if◌then◌else◌, option_map, slice_get}
-use Rattle.std.proofs.lemmas.Bool.{cases_Bool}
+use Rattle.std.proofs.Common.{◌≡◌, inl, inr, refl, sym, ap, ◌∙◌, subst, ℕ, Bool, true, false, List, [], Some, Ok, Err}
+use Rattle.std.specs.Prelude.{if◌then◌else◌, slice_get}
 use Rattle.acq_base.specs.Plan.{IsPlanned}
 use Rattle.acq_base.specs.declared.installed.Old.{Old}
 use Rattle.acq_base.specs.declared.plan.Source.{Source}
@@ -15,14 +14,16 @@ use Rattle.board_model.specs.Runs.{Note}
 use Rattle.board_model.specs.SetLaws.{ChangesLeaveOutcomes, TouchedAreApart, TouchedAreOwn}
 use Rattle.board_model.specs.Settling.{held_of, settled_in}
 use Rattle.board_model.specs.Slots.{Config, Slot, is_ready, is_there}
-use Rattle.board_model.specs.Stands.{AllStand, History, IsOpen, SourceStands, StandsAt, history_of}
+use Rattle.board_model.specs.Stands.{History, IsOpen, SourceStands, StandsAt, history_of}
 use Rattle.list_commits.specs.SetLaws.{ChangesMakeSets, HasPutNames, LooseNamesAreLoose, OwnsChanges}
-use Rattle.update_model.specs.Obtained.{◌>>=◌}
 use Rattle.update_model.specs.Outcomes.{Admitted, Outcome, Older, Kept}
 use Rattle.update_model.specs.declared.settled.Held.{Held}
 use Rattle.update_model.specs.declared.settled.Settled.{Settled}
 use Rattle.update_model.specs.declared.settled.Verdict2.{Verdict2}
 use Rattle.update_model.specs.declared.settled.Verdict2.TheVariants.{Installed, Hit}
+use Rattle.board_model.proofs.Places.{bound}
+use Rattle.board_model.proofs.Events.{ready-slot}
+use Rattle.board_bounds.proofs.Asking.{reached-stands}
 
 -- what the crates below say of a source that is settled
 pub record Below : Type 0 where
@@ -39,29 +40,7 @@ pub record Below : Type 0 where
 
 -- ---- a source that is ready
 
-pub ready_slot : (slots : List Slot) (n : ℕ) → first_ready slots ≡ Some n → (slot : Slot) × (slice_get slots n ≡ Some slot) × (is_ready slot ≡ true)
-ready_slot [] n e = absurd (cc)
-ready_slot (slot ∷ slots) n e = elim (cases_Bool (is_ready slot)) [
-  | inl is ↦
-      let zero_is : Some 0 ≡ Some n = rw is at e in
-      let same : 0 ≡ n = cc in
-      (slot, ap (λ (k : ℕ). slice_get (slot ∷ slots) k) (sym same), is)
-  | inr isnt ↦ later (ready_slot slots) (first_ready slots) refl (rw isnt at e)
-]
-  where
-    later : ((k : ℕ) → first_ready slots ≡ Some k → (s : Slot) × (slice_get slots k ≡ Some s) × (is_ready s ≡ true)) → (o : Option ℕ) → first_ready slots ≡ o → option_map (λ k. k + 1) o ≡ Some n
-        → (s : Slot) × (slice_get (slot ∷ slots) n ≡ Some s) × (is_ready s ≡ true)
-    later find None is e = absurd (cc)
-    later find (Some k) is e =
-        let found = find k is in
-        let same : suc k ≡ n = let q : k + 1 ≡ n = cc in omega arith in
-        (found.0, ap (λ (m : ℕ). slice_get (slot ∷ slots) m) (sym same) ∙ found.1, found.2)
-
-pub bound : {A B : Type 0} (o : Option A) (f : A → Option B) (b : B) → (o >>= f) ≡ Some b → (a : A) × (o ≡ Some a) × (f a ≡ Some b)
-bound None f b e = absurd (cc)
-bound (Some a) f b e = (a, refl, e)
-
-still_open : (config : Config) (n : ℕ) (source : Source) (old : Old) (slot : Slot) (verdict : Verdict2) (history : History) → SourceStands config n source old slot verdict history → is_ready slot ≡ true
+pub still_open : (config : Config) (n : ℕ) (source : Source) (old : Old) (slot : Slot) (verdict : Verdict2) (history : History) → SourceStands config n source old slot verdict history → is_ready slot ≡ true
     → IsOpen config n source old slot history
 still_open config n source old slot verdict history (inl h) ready = h
 still_open config n source old slot verdict history (inr h) ready = let none : false ≡ true = subst (λ (s : Slot). is_ready s ≡ true) h.0 ready in absurd (cc)
@@ -72,16 +51,12 @@ pub record WasReady (config : Config) (n : ℕ) (source : Source) (old : Old) (n
   pub ready : is_ready slot ≡ true
   pub comes_to : settled_in source slot ≡ Some settled
 
-pub reached_stands : BoardsStand → (config : Config) (olds : List Old) (notes : List Note) (b : Board) (r : Reached config olds notes b)
-    → AllStand config olds (record { board = b; jobs = r.jobs; queue = []; notes = notes })
-reached_stands stand config olds notes b r = subst (AllStand config olds) r.leads (stand config olds r.lanes r.events)
-
 pub was_ready : BoardsStand → (config : Config) (olds : List Old) (notes : List Note) (b : Board) (n : ℕ) (source : Source) (old : Old) (settled : Settled)
     → Reached config olds notes b → first_ready b.slots ≡ Some n → settled_of b n ≡ Some settled → IsSourceAt config olds n source old → WasReady config n source old notes settled
 was_ready law config olds notes b n source old settled r ready is at =
-    let stand = reached_stands law config olds notes b r in
+    let stand = reached-stands law config olds notes b r in
     let s : StandsAt config n source old (record { board = b; jobs = r.jobs; queue = []; notes = notes }) = stand.sources n source old at.source_is at.old_is in
-    let x = ready_slot b.slots n ready in
+    let x = ready-slot b.slots n ready in
     let slot_both : Some x.0 ≡ Some s.slot = sym x.1 ∙ s.slot_is in
     let slot_same : x.0 ≡ s.slot = cc in
     let is_ready_slot : is_ready s.slot ≡ true = subst (λ (y : Slot). is_ready y ≡ true) slot_same x.2 in

@@ -2,6 +2,7 @@
 use Rattle.std.proofs.Common.{◌≡◌, inr, ◌∙◌, ⊎_elim, refl, sym, ap, subst, ℕ, Bool, true, false, List, [], ◌∷◌, map, Contains, None}
 use Rattle.std.specs.Prelude.{◌&&◌, ◌||◌, filter, if◌then◌else◌, is_some, not}
 use Rattle.std.specs.List.{flat_map}
+use Rattle.std.proofs.lemmas.Bool.{not-true}
 use Rattle.acq_base.specs.Plan.{names_of}
 use Rattle.acq_base.specs.declared.uri.ListName.{ListName}
 use Rattle.acq_outside.specs.Disk.{Files, same_name}
@@ -9,35 +10,17 @@ use Rattle.journal_model.specs.Names.{is_list, is_partial, journal, lock}
 use Rattle.list_commits.specs.Loose.{removed_names}
 use Rattle.list_commits.specs.Made.{after_all}
 use Rattle.update_model.specs.declared.log.RunLog.{RunLog}
+use Rattle.board_model.proofs.Making.{none-in}
+use Rattle.list_commits.proofs.Sorting.{in_names, stays_in}
 use Rattle.run_model.specs.Begun.{Begun}
 use Rattle.run_model.specs.Groups.{all_groups, commits_of, removed_in}
 use Rattle.run_model.specs.Laws.{RunsHaveBegun, RunsTellRemoved}
 use Rattle.run_model.specs.Runs.{Cleans, MayHaveBegun, cleans_up}
 use Rattle.run_model.proofs.Cleaning.{cleans_told, runs_clean_up}
 use Rattle.run_model.proofs.Loose.{loose_of}
-use Rattle.run_model.proofs.Names.{here, nothing_in, split, there}
 use Rattle.run_model.proofs.Ready.{Below}
 
 -- ---- filtered names
-
-kept_in : (p : List ℕ → Bool) (names : List (List ℕ)) (name : List ℕ) → p name ≡ true → Contains names name → Contains (filter p names) name
-kept_in p [] name passes is = absurd (nothing_in name is)
-kept_in p (other ∷ names) name passes is = one (p other) refl (kept_in p names name passes)
-  where
-    one : (c : Bool) → p other ≡ c → (Contains names name → Contains (filter p names) name) → Contains (if c then other ∷ filter p names else filter p names) name
-    one true passes' rest = ⊎_elim (here other (filter p names) name) (λ later. there other (filter p names) name (rest later)) (split other names name is)
-    one false fails rest = ⊎_elim (λ same. let wrong : true ≡ false = sym passes ∙ ap p (sym same) ∙ fails in absurd (cc)) rest (split other names name is)
-
-kept_from : (p : List ℕ → Bool) (names : List (List ℕ)) (name : List ℕ) → Contains (filter p names) name → Contains names name × (p name ≡ true)
-kept_from p [] name is = absurd (nothing_in name is)
-kept_from p (other ∷ names) name is = one (p other) refl (kept_from p names name) is
-  where
-    one : (c : Bool) → p other ≡ c → (Contains (filter p names) name → Contains names name × (p name ≡ true)) → Contains (if c then other ∷ filter p names else filter p names) name → Contains (other ∷ names) name × (p name ≡ true)
-    one true passes rest is = ⊎_elim
-        (λ same. (here other names name same, ap p (sym same) ∙ passes))
-        (λ later. let found = rest later in (there other names name found.0, found.1))
-        (split other (filter p names) name is)
-    one false fails rest is = let found = rest is in (there other names name found.0, found.1)
 
 told_names : (names : List (List ℕ)) → map (λ (n : ListName). n.0) (removed_names names) ≡ filter (λ name. not (is_partial name)) names
 told_names names = again (filter (λ name. not (is_partial name)) names)
@@ -45,10 +28,6 @@ told_names names = again (filter (λ name. not (is_partial name)) names)
     again : (xs : List (List ℕ)) → map (λ (n : ListName). n.0) (map (λ (x : List ℕ). record { 0 = x }) xs) ≡ xs
     again [] = refl
     again (x ∷ xs) = ap (λ ys. x ∷ ys) (again xs)
-
-not_true : (b : Bool) → not b ≡ true → b ≡ false
-not_true true is = absurd (cc)
-not_true false is = refl
 
 list_is_whole : (name : List ℕ) → is_list name ≡ true → not (is_partial name) ≡ true
 list_is_whole name list = one (same_name name journal) (same_name name lock) (is_partial name) list
@@ -81,12 +60,12 @@ runs_tell_removed below together begun lists log commits name begins run = (tell
         let loose = loose_of below.loose begun.config.sources lists removed begins.alone cleans in
         let out = loose.apart name among in
         (loose.exists name among (loose.listed name among no_part), left true is out, out)
-    from false is none among no_part = absurd (nothing_in name (subst (λ (ns : List (List ℕ)). Contains ns name) none among))
+    from false is none among no_part = absurd (none-in name (subst (λ (ns : List (List ℕ)). Contains ns name) none among))
 
     tells : Contains (map (λ (n : ListName). n.0) log.removed) name → IsGone begun lists (after_all (commits_of commits) lists) name
     tells is =
-        let found = kept_from (λ n. not (is_partial n)) removed name (subst (λ (ns : List (List ℕ)). Contains ns name) told_is is) in
-        from (cleans_up begun.config.settings run.board.verdicts) refl run.all.cleans found.0 (not_true (is_partial name) found.1)
+        let found = in_names (λ n. not (is_partial n)) removed name (subst (λ (ns : List (List ℕ)). Contains ns name) told_is is) in
+        from (cleans_up begun.config.settings run.board.verdicts) refl run.all.cleans found.0 (not-true (is_partial name) found.1)
 
     listed : (t : Bool) → is_list name ≡ t → is_some (lists name) ≡ true → is_list name ≡ true
     listed true is some = is
@@ -104,7 +83,7 @@ runs_tell_removed below together begun lists log commits name begins run = (tell
     told : IsGone begun lists (after_all (commits_of commits) lists) name → Contains (map (λ (n : ListName). n.0) log.removed) name
     told gone =
         subst (λ (ns : List (List ℕ)). Contains ns name) (sym told_is)
-        (kept_in (λ n. not (is_partial n)) removed name (list_is_whole name (listed (is_list name) refl gone.0))
+        (stays_in (λ n. not (is_partial n)) removed name (list_is_whole name (listed (is_list name) refl gone.0))
         (to (cleans_up begun.config.settings run.board.verdicts) refl run.all.cleans gone))
 
 -- ---- a run that has ended has begun

@@ -19,7 +19,7 @@ use Rattle.update_model.specs.declared.settled.Settled.{Settled}
 use Rattle.update_model.specs.declared.settled.Verdict2.{Verdict2}
 use Rattle.update_model.specs.declared.settled.Verdict2.TheVariants.{Installed}
 use Rattle.run_model.specs.Coming.{outcome_at}
-use Rattle.run_model.proofs.Ends.{set_admitted}
+use Rattle.run_model.proofs.Ends.{set_admitted, ok_once}
 use Rattle.run_model.proofs.Ready.{Below, WasReady, installed_set}
 
 -- a source that is settled with a new set came to it, and its changes leave it
@@ -43,9 +43,6 @@ all_there source set there lists (Err why) settled held is installs =
 over_same : (p : Point) (end end' : End) → p ≡ Over end → p ≡ Over end' → end ≡ end'
 over_same p end end' is is' = let both : Over end ≡ Over end' = sym is ∙ is' in cc
 
-ok_same : (o : Result Admitted Staying) (a b : Admitted) → o ≡ Ok a → o ≡ Ok b → a ≡ b
-ok_same o a b is is' = let both : Ok a ≡ Ok b = sym is ∙ is' in cc
-
 listed_set : Below → (config : Config) (n : ℕ) (source : Source) (old : Old) (notes : List Note) (settled : Settled) (held : Held) (before after : Files) (set : Admitted) (there : Bool) (lists : List (Option Standing))
     → IsOpen config n source old (Listing set there lists) (history_of n notes) → is_ready (Listing set there lists) ≡ true → settled_in source (Listing set there lists) ≡ Some settled
     → settled.verdict ≡ Installed held → IsPlanned source → IsInstalled source old before → AreMade source settled before after
@@ -59,7 +56,7 @@ listed_set below config n source old notes settled held before after set there l
     let ended : came.end ≡ comes.end = over_same _ came.end comes.end came.ends comes.release.ends in
     let first : admitted comes.end old.release config.settings config.change config.now ≡ Ok set =
     subst (λ (e : End). admitted e old.release config.settings config.change config.now ≡ Ok set) ended came.came_to in
-    let same : found.0 ≡ set = ok_same (admitted comes.end old.release config.settings config.change config.now) found.0 set (set_admitted config old comes.end comes.lists found.0 found.1) first in
+    let same : found.0 ≡ set = ok_once (admitted comes.end old.release config.settings config.change config.now) found.0 set (set_admitted config old comes.end comes.lists found.0 found.1) first in
     record {
       set = set;
       comes = comes;

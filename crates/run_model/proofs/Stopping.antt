@@ -13,15 +13,17 @@ use Rattle.board_model.specs.Runs.{Note}
 use Rattle.commit_journal.specs.Changes.{Filled, folder_steps, stepped_all}
 use Rattle.commit_journal.specs.Runs.{Commit, LeavesFirst, IsWholeNow, IsWholeSince, Moment, after_first}
 use Rattle.update_model.specs.Next.{Keeps}
+use Rattle.board_model.proofs.Making.{none-in, first-or-rest}
+use Rattle.list_commits.proofs.Apart.{here, there, apart_of}
 use Rattle.run_model.specs.Begun.{Begun, BeginsOver}
 use Rattle.run_model.specs.Coming.{HasNewSet, LeavesWhole, SourcesAreWhole}
-use Rattle.run_model.specs.Groups.{Group, OfSource, OfNone, AreGroups, IsNewSet, IsSettledAs, all_groups, changes_in, commit_of, commits_of, sources_in}
+use Rattle.run_model.specs.Groups.{Group, OfSource, OfNone, AreGroups, IsNewSet, IsSettledAs, all_groups, commit_of, commits_of, sources_in}
 use Rattle.run_model.specs.Laws.{CommitsLeaveWhole, CrashesLeaveWhole, GroupsMakeSets, GroupsStay}
 use Rattle.run_model.specs.Runs.{AreAll, HasBegun, MayHaveBegun, installed_by, is_told_installed}
-use Rattle.run_model.proofs.Carrying.{HasGroup, after_groups, has_group, is_made, kept, stepped}
+use Rattle.run_model.proofs.Carrying.{HasGroup, after_groups, has_group, is_made, kept, stepped, after_both}
 use Rattle.run_model.proofs.Finishing.{once_filtered}
 use Rattle.run_model.proofs.Moments.{since_more, stands_more}
-use Rattle.run_model.proofs.Names.{each_in, SameUnder, apart_of, here, holds_moved, installed_moved, keeps_same, nothing_in, split, there}
+use Rattle.run_model.proofs.Names.{each_in, SameUnder, holds_moved, installed_moved, keeps_same}
 use Rattle.run_model.proofs.Ready.{Below}
 use Rattle.run_model.proofs.Setting.{LeavesSet, leaves_set}
 
@@ -67,7 +69,7 @@ first_groups begun heard [] later are = tt
 first_groups begun heard (OfSource n changes ∷ first) later are = (are.0, first_groups begun heard first later are.1)
 first_groups begun heard (OfNone names ∷ first) later are = (are.0, nothing_before first later are.1)
 
-sources_of_both : (first later : List Group) → sources_in (first ++ later) ≡ sources_in first ++ sources_in later
+pub sources_of_both : (first later : List Group) → sources_in (first ++ later) ≡ sources_in first ++ sources_in later
 sources_of_both [] later = refl
 sources_of_both (OfSource n changes ∷ first) later = ap (λ (ns : List ℕ). n ∷ ns) (sources_of_both first later)
 sources_of_both (OfNone names ∷ first) later = sources_of_both first later
@@ -86,27 +88,23 @@ first_and_rest (suc count) [] = refl
 first_and_rest (suc count) (groups ∷ commits) =
     ap (λ (gs : List Group). groups ++ gs) (first_and_rest count commits) ∙ sym (append_assoc groups (all_groups (take count commits)) (all_groups (drop count commits)))
 
-after_more : (first later : List Group) (lists : Files) → after_groups (first ++ later) lists ≡ after_groups later (after_groups first lists)
-after_more [] later lists = refl
-after_more (group ∷ first) later lists = after_more first later (folder_steps (changes_in group) lists)
-
 first_in_turn : (count : ℕ) (commits : List (List Group)) (lists : Files) → after_first count (commits_of commits) lists ≡ after_groups (all_groups (take count commits)) lists
 first_in_turn zero commits lists = refl
 first_in_turn (suc count) [] lists = refl
 first_in_turn (suc count) (groups ∷ commits) lists =
     first_in_turn count commits (stepped_all (commit_of groups) lists)
     ∙ ap (after_groups (all_groups (take count commits))) (stepped groups lists)
-    ∙ sym (after_more groups (all_groups (take count commits)) lists)
+    ∙ sym (after_both groups (all_groups (take count commits)) lists)
 
 -- ---- each source
 
 among : (n : ℕ) (ns : List ℕ) → Contains ns n ⊎ (Contains ns n → ⊥)
-among n [] = inr (nothing_in n)
+among n [] = inr (none-in n)
 among n (m ∷ ns) = elim (cases_eq m n) [
   | inl same ↦ inl (here m ns n same)
   | inr differ ↦ elim (among n ns) [
     | inl later ↦ inl (there m ns n later)
-    | inr never ↦ inr (λ is. ⊎_elim differ never (split m ns n is))
+    | inr never ↦ inr (λ is. ⊎_elim differ never (first-or-rest m ns n is))
   ]
 ]
 

@@ -1,5 +1,5 @@
 -- A run in which no method failed gave no ask up, and so leaves what its mirror's answers define.
-use Rattle.std.proofs.Common.{◌≡◌, ◌⊎◌, ◌≤◌, ◌<◌, ◌==◌, ℕ, suc, Bool, zero, if◌then◌else◌, true, false, List, [], ◌∷◌, length, Option, Some, None, refl, sym, arith, inl, inr, rules}
+use Rattle.std.proofs.Common.{◌≡◌, ◌⊎◌, ◌≤◌, ◌<◌, ◌==◌, ℕ, suc, Bool, zero, if◌then◌else◌, true, false, List, [], ◌∷◌, length, Option, Some, None, refl, sym, arith, inl, inr}
 use Rattle.std.specs.Prelude.{slice_get}
 use Rattle.std.specs.List.{AllByRecursion as Each}
 use Rattle.acq_base.specs.Mirror.{World as Mirror}
@@ -30,6 +30,8 @@ use Rattle.update_model.specs.declared.log.Asked.{Asked}
 use Rattle.update_model.specs.declared.log.Heard.{Heard}
 use Rattle.update_model.specs.declared.log.Heard.TheVariants.{Absent, Fault, Garbled, Moved, Served, TooBig}
 use Rattle.update_model.specs.declared.log.RunLog.{RunLog}
+use Rattle.run_jobs.proofs.OneJob.{same_number}
+use Rattle.run_jobs.proofs.Telling.{counts_rise}
 use Rattle.run_promises.specs.Promise.{NewSetsAreOf, EndsAsServed, ReadsLists, RunsEndAsServed, RunsEndAsTold, RunsStopWithSets, SomeRose, StopsWithSets}
 
 -- ---- faults that are told, and counts
@@ -46,18 +48,6 @@ IsQuiet (Fault before after) = ⊥
 abbrev AreQuiet : List Asked → Type 0
 AreQuiet [] = Unit {0}
 AreQuiet (e ∷ entries) = IsQuiet e.heard × AreQuiet entries
-
-rises : (first last : ℕ) (entries : List Asked) → CountsUp first last entries → first ≤ last
-rises first last [] counts = counts
-rises first last (e ∷ entries) counts = by e.heard (λ count on. rises count last entries on) counts
-  where
-    by : (heard : Heard) → ((count : ℕ) → CountsUp count last entries → count ≤ last) → CountsOn heard first (λ count. CountsUp count last entries) → first ≤ last
-    by (Served sum) more c = more first c
-    by (Moved place) more c = more first c
-    by (Absent status) more c = more first c
-    by TooBig more c = more first c
-    by (Garbled at) more c = more first c
-    by (Fault before after) more c = let up = more after c.3 in omega (arith, c.0, c.2, up)
 
 rose : (first before after last : ℕ) → first ≤ before → Rose before after → after ≤ last → Rose first last
 rose first before after last low (inl less) high = inl (omega (arith, low, less, high))
@@ -79,7 +69,7 @@ quiet_or_rose first last (e ∷ entries) counts = by e.heard (λ count on. quiet
     by (Absent status) more c = with_one (more first c)
     by TooBig more c = with_one (more first c)
     by (Garbled at) more c = with_one (more first c)
-    by (Fault before after) more c = inr (rose first before after last c.0 c.1 (rises after last entries c.3))
+    by (Fault before after) more c = inr (rose first before after last c.0 c.1 (counts_rise after last entries c.3))
 
 -- each method told no fault, or some count rose
 all_quiet : (before after : List ℕ) (told : ℕ → List Asked) → NoneFell before after
@@ -101,14 +91,11 @@ all_quiet (b ∷ befores) (a ∷ afters) told same counts =
     join (inl first) (inr risen) = inr (inr risen)
     join (inl first) (inl others) = inl (at first others)
 
-same_lane : (lane : ℕ) → (lane == lane) ≡ true
-same_lane lane = search rules
-
 -- where each lane is one of the methods', no entry tells a fault
 quiet_entries : (count : ℕ) (asks : List Asked) → Each (λ e. e.lane < count) asks → ((lane : ℕ) → lane < count → AreQuiet (asks_of_lane lane asks)) → AreQuiet asks
 quiet_entries count [] lanes quiet = tt
 quiet_entries count (e ∷ asks) lanes quiet =
-    (front (e.lane == e.lane) (same_lane e.lane) (quiet e.lane lanes.0), quiet_entries count asks lanes.1 (λ lane less. behind lane (e.lane == lane) (quiet lane less)))
+    (front (e.lane == e.lane) (same_number e.lane) (quiet e.lane lanes.0), quiet_entries count asks lanes.1 (λ lane less. behind lane (e.lane == lane) (quiet lane less)))
   where
     front : (same : Bool) → same ≡ true → AreQuiet (if same then e ∷ asks_of_lane e.lane asks else asks_of_lane e.lane asks) → IsQuiet e.heard
     front true is both = both.0

@@ -14,7 +14,7 @@ use Rattle.board_model.specs.Boards.{Board, first_ready, settled_as, settled_of}
 use Rattle.board_model.specs.NameLaws.{AreNamedApart, RestsOn}
 use Rattle.board_model.specs.Runs.{Note}
 use Rattle.board_model.specs.Slots.{Config}
-use Rattle.board_model.specs.Uses.{Free, PartUse, Resumes, Whole, rests}
+use Rattle.board_model.specs.Uses.{Free, PartUse, rests}
 use Rattle.commit_journal.specs.Changes.{AreAllStaged, CanRecord, Filled, IsNone, filled, filled_all, touched_all}
 use Rattle.commit_journal.specs.Commits.{KeepsUnnamed}
 use Rattle.commit_journal.specs.Runs.{Commit, HasBegun as BegunCommit, HasCommitted, Moment}
@@ -36,11 +36,18 @@ use Rattle.update_model.specs.declared.ask.Body.TheVariants.{Bytes, Staged}
 use Rattle.update_model.specs.declared.settled.Held.{Held}
 use Rattle.update_model.specs.declared.settled.Settled.{Settled}
 use Rattle.update_model.specs.declared.settled.Verdict2.{Verdict2}
-use Rattle.update_model.specs.declared.settled.Verdict2.TheVariants.{Installed, Hit, Older, Kept}
+use Rattle.update_model.specs.declared.settled.Verdict2.TheVariants.{Installed}
+use Rattle.board_model.proofs.Making.{none-in}
+use Rattle.journal_model.proofs.Views.{partial_apart, partial_not_journal}
+use Rattle.commit_journal.proofs.Prepares.{settled_at}
+use Rattle.board_bounds.proofs.Walking.{at_all}
+use Rattle.run_model.proofs.Loose.{among}
+use Rattle.run_model.proofs.Names.{in_plan}
+use Rattle.run_model.proofs.Finishing.{is_held}
+use Rattle.run_jobs.proofs.Keeping.{stays_holds, no_time, told_back}
 use Rattle.update_engine.specs.Known.{Committing}
 use Rattle.update_engine.specs.Session.{GoesAside, HasCommittedSets, IsAtMoment, IsOneSet, IsStanding, StopsAside, begun_of, installed_in}
-use Rattle.update_engine.proofs.Lists.{among, at_all, in_plan, nothing_in}
-use Rattle.update_engine.proofs.Naming.{partial_apart, partial_other, release_free, which_name}
+use Rattle.update_engine.proofs.Naming.{release_free, which_name}
 use Rattle.update_engine.proofs.OnBoards.{as_open, heard_settled, is_of, owns, told_more, under_settled, uses_settled}
 
 -- a source comes to a new set, of a run that is under way
@@ -128,15 +135,6 @@ have_sums laws start notes count b n settled now told s = sums_puts (rests b) st
 
 -- ---- what is wanted of lists on their way is there behind it
 
-pub back_since : (P : State → Type 0) (old now : List State) → Since old now P → IsTold now → IsTold old
-back_since P [] now since told = rw (since.untold refl) at told
-back_since P (s ∷ past) now since told = tt
-
-stays_holds : (wanted : PartUse) (name first : List ℕ) (old now : List State) → part_file now name ≡ part_file old name → HoldsUse wanted name first old → HoldsUse wanted name first now
-stays_holds (Resumes size) name first old now same holds = record { front = rw same holds.front; within = rw same holds.within }
-stays_holds (Whole sum) name first old now same holds = record { bytes = holds.bytes; file = same ∙ holds.file; sums = holds.sums }
-stays_holds Free name first old now same holds = tt
-
 holds_free : (wanted : PartUse) (name first : List ℕ) (now : List State) → wanted ≡ Free → HoldsUse wanted name first now
 holds_free wanted name first now e = rw e tt
 
@@ -147,7 +145,7 @@ unnamed laws start b n settled c name out =
     laws.others start.config.sources ((c.source, settled) ∷ []) None (partial name) c.gathered
     (λ is. laws.other_names c.source c.planned (partial name) name (subst (λ (ns : List (List ℕ)). Contains ns (partial name)) names is) refl)
     (λ other is. partial_apart other name (λ same. out (subst (λ (x : List ℕ). Contains (names_of c.source) x) same (subst (λ (ns : List (List ℕ)). Contains ns other) names is))))
-    (nothing_in (partial name))
+    (none-in (partial name))
 
 -- and nothing is wanted of those of this one
 own_free : Committing → (start : Start) (b : Board) (n : ℕ) (settled : Settled) (c : IsChanging start b n settled) (name : List ℕ) → AreNamedApart b.config → settled_of b n ≡ Some settled → Contains (names_of c.source) name
@@ -166,7 +164,7 @@ uses_committed laws start notes count b n settled old now s c back keeps = recor
 
     one : (name : List ℕ) → IsTold now → Contains (names_of c.source) name ⊎ (Contains (names_of c.source) name → ⊥) → HoldsUse (rests (settled_as b n settled.verdict) name) name (start.parts name) now
     one name told (inl within) = holds_free (rests (settled_as b n settled.verdict) name) name (start.parts name) now (own_free laws start b n settled c name apart s.comes within)
-    one name told (inr out) = stays_holds (rests (settled_as b n settled.verdict) name) name (start.parts name) old now (keeps (partial name) (partial_other name) (unnamed laws start b n settled c name out))
+    one name told (inr out) = stays_holds (rests (settled_as b n settled.verdict) name) name (start.parts name) old now (keeps (partial name) (partial_not_journal name) (unnamed laws start b n settled c name out))
         ((uses_settled laws.settling b n settled.verdict start.parts old s.under.uses).each name (back told))
 
 pub under_committed : Committing → (start : Start) (notes : List Note) (count : ℕ) (b : Board) (n : ℕ) (settled : Settled) (old now : List State) → IsSettling start notes count b n settled old → (c : IsChanging start b n settled)
@@ -256,13 +254,9 @@ sets_committed laws start notes count opened b n settled old now held s c instal
 
 -- ---- a stop
 
-settled_rest : (lists : Files) (trace : List State) → Stands (IsAtRest lists) trace → Stands IsSettled trace
-settled_rest lists [] rest = tt
-settled_rest lists (s ∷ past) rest = rest.settled
-
 -- the disk was settled behind the commits that were made
 pub settled_made : Committing → (commits : List Commit) (lists : Files) (opened now : List State) → Made commits opened now → Stands (IsAtRest lists) opened → Stands IsSettled now
-settled_made laws commits lists opened now made rest = settled_rest (after_all commits lists) now (laws.leaves commits lists opened now made rest)
+settled_made laws commits lists opened now made rest = settled_at (after_all commits lists) now (laws.leaves commits lists opened now made rest)
 
 pub none_removed : (commits : List (List Group)) → Each IsOneSet commits → removed_in (all_groups commits) ≡ []
 none_removed [] each = refl
@@ -332,9 +326,6 @@ told_on P (s ∷ past) now since told = by since.states since.joined
     by [] joined = rw joined tt
     by (t ∷ states) joined = rw joined tt
 
-pub no_time : (P : State → Type 0) (now : List State) → Since now now P
-no_time P now = record { states = []; joined = refl; untold = λ e. e; each = tt }
-
 -- no new set was there
 pub goes_settled : Committing → (b c : Board) (n : ℕ) (settled : Settled) (now : List State) → first_ready b.slots ≡ Some n → settled_of b n ≡ Some settled → c ≡ settled_as b n settled.verdict → is_installed settled.verdict ≡ false
     → GoesAside b c now now
@@ -356,12 +347,6 @@ goes_settled laws b c n settled now ready comes same none_new = subst (λ (x : B
         let c = changing laws start notes count b n settled now s in
         told_installed laws start notes count b n settled now s c ∙ ap (λ (t : Bool). installed_in b ++ (if t then n ∷ [] else [])) none_new ∙ append-nil (installed_in b)
 
-pub is_held : (verdict : Verdict2) → is_installed verdict ≡ true → (held : Held) × (verdict ≡ Installed held)
-is_held (Installed held) is = (held, refl)
-is_held (Hit held) is = absurd (cc)
-is_held (Older date) is = absurd (cc)
-is_held (Kept cause) is = absurd (cc)
-
 -- the groups of the commit are those of the source
 abbrev pub AreGroupsOf : Board → ℕ → Settled → List (List Change) → Type 0
 AreGroupsOf b n settled groups = (source : Source) → slice_get b.config.sources n ≡ Some source → groups ≡ changes_for source settled ∷ []
@@ -381,7 +366,7 @@ commit_staged laws b n settled groups now stands ready comes are =
     subst (λ (gs : List (List Change)). Stands (AreAllStaged gs) now) (sym (are c.source c.here_is)) (are_staged laws stands.start stands.notes stands.count b n settled now c.source s)
 
 back_committed : (commit : Commit) (old now : List State) → HasCommitted commit old now → IsTold now → IsTold old
-back_committed commit old now done told = back_since _ old done.begun.prepared done.begun.before (back_since _ done.begun.prepared now done.begun.during told)
+back_committed commit old now done told = told_back _ old done.begun.prepared done.begun.before (told_back _ done.begun.prepared now done.begun.during told)
 
 on_committed : (commit : Commit) (old now : List State) → HasCommitted commit old now → IsTold old → IsTold now
 on_committed commit old now done told = told_on _ done.begun.prepared now done.begun.during (told_on _ old done.begun.prepared done.begun.before told)

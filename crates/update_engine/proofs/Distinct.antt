@@ -13,10 +13,11 @@ use Rattle.commit_journal.specs.Changes.{AreApart, IsNone}
 use Rattle.list_commits.specs.RecordLaws.{AllLast, AreGathered, names_gathered}
 use Rattle.run_jobs.specs.Running.{Begun as Start, IsSoundBegun}
 use Rattle.update_model.specs.declared.settled.Settled.{Settled}
+use Rattle.board_model.proofs.Making.{none-in, first-or-rest}
+use Rattle.list_commits.proofs.Apart.{there, apart_of, none_if, not_in}
+use Rattle.list_commits.proofs.Recording.{right_apart}
 use Rattle.run_model.specs.Runs.{AreRising}
 use Rattle.update_engine.specs.Session.{IsPick, Pick, numbers_of}
-use Rattle.update_engine.proofs.Lists.{nothing_in, split, there}
-use Rattle.update_engine.proofs.Naming.{apart_of, none_if, not_in}
 
 abbrev pub gathered_for : List Pick → List (Source × Settled)
 gathered_for picks = map (λ p. (p.source, p.settled)) picks
@@ -30,17 +31,13 @@ record Within (xs ys : List (List ℕ)) : Type 0 where
   apart : AreApart ys → AreApart xs
 
 within_none : (ys : List (List ℕ)) → Within [] ys
-within_none ys = record { fewer = omega arith; among = λ name is. absurd (nothing_in name is); apart = λ apart. tt }
-
-apart_behind : (xs ys : List (List ℕ)) → AreApart (xs ++ ys) → AreApart ys
-apart_behind [] ys apart = apart
-apart_behind (x ∷ xs) ys apart = apart_behind xs ys apart.1
+within_none ys = record { fewer = omega arith; among = λ name is. absurd (none-in name is); apart = λ apart. tt }
 
 within_skip : (zs xs ys : List (List ℕ)) → Within xs ys → Within xs (zs ++ ys)
 within_skip zs xs ys w = record {
   fewer = let long = length-append zs ys in let few = w.fewer in omega (arith, long, few);
   among = λ name is. Contains-append_right zs ys name (w.among name is);
-  apart = λ apart. w.apart (apart_behind zs ys apart);
+  apart = λ apart. w.apart (right_apart zs ys apart);
 }
 
 pub either : (zs xs : List (List ℕ)) (name : List ℕ) → Contains (zs ++ xs) name → Contains zs name ⊎ Contains xs name
@@ -48,7 +45,7 @@ either [] xs name is = inr is
 either (z ∷ zs) xs name is = ⊎_elim
     (λ same. inl (0, omega arith, same))
     (λ later. ⊎_elim (λ first. inl (there z zs name first)) inr (either zs xs name later))
-    (split z (zs ++ xs) name is)
+    (first-or-rest z (zs ++ xs) name is)
 
 among_keep : (zs xs ys : List (List ℕ)) → ((name : List ℕ) → Contains xs name → Contains ys name) → (name : List ℕ) → Contains (zs ++ xs) name → Contains (zs ++ ys) name
 among_keep zs xs ys among name is = ⊎_elim (λ first. Contains-append_left zs ys name first) (λ later. Contains-append_right zs ys name (among name later)) (either zs xs name is)

@@ -1,9 +1,8 @@
 -- The end of a run: the last commit, with the clean-up.
-use Rattle.std.proofs.Common.{◌≡◌, ◌≢◌, ◌∙◌, inl, inr, ⊎_elim, refl, sym, ap, subst, arith, ℕ, suc, Bool, true, false, List, [], ◌∷◌, ◌++◌, length, map, Contains, Option, Some, None, IfSome}
+use Rattle.std.proofs.Common.{◌≡◌, ◌≢◌, ◌∙◌, inl, inr, refl, sym, ap, subst, arith, ℕ, suc, Bool, true, false, List, [], ◌∷◌, ◌++◌, length, map, Contains, Option, Some, None, IfSome}
 use Rattle.std.specs.Prelude.{IsTrue, ◌&&◌, if◌then◌else◌, not}
 use Rattle.std.specs.List.{flat_map, list_all, AllByRecursion as Each}
 use Rattle.std.proofs.lemmas.List.{append-nil, append_assoc}
-use Rattle.std.proofs.lemmas.List.Elements.{Contains-append_left, Contains-append_right}
 use Rattle.acq_base.specs.Plan.{names_of}
 use Rattle.acq_base.specs.declared.plan.Source.{Source}
 use Rattle.acq_outside.specs.Crash.{State, IsShown}
@@ -15,10 +14,10 @@ use Rattle.board_model.specs.Slots.{Config}
 use Rattle.commit_journal.specs.Changes.{DropFile, Filled, filled, filled_all}
 use Rattle.commit_journal.specs.Runs.{Commit, HasBegun as BegunCommit, HasCommitted, Moment}
 use Rattle.commit_journal.specs.declared.changing.Change.{Change}
-use Rattle.journal_model.specs.Names.{is_list, journal, lock, partial}
+use Rattle.journal_model.specs.Names.{is_list, journal, lock}
 use Rattle.journal_model.specs.Rest.{IsAtRest, IsSettled, part_bytes}
 use Rattle.list_commits.specs.Changes.{changes_for, drops_for}
-use Rattle.list_commits.specs.Loose.{AreLooseNames, IsLoose, kept_of, removed_names, with_parts}
+use Rattle.list_commits.specs.Loose.{AreLooseNames, IsLoose, kept_of, removed_names}
 use Rattle.list_commits.specs.Made.{IsStopped, Made, NoneBegun, after_all, makes}
 use Rattle.list_commits.specs.RecordLaws.{group_of, names_of_group}
 use Rattle.run_jobs.specs.Running.{Begun as Start, HasHeard, IsUnderWay}
@@ -27,12 +26,15 @@ use Rattle.run_model.specs.Groups.{Group, OfNone, OfSource, AreGroups, AreOfNone
 use Rattle.run_model.specs.Runs.{AreAll, AreInTurn, AreLooseLists, AreRising, Cleans, HasBegun, MayHaveBegun, cleans_up, is_kept}
 use Rattle.update_model.specs.declared.log.RunLog.{RunLog}
 use Rattle.update_model.specs.declared.settled.Verdict2.{Verdict2}
+use Rattle.list_commits.proofs.Apart.{there}
+use Rattle.list_commits.proofs.Gone.{all_kept}
+use Rattle.run_model.proofs.Stopping.{sources_of_both}
+use Rattle.run_jobs.proofs.Telling.{each_last}
+use Rattle.run_jobs.proofs.Keeping.{no_time}
 use Rattle.update_engine.specs.Known.{Committing}
 use Rattle.update_engine.specs.Session.{HasAllBut, HasBegunOver, HasEnded, HasLast, EndsLast, IsAtMoment, IsOneSet, IsPick, LeavesLast, Pick, StopsAside, StopsLast, begun_of, cleans, groups_for, names_to_go, numbers_of, some_names, with_removed}
-use Rattle.update_engine.proofs.Committing.{commits_last, have_shape, no_time, none_removed, settled_made}
-use Rattle.update_engine.proofs.Distinct.{either}
+use Rattle.update_engine.proofs.Committing.{commits_last, have_shape, none_removed, settled_made}
 use Rattle.update_engine.proofs.LastCommit.{all_committed}
-use Rattle.update_engine.proofs.Lists.{each_last, here, nothing_in, split, there}
 
 -- ---- where nothing more is begun
 
@@ -91,11 +93,6 @@ filled_last part [] None = refl
 filled_last part [] (Some names) = ap (λ (cs : List Filled). cs ∷ []) (filled_drops part names)
 filled_last part (p ∷ picks) names = ap (λ (cs : List (List Filled)). filled part (changes_for p.source p.settled) ∷ cs) (filled_last part picks names)
 
-sources_join : (gs hs : List Group) → sources_in (gs ++ hs) ≡ sources_in gs ++ sources_in hs
-sources_join [] hs = refl
-sources_join (OfSource n changes ∷ gs) hs = ap (λ (ns : List ℕ). n ∷ ns) (sources_join gs hs)
-sources_join (OfNone names ∷ gs) hs = sources_join gs hs
-
 sources_last : (part : List ℕ → List ℕ) (picks : List Pick) (names : Option (List (List ℕ))) → sources_in (last_groups part picks names) ≡ numbers_of picks
 sources_last part [] None = refl
 sources_last part [] (Some names) = refl
@@ -137,18 +134,8 @@ groups_last start notes now (p ∷ picks) names told each none =
       groups_last start notes now picks names told each.1 none,
     )
 
--- the names of no source belong to none
-in_parts : (names : List (List ℕ)) (name : List ℕ) → Contains names name → Contains (with_parts names) name
-in_parts [] name is = absurd (nothing_in name is)
-in_parts (x ∷ xs) name is = ⊎_elim (λ same. here x (partial x ∷ with_parts xs) name same) (λ later. there x (partial x ∷ with_parts xs) name (there (partial x) (with_parts xs) name (in_parts xs name later))) (split x xs name is)
-
-in_kept : (sources : List Source) (name : List ℕ) → Contains (flat_map names_of sources) name → Contains (flat_map kept_of sources) name
-in_kept [] name is = absurd (nothing_in name is)
-in_kept (s ∷ sources) name is = ⊎_elim (λ own. Contains-append_left (kept_of s) (flat_map kept_of sources) name (in_parts (names_of s) name own)) (λ later. Contains-append_right (kept_of s) (flat_map kept_of sources) name (in_kept sources name later))
-    (either (names_of s) (flat_map names_of sources) name is)
-
 loose_apart : (sources : List Source) (names : List (List ℕ)) → ((name : List ℕ) → Contains names name → IsLoose sources name) → (name : List ℕ) → Contains names name → Contains (flat_map names_of sources) name → ⊥
-loose_apart sources names loose name is own = loose name is (there lock (journal ∷ flat_map kept_of sources) name (there journal (flat_map kept_of sources) name (in_kept sources name own)))
+loose_apart sources names loose name is own = loose name is (there lock (journal ∷ flat_map kept_of sources) name (there journal (flat_map kept_of sources) name (all_kept sources name own)))
 
 of_none : (start : Start) (cleanup : Bool) (verdicts : List Verdict2) (loose : List (List ℕ)) → ((name : List ℕ) → Contains loose name → IsLoose start.config.sources name) → IfSome (names_to_go cleanup verdicts loose) (AreOfNone (begun_of start))
 of_none start cleanup verdicts loose are = one (cleans cleanup verdicts)
@@ -251,7 +238,7 @@ all_of_run laws together cleanup start notes count lists files opened mid c pick
     let last = last_groups part picks names in
     let joined : all_groups (with_last e.commits last) ≡ all_groups e.commits ++ last = all_with e.commits last in
     let sources : sources_in (all_groups (with_last e.commits last)) ≡ sources_in (all_groups e.commits) ++ numbers_of picks =
-    ap sources_in joined ∙ sources_join (all_groups e.commits) last ∙ ap (λ (ns : List ℕ). sources_in (all_groups e.commits) ++ ns) (sources_last part picks names) in
+    ap sources_in joined ∙ sources_of_both (all_groups e.commits) last ∙ ap (λ (ns : List ℕ). sources_in (all_groups e.commits) ++ ns) (sources_last part picks names) in
     let removed : removed_in (all_groups (with_last e.commits last)) ≡ names_of_group names = ap removed_in joined ∙ removed_join e.commits last e.each ∙ removed_last part picks names in
     let switch : cleans_up start.config.settings c.verdicts ≡ cleans cleanup c.verdicts = ap (λ (t : Bool). t && list_all (λ verdict. not (is_kept verdict)) c.verdicts) a.switch in
     record {

@@ -17,11 +17,14 @@ use Rattle.run_jobs.specs.Running.{Begun as Start, IsUnderWay}
 use Rattle.run_model.specs.Runs.{AreRising, is_installed}
 use Rattle.update_model.specs.declared.ask.Body.{Body}
 use Rattle.update_model.specs.declared.settled.Settled.{Settled}
+use Rattle.run_model.proofs.Finishing.{is_held}
+use Rattle.run_model.proofs.Following.{later_than}
+use Rattle.run_jobs.proofs.Telling.{each_last}
 use Rattle.update_engine.specs.Known.{Committing}
 use Rattle.update_engine.specs.Session.{Gathers, GathersOne, HasGathered, IsPick, Pick, groups_for, installed_in, numbers_of}
-use Rattle.update_engine.proofs.Committing.{IsChanging, IsSettling, changing, have_sums, is_held, last_puts, puts_rest, told_installed}
-use Rattle.update_engine.proofs.Lists.{each_last, each_more}
-use Rattle.update_engine.proofs.OnBoards.{next_later, under_settled}
+use Rattle.update_engine.proofs.Committing.{IsChanging, IsSettling, changing, have_sums, last_puts, puts_rest, told_installed}
+use Rattle.update_engine.proofs.Lists.{each_more}
+use Rattle.update_engine.proofs.OnBoards.{under_settled}
 
 -- ---- lists with one more
 
@@ -93,7 +96,7 @@ gathers_to laws b c n groups later settled gathers ready comes group start notes
     told = told_installed laws start notes count c n settled now s d
 
     before : (m : ℕ) → first_ready (settled_as c n settled.verdict).slots ≡ Some m → n < m
-    before m next = next_later c.slots n m ready next
+    before m next = later_than c.slots n m ready next
 
     behind : (m : ℕ) → n < m → Each (λ k. k < m) (numbers_of g.picks)
     behind m less = each_more (λ k. k < n) (λ k. k < m) (numbers_of g.picks) (λ k low. omega (arith, low, less)) (g.next n ready)

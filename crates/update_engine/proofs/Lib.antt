@@ -1,4 +1,4 @@
-mod Lists
+pub mod Lists
 mod Naming
 mod OnBoards
 mod Committing
@@ -9,6 +9,5 @@ mod LastCommit
 mod Ended
 mod NewBoards
 mod PutNames
-mod Verdicts
 mod Over
 mod Stepping

@@ -1,5 +1,5 @@
 -- Names of lists and what is wanted of those on their way.
-use Rattle.std.proofs.Common.{◌≡◌, ◌≢◌, ◌⊎◌, ◌∙◌, inl, inr, ⊎_elim, refl, sym, ap, subst, arith, ℕ, zero, suc, Bool, true, false, List, [], ◌∷◌, ◌++◌, length, map, AllPairs, Contains, Option, Some, None, bytes_eq}
+use Rattle.std.proofs.Common.{◌≡◌, ◌⊎◌, ◌∙◌, inl, inr, ⊎_elim, refl, ap, subst, ℕ, zero, suc, Bool, true, false, List, [], ◌∷◌, ◌++◌, map, Contains, Option, Some, None, bytes_eq}
 use Rattle.std.specs.Prelude.{if◌then◌else◌, slice_get}
 use Rattle.std.specs.List.{flat_map}
 use Rattle.std.proofs.lemmas.List.Elements.{Contains-append_left, Contains-append_right}
@@ -11,39 +11,15 @@ use Rattle.board_model.specs.Boards.{Board}
 use Rattle.board_model.specs.NameLaws.{AreNamedApart}
 use Rattle.board_model.specs.Slots.{Slot}
 use Rattle.board_model.specs.Uses.{Free, PartUse, or_use, rests, use_among, use_in, use_under}
+use Rattle.board_model.proofs.Making.{none-in, first-or-rest}
 use Rattle.commit_journal.specs.Changes.{AreApart, IsNone}
-use Rattle.journal_model.specs.Names.{journal, partial}
-use Rattle.update_engine.proofs.Lists.{here, in_plan, nothing_in, split, there}
+use Rattle.list_commits.proofs.Apart.{here, there, apart_of, not_in}
+use Rattle.list_commits.proofs.Recording.{both_apart, right_apart}
+use Rattle.run_model.proofs.Names.{in_plan}
 
 -- ---- lists on their way
 
--- two under one name are one
-pub partial_apart : (a b : List ℕ) → (a ≡ b → ⊥) → partial a ≡ partial b → ⊥
-partial_apart a b apart e = apart (grind (arith, partial))
-
-pub partial_other : (name : List ℕ) → partial name ≢ journal
-partial_other name = λ e. let long : suc (suc (suc (suc (suc (suc (suc (suc (length name)))))))) ≡ 7 = ap length e in absurd (omega (arith, long))
-
 -- ---- names apart
-
-pub not_in : (name : List ℕ) (names : List (List ℕ)) → IsNone name names → Contains names name → ⊥
-not_in name [] none is = nothing_in name is
-not_in name (x ∷ xs) none is = ⊎_elim none.0 (not_in name xs none.1) (split x xs name is)
-
-pub none_if : (name : List ℕ) (names : List (List ℕ)) → (Contains names name → ⊥) → IsNone name names
-none_if name [] never = tt
-none_if name (x ∷ xs) never = (λ same. never (here x xs name same), none_if name xs (λ is. never (there x xs name is)))
-
-pub apart_of : (names : List (List ℕ)) → AllPairs (λ a b. a ≢ b) names → AreApart names
-apart_of [] all = tt
-apart_of (x ∷ xs) all = (none_if x xs (λ is. all 0 (suc is.0) x (omega arith) (omega (arith, is.1)) (sym is.2)), apart_of xs (λ i j d low high. all (suc i) (suc j) d (omega (arith, low)) (omega (arith, high))))
-
-apart_front : (xs ys : List (List ℕ)) (name : List ℕ) → AreApart (xs ++ ys) → Contains xs name → Contains ys name → ⊥
-apart_front [] ys name apart first second = nothing_in name first
-apart_front (x ∷ xs) ys name apart first second = ⊎_elim
-    (λ same. not_in x (xs ++ ys) apart.0 (subst (λ (n : List ℕ). Contains (xs ++ ys) n) (sym same) (Contains-append_right xs ys name second)))
-    (λ later. apart_front xs ys name apart.1 later second)
-    (split x xs name first)
 
 apart_first : (xs ys : List (List ℕ)) → AreApart (xs ++ ys) → AreApart xs
 apart_first [] ys apart = tt
@@ -52,10 +28,6 @@ apart_first (x ∷ xs) ys apart = (none_first xs ys x apart.0, apart_first xs ys
     none_first : (xs ys : List (List ℕ)) (x : List ℕ) → IsNone x (xs ++ ys) → IsNone x xs
     none_first [] ys x none = tt
     none_first (z ∷ zs) ys x none = (none.0, none_first zs ys x none.1)
-
-apart_behind : (xs ys : List (List ℕ)) → AreApart (xs ++ ys) → AreApart ys
-apart_behind [] ys apart = apart
-apart_behind (x ∷ xs) ys apart = apart_behind xs ys apart.1
 
 -- ---- nothing is wanted under a Release's name
 
@@ -74,7 +46,7 @@ no_target (s ∷ sources) zero source apart is =
     let own : AreApart (names_of s) = apart_first (names_of s) (flat_map names_of sources) apart in
     subst (λ (x : Source). IsNoTarget (s ∷ sources) x.release_name.0) same (
       not_in s.release_name.0 (targets_of s) own.0,
-      others sources (λ within. apart_front (names_of s) (flat_map names_of sources) s.release_name.0 apart (here s.release_name.0 (targets_of s) s.release_name.0 refl) within),
+      others sources (λ within. both_apart (names_of s) (flat_map names_of sources) s.release_name.0 apart (here s.release_name.0 (targets_of s) s.release_name.0 refl) within),
     )
   where
     others : (rest : List Source) → (Contains (flat_map names_of rest) s.release_name.0 → ⊥) → IsNoTarget rest s.release_name.0
@@ -84,9 +56,9 @@ no_target (s ∷ sources) zero source apart is =
       others rest (λ is. never (Contains-append_right (names_of r) (flat_map names_of rest) s.release_name.0 is)),
     )
 no_target (s ∷ sources) (suc n) source apart is = (
-  λ within. apart_front (names_of s) (flat_map names_of sources) source.release_name.0 apart (there s.release_name.0 (targets_of s) source.release_name.0 within)
+  λ within. both_apart (names_of s) (flat_map names_of sources) source.release_name.0 apart (there s.release_name.0 (targets_of s) source.release_name.0 within)
       (in_plan sources n source source.release_name.0 is (here source.release_name.0 (targets_of source) source.release_name.0 refl)),
-  no_target sources n source (apart_behind (names_of s) (flat_map names_of sources) apart) is,
+  no_target sources n source (right_apart (names_of s) (flat_map names_of sources) apart) is,
 )
 
 not_among : (sizes : List ℕ → ℕ) (slot : Slot) (place : ℕ) (targets : List Target) (name : List ℕ) → (Contains (map (λ (t : Target). t.name.0) targets) name → ⊥) → use_among sizes slot place targets name ≡ None
@@ -114,13 +86,13 @@ pub record IsTargetAt (source : Source) (name : List ℕ) : Type 0 where
   pub is : target.name.0 ≡ name
 
 target_at : (targets : List Target) (name : List ℕ) → Contains (map (λ (t : Target). t.name.0) targets) name → (k : ℕ) × (target : Target) × (slice_get targets k ≡ Some target) × (target.name.0 ≡ name)
-target_at [] name is = absurd (nothing_in name is)
+target_at [] name is = absurd (none-in name is)
 target_at (t ∷ targets) name is = ⊎_elim
     (λ same. (0, t, refl, same))
     (λ later. let found = target_at targets name later in (suc found.0, found.1, found.2, found.3))
-    (split t.name.0 (map (λ (t : Target). t.name.0) targets) name is)
+    (first-or-rest t.name.0 (map (λ (t : Target). t.name.0) targets) name is)
 
 pub which_name : (source : Source) (name : List ℕ) → Contains (names_of source) name → (source.release_name.0 ≡ name) ⊎ IsTargetAt source name
 which_name source name is = ⊎_elim inl
     (λ later. let found = target_at source.targets name later in inr (record { k = found.0; target = found.1; at = found.2; is = found.3 }))
-    (split source.release_name.0 (targets_of source) name is)
+    (first-or-rest source.release_name.0 (targets_of source) name is)

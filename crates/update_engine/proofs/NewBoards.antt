@@ -29,12 +29,14 @@ use Rattle.run_jobs.specs.Coupling.{HoldsUse, UsesHold}
 use Rattle.update_core.specs.Standing.{config_for}
 use Rattle.update_model.specs.Next.{Keeps}
 use Rattle.update_model.specs.Outcomes.{Parts}
+use Rattle.board_model.proofs.Making.{none-in, first-or-rest}
+use Rattle.list_commits.proofs.Apart.{here, there}
+use Rattle.run_model.proofs.Loose.{among}
+use Rattle.run_jobs.proofs.Keeping.{falls_holds}
 use Rattle.update_engine.specs.Known.{Beginning}
 use Rattle.update_engine.specs.Reading.{size_of, sizes_in, sizes_of}
 use Rattle.update_engine.specs.Run.{IsReadFrom, run_of, short_part, target_names}
 use Rattle.update_engine.specs.Session.{HasStarted, Starts}
-use Rattle.update_engine.proofs.Lists.{among, here, nothing_in, split, there}
-use Rattle.update_engine.proofs.OnBoards.{falls_holds}
 
 -- ---- sizes
 
@@ -106,7 +108,7 @@ size_under rows name = unwrap_or (named rows name) 0
 
 size_of_target : (now : List State) (targets : List Target) (rest : List (ListName × ℕ)) (name : List ℕ) → Contains (map (λ (t : Target). t.name.0) targets) name
     → size_under (map (size_of now) targets ++ rest) name ≡ part_size now name
-size_of_target now [] rest name is = absurd (nothing_in name is)
+size_of_target now [] rest name is = absurd (none-in name is)
 size_of_target now (t ∷ targets) rest name is = one (bytes_eq t.name.0 name) refl (size_of_target now targets rest name)
   where
     one : (c : Bool) → bytes_eq t.name.0 name ≡ c → (Contains (map (λ (x : Target). x.name.0) targets) name → size_under (map (size_of now) targets ++ rest) name ≡ part_size now name)
@@ -115,7 +117,7 @@ size_of_target now (t ∷ targets) rest name is = one (bytes_eq t.name.0 name) r
     one false differ later = ⊎_elim
         (λ same. let wrong : true ≡ false = sym ((bytes_eq-Decides t.name.0 name).1 same) ∙ differ in absurd (cc))
         later
-        (split t.name.0 (map (λ (x : Target). x.name.0) targets) name is)
+        (first-or-rest t.name.0 (map (λ (x : Target). x.name.0) targets) name is)
 
 size_past_targets : (now : List State) (targets : List Target) (rest : List (ListName × ℕ)) (name : List ℕ) → size_under rest name ≡ part_size now name
     → size_under (map (size_of now) targets ++ rest) name ≡ part_size now name
@@ -132,10 +134,10 @@ in_later [] ys name is never = is
 in_later (x ∷ xs) ys name is never = ⊎_elim
     (λ same. absurd (never (here x xs name same)))
     (λ later. in_later xs ys name later (λ within. never (there x xs name within)))
-    (split x (xs ++ ys) name is)
+    (first-or-rest x (xs ++ ys) name is)
 
 sizes_are_read : (now : List State) (sources : List Source) (name : List ℕ) → Contains (flat_map target_names sources) name → size_under (sizes_of now sources) name ≡ part_size now name
-sizes_are_read now [] name is = absurd (nothing_in name is)
+sizes_are_read now [] name is = absurd (none-in name is)
 sizes_are_read now (s ∷ sources) name is = ⊎_elim
     (λ within. size_of_target now s.targets (sizes_of now sources) name within)
     (λ never. size_past_targets now s.targets (sizes_of now sources) name (sizes_are_read now sources name (in_later (target_names s) (flat_map target_names sources) name is never)))

@@ -1,5 +1,5 @@
 -- A source that is settled, on its board.
-use Rattle.std.proofs.Common.{◌≡◌, ◌≢◌, ◌⊎◌, ◌∙◌, inl, inr, refl, sym, ap, subst, arith, ℕ, zero, suc, ◌+◌, Bool, true, false, List, [], ◌∷◌, ◌++◌, length, Option, Some, None}
+use Rattle.std.proofs.Common.{◌≡◌, ◌≢◌, ◌⊎◌, ◌∙◌, inl, inr, refl, sym, ap, subst, arith, ℕ, zero, suc, ◌+◌, Bool, true, List, [], ◌∷◌, ◌++◌, Option, Some, None}
 use Rattle.std.specs.Prelude.{◌<◌, filter, if◌then◌else◌, option_map, slice_get}
 use Rattle.std.specs.List.{AllByRecursion as Each}
 use Rattle.std.proofs.lemmas.Bool.{cases_Bool}
@@ -17,25 +17,26 @@ use Rattle.board_model.specs.Jobs.{NoneAsks}
 use Rattle.board_model.specs.Keys.{key_at}
 use Rattle.board_model.specs.declared.key.Key.{Key}
 use Rattle.update_model.specs.declared.ask.Ask.{Ask}
-use Rattle.board_model.specs.Stands.{AllStand, History, IsOpen, SourceStands, StandsAt, history_of}
-use Rattle.board_model.specs.Uses.{Falls, PartUse, rests}
+use Rattle.board_model.specs.Stands.{AllStand, IsOpen, SourceStands, StandsAt, history_of}
+use Rattle.board_model.specs.Uses.{rests}
 use Rattle.host_queues.specs.Lanes.{changed_at}
 use Rattle.list_commits.specs.SetLaws.{OwnsChanges}
-use Rattle.run_jobs.specs.Coupling.{HoldsUse, UsesHold}
+use Rattle.run_jobs.specs.Coupling.{UsesHold}
 use Rattle.run_jobs.specs.Running.{Begun as Start, HasHeard, IsUnderWay}
 use Rattle.run_model.specs.Runs.{is_installed, is_told_installed}
 use Rattle.update_model.specs.Obtained.{◌>>=◌}
 use Rattle.update_model.specs.declared.settled.Settled.{Settled}
 use Rattle.update_model.specs.declared.settled.Verdict2.{Verdict2}
+use Rattle.board_model.proofs.Places.{bound}
+use Rattle.board_model.proofs.Resting.{olds-there}
+use Rattle.board_model.proofs.Events.{ready-slot}
+use Rattle.run_model.proofs.Ready.{still_open}
+use Rattle.run_jobs.proofs.Keeping.{falls_holds}
 use Rattle.update_engine.specs.Known.{Settling as Below}
 use Rattle.update_engine.specs.Session.{HasSettled, OnlySettles, installed_in}
 use Rattle.update_engine.proofs.Lists.{each_more, filter_last, filter_same}
 
 -- ---- what it was
-
-bound : {A B : Type 0} (o : Option A) (f : A → Option B) (b : B) → (o >>= f) ≡ Some b → (a : A) × (o ≡ Some a) × (f a ≡ Some b)
-bound None f b e = absurd (cc)
-bound (Some a) f b e = (a, refl, e)
 
 -- the source that was settled
 pub record IsOf (b : Board) (n : ℕ) (settled : Settled) : Type 0 where
@@ -51,30 +52,6 @@ is_of b n settled e =
     let q = bound (slice_get b.slots n) _ settled p.2 in
     record { source = p.0; source_is = p.1; slot = q.0; slot_is = q.1; comes_to = q.2 }
 
-ready_slot : (slots : List Slot) (n : ℕ) → first_ready slots ≡ Some n → (slot : Slot) × (slice_get slots n ≡ Some slot) × (is_ready slot ≡ true)
-ready_slot [] n e = absurd (cc)
-ready_slot (slot ∷ slots) n e = elim (cases_Bool (is_ready slot)) [
-  | inl is ↦
-      let zero_is : Some 0 ≡ Some n = rw is at e in
-      let same : 0 ≡ n = cc in
-      (slot, ap (λ (k : ℕ). slice_get (slot ∷ slots) k) (sym same), is)
-  | inr isnt ↦ later (ready_slot slots) (first_ready slots) refl (rw isnt at e)
-]
-  where
-    later : ((k : ℕ) → first_ready slots ≡ Some k → (s : Slot) × (slice_get slots k ≡ Some s) × (is_ready s ≡ true)) → (o : Option ℕ) → first_ready slots ≡ o → option_map (λ k. k + 1) o ≡ Some n
-        → (s : Slot) × (slice_get (slot ∷ slots) n ≡ Some s) × (is_ready s ≡ true)
-    later find None is e = absurd (cc)
-    later find (Some k) is e =
-        let found = find k is in
-        let same : suc k ≡ n = let q : k + 1 ≡ n = cc in omega arith in
-        (found.0, ap (λ (m : ℕ). slice_get (slot ∷ slots) m) (sym same) ∙ found.1, found.2)
-
-old_there : (sources : List Source) (olds : List Old) (n : ℕ) (source : Source) → length olds ≡ length sources → slice_get sources n ≡ Some source → (old : Old) × (slice_get olds n ≡ Some old)
-old_there [] olds n source each is = absurd (cc)
-old_there (x ∷ sources) [] n source each is = absurd (omega (arith, each))
-old_there (x ∷ sources) (old ∷ olds) zero source each is = (old, refl)
-old_there (x ∷ sources) (old ∷ olds) (suc n) source each is = old_there sources olds n source (omega (arith, each)) is
-
 -- the source as it stands on a board that was reached
 pub record AsOpen (config : Config) (notes : List Note) (b : Board) (n : ℕ) (source : Source) (slot : Slot) : Type 0 where
   pub old : Old
@@ -82,18 +59,13 @@ pub record AsOpen (config : Config) (notes : List Note) (b : Board) (n : ℕ) (s
   pub verdict : Verdict2
   pub verdict_is : slice_get b.verdicts n ≡ Some verdict
 
-still_open : (config : Config) (n : ℕ) (source : Source) (old : Old) (slot : Slot) (verdict : Verdict2) (history : History) → SourceStands config n source old slot verdict history → is_ready slot ≡ true
-    → IsOpen config n source old slot history
-still_open config n source old slot verdict history (inl h) ready = h
-still_open config n source old slot verdict history (inr h) ready = let none : false ≡ true = subst (λ (s : Slot). is_ready s ≡ true) h.0 ready in absurd (cc)
-
 pub as_open : Below → (config : Config) (olds : List Old) (notes : List Note) (b : Board) (n : ℕ) (source : Source) (slot : Slot) → (r : Reached config olds notes b) → first_ready b.slots ≡ Some n
     → slice_get config.sources n ≡ Some source → slice_get b.slots n ≡ Some slot → AsOpen config notes b n source slot
 as_open below config olds notes b n source slot r ready source_is slot_is =
     let all : AllStand config olds (record { board = b; jobs = r.jobs; queue = []; notes = notes }) = subst (AllStand config olds) r.leads (below.stand config olds r.lanes r.events) in
-    let old = old_there config.sources olds n source r.each source_is in
+    let old = olds-there config.sources olds n source r.each source_is in
     let at : StandsAt config n source old.0 (record { board = b; jobs = r.jobs; queue = []; notes = notes }) = all.sources n source old.0 source_is old.1 in
-    let x = ready_slot b.slots n ready in
+    let x = ready-slot b.slots n ready in
     let x_both : Some x.0 ≡ Some slot = sym x.1 ∙ slot_is in
     let x_same : x.0 ≡ slot = cc in
     let both : Some at.slot ≡ Some slot = sym at.slot_is ∙ slot_is in
@@ -115,10 +87,6 @@ owns below config notes b n source slot settled at comes planned = record {
 }
 
 -- ---- the board behind it
-
-pub falls_holds : (before after : PartUse) (name first : List ℕ) (now : List State) → Falls before after → HoldsUse before name first now → HoldsUse after name first now
-falls_holds before after name first now (inl e) holds = rw e holds
-falls_holds before after name first now (inr e) holds = rw e tt
 
 -- what it wants of lists on their way is there where it was
 pub uses_settled : Below → (b : Board) (n : ℕ) (verdict : Verdict2) (first : List ℕ → List ℕ) (now : List State) → UsesHold (rests b) first now → UsesHold (rests (settled_as b n verdict)) first now
@@ -199,37 +167,6 @@ fewer_ready (slot ∷ slots) n e = elim (cases_Bool (is_ready slot)) [
         let same : suc k ≡ n = let q : k + 1 ≡ n = cc in omega arith in
         let fewer = less k is in
         subst (λ (m : ℕ). ready_count (changed_at m (λ slot. Closed) (slot ∷ slots)) < ready_count (slot ∷ slots)) same (omega (arith, fewer))
-
--- the next that is ready is behind the first
-pub next_later : (slots : List Slot) (n m : ℕ) → first_ready slots ≡ Some n → first_ready (changed_at n (λ slot. Closed) slots) ≡ Some m → n < m
-next_later [] n m e next = absurd (cc)
-next_later (slot ∷ slots) n m e next = elim (cases_Bool (is_ready slot)) [
-  | inl is ↦
-      let zero_is : Some 0 ≡ Some n = rw is at e in
-      let same : 0 ≡ n = cc in
-      behind n m same (subst (λ (k : ℕ). first_ready (changed_at k (λ s. Closed) (slot ∷ slots)) ≡ Some m) (sym same) next)
-  | inr isnt ↦ later n m isnt (next_later slots) (first_ready slots) refl (rw isnt at e) next
-]
-  where
-    one_more : (o : Option ℕ) (k m : ℕ) → k ≡ 0 → option_map (λ j. j + 1) o ≡ Some m → k < m
-    one_more None k m zero_is e = absurd (cc)
-    one_more (Some j) k m zero_is e = let same : j + 1 ≡ m = cc in omega (arith, same, zero_is)
-
-    behind : (n m : ℕ) → 0 ≡ n → first_ready (Closed ∷ slots) ≡ Some m → n < m
-    behind n m same next = one_more (first_ready slots) n m (sym same) next
-
-    two : (o : Option ℕ) (k m : ℕ) → ((j : ℕ) → o ≡ Some j → k < j) → option_map (λ j. j + 1) o ≡ Some m → k + 1 < m
-    two None k m less e = absurd (cc)
-    two (Some j) k m less e = let low = less j refl in let same : j + 1 ≡ m = cc in omega (arith, same, low)
-
-    later : (n m : ℕ) → is_ready slot ≡ false → ((k j : ℕ) → first_ready slots ≡ Some k → first_ready (changed_at k (λ s. Closed) slots) ≡ Some j → k < j) → (o : Option ℕ) → first_ready slots ≡ o → option_map (λ k. k + 1) o ≡ Some n
-        → first_ready (changed_at n (λ s. Closed) (slot ∷ slots)) ≡ Some m → n < m
-    later n m isnt less None is e next = absurd (cc)
-    later n m isnt less (Some k) is e next =
-        let same : suc k ≡ n = let q : k + 1 ≡ n = cc in omega arith in
-        let after_it : first_ready (slot ∷ changed_at k (λ s. Closed) slots) ≡ Some m = subst (λ (j : ℕ). first_ready (changed_at j (λ s. Closed) (slot ∷ slots)) ≡ Some m) (sym same) next in
-        let low : k + 1 < m = two (first_ready (changed_at k (λ s. Closed) slots)) k m (λ j there. less k j is there) (rw isnt at after_it) in
-        omega (arith, same, low)
 
 pub fewer_settled : (b c : Board) (n : ℕ) → first_ready b.slots ≡ Some n → HasSettled n b c → ready_count c.slots < ready_count b.slots
 fewer_settled b c n ready settled = subst (λ (x : Board). ready_count x.slots < ready_count b.slots) (sym settled.is) (fewer_ready b.slots n ready)

@@ -28,12 +28,12 @@ use Rattle.run_model.specs.Runs.{AreAll, MayHaveBegun, is_told_installed}
 use Rattle.update_model.specs.Outcomes.{Parts}
 use Rattle.update_model.specs.declared.log.Asked.{Asked}
 use Rattle.update_model.specs.declared.log.RunLog.{RunLog}
+use Rattle.run_model.proofs.Counting.{verdicts_count}
 use Rattle.update_engine.specs.Known.{Committing}
-use Rattle.update_engine.specs.Run.{Engine, FaultsRise, FindsDamage, ForMirror, HasFinished, HasOpened, IsReadFrom, KeepsMethods, Logged, NoneFell, Run, StaysSafe, StopsAtMoment, asks_of_lane}
+use Rattle.update_engine.specs.Run.{Engine, FaultsRise, FindsDamage, ForMirror, HasFinished, HasOpened, IsReadFrom, KeepsMethods, Logged, Run, StaysSafe, StopsAtMoment, asks_of_lane}
 use Rattle.update_engine.specs.Session.{Ends, EndsLast, GoesFar, GoesFarWith, HasBegunOver, HasCommittedSets, HasEnded, HasStarted, IsAtMoment, IsEnd, IsStanding, Starts, StopsFar, StopsLast, begun_of}
 use Rattle.update_engine.proofs.Committing.{settled_made, told_on}
-use Rattle.update_engine.proofs.Lists.{each_more}
-use Rattle.update_engine.proofs.Verdicts.{one_for_each}
+use Rattle.update_engine.proofs.Lists.{each_more, none_fall}
 
 -- ---- what is known at its jobs
 
@@ -273,10 +273,6 @@ faults_rise count later counts asks up each = record {
         let same : first ≡ last = cc in
         subst (CountsUp first last) (sym (lane_other lane asks each)) (omega (arith, same))
 
-none_fall : (counts : List ℕ) → NoneFell counts counts
-none_fall [] = tt
-none_fall (count ∷ counts) = (omega arith, none_fall counts)
-
 -- only the first method was used
 pub keeps_others : (mirror mirror' : Option Mirror) (others : List (Option Mirror)) (count later : ℕ) (counts : List ℕ) (entry now : List State) → mirror' ≡ mirror → count ≤ later
     → KeepsMethods (record { trace = entry; mirrors = mirror ∷ others; faults = count ∷ counts }) (record { trace = now; mirrors = mirror' ∷ others; faults = later ∷ counts })
@@ -325,7 +321,7 @@ verdicts_told run mirror count later opened mid b c cleanup log starts switch fa
     let h : HasStarted run mirror count opened b = starts mirror count in
     let w : GoesFarWith h.start [] later b c opened mid = far h.start [] h.sound h.from h.under_way in
     let e : IsEnd h.start ([] ++ w.more) later log = ends h.start ([] ++ w.more) later h.sound (cleanup_is run mirror count opened b cleanup h switch) w.under_way in
-    ap length e.tells.verdicts ∙ (one_for_each h.start.config h.start.olds ([] ++ w.more) e.tells.board e.tells.reached ∙ ap length h.of_run.sources)
+    ap length e.tells.verdicts ∙ (verdicts_count h.start.config h.start.olds ([] ++ w.more) e.tells.board e.tells.reached ∙ ap length h.of_run.sources)
 
 -- ---- the first of some methods
 

@@ -1,29 +1,22 @@
 -- A run from step to step.
-use Rattle.std.proofs.Common.{◌≡◌, ◌∙◌, ◌≤◌, ◌<◌, ◌-◌, ℕ, ◌+◌, ◌++◌, false, List, [], ◌∷◌, length, Option, refl, sym, ap, subst, arith}
+use Rattle.std.proofs.Common.{◌≡◌, ◌∙◌, ◌≤◌, ◌<◌, ◌-◌, ℕ, ◌+◌, ◌++◌, false, List, [], length, Option, sym, subst, arith}
 use Rattle.std.proofs.lemmas.List.{append-nil, append_assoc}
 use Rattle.acq_base.specs.Mirror.{World as Mirror}
 use Rattle.acq_outside.specs.Crash.{State}
 use Rattle.acq_outside.specs.Disk.{Files}
-use Rattle.acq_outside.specs.Moments.{Each as EachState, IsTold, Since, Stands}
+use Rattle.acq_outside.specs.Moments.{IsTold, Since, Stands}
 use Rattle.board_model.specs.Boards.{Board}
 use Rattle.board_model.specs.CountLaws.{AsksAreFew, most_asks}
 use Rattle.board_model.specs.Runs.{Note}
 use Rattle.journal_model.specs.Rest.{IsIdle, KeepsRest}
+use Rattle.commit_journal.proofs.Fills.{idle_on, rests_on}
 use Rattle.list_commits.specs.Made.{rests}
 use Rattle.run_jobs.specs.Running.{Begun as Start, GoesOn, HasHeard, IsReady, IsUnderWay, SameBoard}
 use Rattle.run_model.specs.Groups.{all_groups, commits_of}
+use Rattle.run_jobs.proofs.Keeping.{told_back}
 use Rattle.update_engine.specs.Known.{Committing}
 use Rattle.update_engine.specs.Session.{GoesAside, GoesFar, HasCommittedSets, IsAtMoment, IsStanding, StopsAside, StopsFar, begun_of}
-use Rattle.update_engine.proofs.Committing.{back_since, has_begun, settled_made, told_on}
-
--- a commit may still be prepared
-idle_now : (old now : List State) → Since old now (KeepsRest old) → Stands IsIdle old → Stands IsIdle now
-idle_now [] now since idle = rw (since.untold refl) tt
-idle_now (s ∷ past) now since idle = by since.states since.joined since.each
-  where
-    by : (states : List State) → now ≡ states ++ s ∷ past → EachState (KeepsRest (s ∷ past)) states → Stands IsIdle now
-    by [] joined each = rw joined idle
-    by (t ∷ states) joined each = rw joined (each.0.idle idle)
+use Rattle.update_engine.proofs.Committing.{has_begun, settled_made, told_on}
 
 -- ---- between two jobs
 
@@ -120,7 +113,7 @@ ready_asked mirror later_mirror count later b c old now same ready since goes =
       sound = ready.sound;
       from = ready.from ∙ sym same;
       under_way = w.under_way;
-      idle = idle_now old now since ready.idle;
+      idle = idle_on old now since ready.idle;
     }
 
 -- ---- where it stops
@@ -150,48 +143,21 @@ pub far_stops_asking : Committing → (mirror : Option Mirror) (count mid_count 
 far_stops_asking laws mirror count mid_count b c old mid now far idle since = λ start notes lists opened sound from under sets.
     let w = far start notes sound from under in
     let s = w.sets opened sets in
-    at_moment laws start (notes ++ w.more) mid_count lists opened c mid now w.under_way.heard (back_since (KeepsRest mid) mid now since)
+    at_moment laws start (notes ++ w.more) mid_count lists opened c mid now w.under_way.heard (told_back (KeepsRest mid) mid now since)
     (record { told = told_on (KeepsRest mid) mid now since s.told; commits = s.commits; made = rests s.made idle since; each = s.each; groups = s.groups; order = s.order })
 
 -- ---- what is at rest
 
-after_all_of : (old mid : List State) (s : State) → Since old mid (KeepsRest old) → KeepsRest mid s → KeepsRest old s
-after_all_of [] mid s since keeps = tt
-after_all_of (o ∷ past) mid s since keeps = by since.states since.joined since.each
-  where
-    by : (states : List State) → mid ≡ states ++ o ∷ past → EachState (KeepsRest (o ∷ past)) states → KeepsRest (o ∷ past) s
-    by [] joined each = rw joined at keeps
-    by (t ∷ states) joined each =
-        let k = rw joined at keeps in
-        record { rest = λ idle folder at_rest. k.rest (each.0.idle idle) folder (each.0.rest idle folder at_rest); idle = λ idle. k.idle (each.0.idle idle) }
-
-each_state : (P Q : State → Type 0) (states : List State) → ((s : State) → P s → Q s) → EachState P states → EachState Q states
-each_state P Q [] f each = tt
-each_state P Q (s ∷ states) f each = (f s each.0, each_state P Q states f each.1)
-
-each_append : (P : State → Type 0) (later states : List State) → EachState P later → EachState P states → EachState P (later ++ states)
-each_append P [] states a b = b
-each_append P (s ∷ later) states a b = (a.0, each_append P later states a.1 b)
-
--- what keeps what is at rest twice keeps it
-pub rest_more : (old mid now : List State) → Since old mid (KeepsRest old) → Since mid now (KeepsRest mid) → Since old now (KeepsRest old)
-rest_more old mid now one two = record {
-  states = two.states ++ one.states;
-  joined = two.joined ∙ (ap (λ (x : List State). two.states ++ x) one.joined ∙ sym (append_assoc two.states one.states old));
-  untold = λ none. two.untold (one.untold none);
-  each = each_append (KeepsRest old) two.states one.states (each_state (KeepsRest mid) (KeepsRest old) two.states (λ s keeps. after_all_of old mid s one keeps) two.each) one.each;
-}
-
 -- where nothing is committed, what is at rest stays so
 pub bare_round : (old begin mid now : List State) → Since old begin (KeepsRest old) → mid ≡ begin → Since mid now (KeepsRest mid) → Since old now (KeepsRest old)
-bare_round old begin mid now one same two = rest_more old begin now one (rw same at two)
+bare_round old begin mid now one same two = rests_on old begin now one (rw same at two)
 
 pub bare_aside : (old begin now : List State) → Since old begin (KeepsRest old) → now ≡ begin → Since old now (KeepsRest old)
 bare_aside old begin now one same = rw same one
 
 -- the journal stays open for commits
 pub idle_after : (old now : List State) → Stands IsIdle old → Since old now (KeepsRest old) → Stands IsIdle now
-idle_after old now idle since = idle_now old now since idle
+idle_after old now idle since = idle_on old now since idle
 
 -- ---- how much is asked
 

@@ -1,5 +1,4 @@
 mod Asking
-mod Counts
 mod Damage
 mod Endings
 mod Lines

@@ -17,7 +17,7 @@ use report_text::FaultLine;
 use std::alloc::Global;
 
 /// Takes the hold, reads the moment, and runs what is configured.
-#[tactic(auto, using(crate::proofs::Counts::none_fell, crate::proofs::Endings::with_time))]
+#[tactic(auto, using(update_engine::proofs::Lists::none_fall, crate::proofs::Endings::with_time))]
 pub fn run_held<D: Disk, M: Method, C: Clock, S: Sink>(
     alloc: Global,
     it: Configured,

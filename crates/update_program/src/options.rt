@@ -54,7 +54,7 @@ pub fn run_options<E: Etc, D: Disk, M: Method, C: Clock, S: Sink>(
 }
 
 /// The same, of which the headline follows.
-#[tactic(auto, using(crate::proofs::Counts::none_fell, crate::proofs::Endings::configured_ends, crate::proofs::Endings::refusal_ends))]
+#[tactic(auto, using(update_engine::proofs::Lists::none_fall, crate::proofs::Endings::configured_ends, crate::proofs::Endings::refusal_ends))]
 fn run_configured<E: Etc, D: Disk, M: Method, C: Clock, S: Sink>(
     alloc: Global,
     options: &Options,

@@ -22,7 +22,7 @@ use update_engine::run_update;
 /// Runs what is configured and tells what became of it.
 ///
 /// `now` is the moment of the run in seconds since 1970-01-01 00:00:00 UTC.
-#[tactic(auto, using(crate::proofs::Counts::none_fell, crate::proofs::Damage::told_at, crate::proofs::Damage::none_told))]
+#[tactic(auto, using(update_engine::proofs::Lists::none_fall, crate::proofs::Damage::told_at, crate::proofs::Damage::none_told))]
 pub fn run_plan<D: Disk, M: Method, S: Sink>(
     alloc: Global,
     it: Configured,

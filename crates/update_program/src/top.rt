@@ -31,7 +31,7 @@ use std::thread::Threads;
 /// beside a report. Without one it is 100 where words, configuration or journal are refused, 102 where the lists folder
 /// failed, 103 where memory ran out, 104 where another process holds the lists folder, 105 where the output failed, and 106
 /// where the configuration folder failed. The log is that of the run, where it came to its end.
-#[tactic(auto, using(crate::proofs::Asking::for_any, crate::proofs::Asking::for_any_number, crate::proofs::Asking::for_no_update, crate::proofs::Counts::none_fell))]
+#[tactic(auto, using(crate::proofs::Asking::for_any, crate::proofs::Asking::for_any_number, crate::proofs::Asking::for_no_update, update_engine::proofs::Lists::none_fall))]
 pub fn update_call<
     R: AllocGlobal + Threads + Wait + Copy + Send + 'static,
     E: Etc,

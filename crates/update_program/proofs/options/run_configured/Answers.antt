@@ -1,5 +1,5 @@
 use Rattle.std.proofs.Common.{ap, refl, inr, Err}
-use Rattle.update_program.proofs.Counts.{none_fell}
+use Rattle.update_engine.proofs.Lists.{none_fall}
 use Rattle.update_program.proofs.Endings.{refusal_ends}
 use Rattle.update_program.proofs.options.run_configured.Goals as goal
 
@@ -9,7 +9,7 @@ returns-in-Err g c =
     let read = c.in-Err.ensures in
     record {
       configuration = read.frame.same;
-      methods = record { mirrors = refl; counts = none_fell _ };
+      methods = record { mirrors = refl; counts = none_fall _ };
       moment = inr (rw by.log refl, refl);
       disk_fault = λ e. absurd (by.no_disk_fault e);
       quiet_disk = λ some. let never = rw by.log at some in absurd cc;
