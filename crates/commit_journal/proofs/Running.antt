@@ -52,7 +52,7 @@ more_begun commits folder least most greater s grows leaves image is =
 pub prepared_since : (folder : Files) (old now : List State) → Stands (IsAtRest folder) old → Since old now (KeepsLists old) → Since old now (Leaves folder)
 prepared_since folder old now rest since = since_map (KeepsLists old) (Leaves folder) old now (λ s keeps. keeps folder rest) since
 
-newest : (P : State → Type 0) (old now : List State) → Since old now P → Stands P old → Stands P now
+pub newest : (P : State → Type 0) (old now : List State) → Since old now P → Stands P old → Stands P now
 newest P old now since stands = newest_of P old since.states now since.joined since.each stands
 
 -- within a commit

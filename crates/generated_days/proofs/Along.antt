@@ -9,7 +9,7 @@ use Rattle.acq_base.specs.declared.uri.Uri.{Uri}
 use Rattle.board_model.specs.Runs.{Note}
 use Rattle.board_model.specs.Stands.{AreAsked, tolds}
 use Rattle.generated_days.specs.Asks.{asks_along}
-use Rattle.generated_days.proofs.Answers.{NoFault, Said, no_moves, seen_way, way-answered}
+use Rattle.generated_days.proofs.Answers.{NoFault, Said}
 use Rattle.update_model.specs.Mirrored.{behind, heard_once, positions_by, seen, trails_over}
 use Rattle.update_model.specs.Points.{Point, Over, At, lead, run, start, step}
 use Rattle.update_model.specs.Reach.{Way, On, Stop, followed, reach, reach_by, way, within}
@@ -22,6 +22,7 @@ use Rattle.update_model.specs.declared.ask.Closed.TheVariants.{Served, Moved, Ab
 use Rattle.update_model.specs.declared.ask.Ending.{Ending}
 use Rattle.update_model.specs.declared.ask.Ending.TheVariants as endings
 use Rattle.update_model.specs.declared.end.End.{End}
+use Rattle.update_model.proofs.Routes.{seen_way, way-answered, no_moves}
 
 -- ---- an ask at another URI is answered as the same ask
 

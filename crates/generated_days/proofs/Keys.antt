@@ -3,7 +3,7 @@ use Rattle.std.proofs.Common.{◌≡◌, ◌≢◌, ◌≤◌, ◌<◌, ℕ, zer
 use Rattle.std.specs.Prelude.{if◌then◌else◌}
 use Rattle.std.specs.List.{slice_index_or, AllByRecursion as Each}
 use Rattle.std.proofs.lemmas.Bool.Decides.{nat_tests}
-use Rattle.std.proofs.lemmas.Bool.{and_parts}
+use Rattle.std.proofs.lemmas.Bool.{and_parts, eqb-true}
 use Rattle.acq_base.specs.declared.plan.Source.{Source}
 use Rattle.acq_base.specs.declared.plan.Target.{Target}
 use Rattle.board_model.specs.Keys.{keys_from, keys_in, places_from, same_key}
@@ -46,9 +46,6 @@ is-there (other ∷ keys) key c = at c.0 c.1 c.2 (λ d. is-there keys key d)
         omega (arith, one)
     at (suc k) below is more = let rest = more (k, omega (arith, below), is) in omega (arith, rest)
 
-equal : (a b : ℕ) → (a == b) ≡ true → a ≡ b
-equal a b e = grind (arith, nat_tests, e)
-
 -- a test, and what it shows
 counted : (P : ℕ → Type 0) (c : Bool) → (c ≡ true → P 1) → (c ≡ false → P 0) → P (one_if c)
 counted P true one none = one refl
@@ -60,7 +57,7 @@ none-before key source place [] low = refl
 none-before key source place (t ∷ ts) low =
     let rest = none-before key source (suc place) ts (omega (arith, low)) in
     counted (λ n. n + times key (places_from source (suc place) ts) ≡ 0) (same_key key (record { source = source; place = place }))
-    (λ same. let is = equal key.place place (and_parts (key.source == source) (key.place == place) same).1 in absurd (omega (arith, is, low)))
+    (λ same. let is = eqb-true key.place place (and_parts (key.source == source) (key.place == place) same).1 in absurd (omega (arith, is, low)))
     (λ other. omega (arith, rest))
 
 none-elsewhere : (key : Key) (source place : ℕ) (targets : List Target) → key.source ≢ source → times key (places_from source place targets) ≡ 0
@@ -68,7 +65,7 @@ none-elsewhere key source place [] far = refl
 none-elsewhere key source place (t ∷ ts) far =
     let rest = none-elsewhere key source (suc place) ts far in
     counted (λ n. n + times key (places_from source (suc place) ts) ≡ 0) (same_key key (record { source = source; place = place }))
-    (λ same. absurd (far (equal key.source source (and_parts (key.source == source) (key.place == place) same).0)))
+    (λ same. absurd (far (eqb-true key.source source (and_parts (key.source == source) (key.place == place) same).0)))
     (λ other. omega (arith, rest))
 
 once-in-places : (key : Key) (source place : ℕ) (targets : List Target) → times key (places_from source place targets) ≤ 1
@@ -76,7 +73,7 @@ once-in-places key source place [] = omega arith
 once-in-places key source place (t ∷ ts) =
     let rest = once-in-places key source (suc place) ts in
     counted (λ n. n + times key (places_from source (suc place) ts) ≤ 1) (same_key key (record { source = source; place = place }))
-    (λ same. let is = equal key.place place (and_parts (key.source == source) (key.place == place) same).1 in
+    (λ same. let is = eqb-true key.place place (and_parts (key.source == source) (key.place == place) same).1 in
     let none = none-before key source (suc place) ts (omega (arith, is)) in omega (arith, none))
     (λ other. omega (arith, rest))
 
@@ -84,7 +81,7 @@ once-in-source : (key : Key) (n : ℕ) (source : Source) → times key (keys_in 
 once-in-source key n source =
     let rest = once-in-places key n 1 source.targets in
     counted (λ k. k + times key (places_from n 1 source.targets) ≤ 1) (same_key key (record { source = n; place = 0 }))
-    (λ same. let is = equal key.place 0 (and_parts (key.source == n) (key.place == 0) same).1 in
+    (λ same. let is = eqb-true key.place 0 (and_parts (key.source == n) (key.place == 0) same).1 in
     let none = none-before key n 1 source.targets (omega (arith, is)) in omega (arith, none))
     (λ other. omega (arith, rest))
 
@@ -92,7 +89,7 @@ none-in-source : (key : Key) (n : ℕ) (source : Source) → key.source ≢ n �
 none-in-source key n source far =
     let rest = none-elsewhere key n 1 source.targets far in
     counted (λ k. k + times key (places_from n 1 source.targets) ≡ 0) (same_key key (record { source = n; place = 0 }))
-    (λ same. absurd (far (equal key.source n (and_parts (key.source == n) (key.place == 0) same).0)))
+    (λ same. absurd (far (eqb-true key.source n (and_parts (key.source == n) (key.place == 0) same).0)))
     (λ other. omega (arith, rest))
 
 none-behind : (key : Key) (n : ℕ) (sources : List Source) → key.source < n → times key (keys_from n sources) ≡ 0
@@ -112,7 +109,7 @@ once-in-all key n (s ∷ sources) = by (key.source == n) refl (once-in-all key (
 
     by : (c : Bool) → (key.source == n) ≡ c → times key (keys_from (suc n) sources) ≤ 1 → times key (keys_from n (s ∷ sources)) ≤ 1
     by true same later =
-        let is = equal key.source n same in
+        let is = eqb-true key.source n same in
         let first = once-in-source key n s in
         let rest = none-behind key (suc n) sources (omega (arith, is)) in
         omega (arith, all, first, rest)

@@ -11,6 +11,7 @@ use Rattle.update_model.specs.Outcomes.{Parts}
 use Rattle.update_model.specs.declared.ask.Body.TheVariants as bodies
 use Rattle.update_model.specs.declared.ask.Closed.{Closed}
 use Rattle.update_model.specs.declared.ask.Closed.TheVariants as closings
+use Rattle.acq_outside.proofs.Going.{no_time}
 use Rattle.journal_model.proofs.Views.{partial_apart}
 use Rattle.journal_model.proofs.Twice.{same_or_not}
 use Rattle.run_jobs.specs.Coupling.{HoldsUse, UsesHold}
@@ -20,12 +21,8 @@ pub told_back : (P : State → Type 0) (old now : List State) → Since old now 
 told_back P [] now since told = rw (since.untold refl) at told
 told_back P (s ∷ past) now since told = tt
 
--- no time has passed
-pub no_time : (P : State → Type 0) (now : List State) → Since now now P
-no_time P now = record { states = []; joined = refl; untold = λ e. e; each = tt }
-
 pub moments_of : (staged : Option ListName) (old now : List State) → IsFetched staged old now → Since old now (KeepsRest old)
-moments_of None old now is = rw is (no_time (KeepsRest old) old)
+moments_of None old now is = rw is (no_time old old (KeepsRest old) refl)
 moments_of (Some name) old now is = is.moments
 
 keep_by : (from : ℕ) (wanted : PartUse) (name first : List ℕ) (now : List State) → wanted ≡ use_from from → HoldsUse wanted name first now → from ≤ length (part_bytes now name)

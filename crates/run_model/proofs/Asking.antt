@@ -18,10 +18,11 @@ use Rattle.update_model.specs.Trails.{Told}
 use Rattle.update_model.specs.declared.ask.Closed.{Closed as Answered_as}
 use Rattle.update_model.specs.declared.settled.Settled.{Settled}
 use Rattle.update_model.specs.declared.settled.Verdict2.{Verdict2}
+use Rattle.update_model.proofs.Carried.{each-at}
 use Rattle.board_model.proofs.Places.{bound}
 use Rattle.board_bounds.proofs.Asking.{reached-stands}
 use Rattle.run_model.specs.Asked.{IsListed, LogsTellNotes, NotesAreOfItems, OthersHearNothing}
-use Rattle.run_model.proofs.Names.{each_in, get_in}
+use Rattle.run_model.proofs.Names.{get_in}
 
 -- ---- each note is of an item
 
@@ -133,7 +134,7 @@ others_hear_nothing stand exactly config olds notes b n k source old target r fi
     let board : (run r.events (start config olds r.lanes)).board ≡ b = ap (λ (w : World). w.board) r.leads in
     let all : Each (λ slot. slot ≡ Closed) b.slots =
     subst (λ (x : Board). Each (λ slot. slot ≡ Closed) x.slots) board ((exactly config olds r.lanes r.events r.each).0 (ap is_finished board ∙ finished)) in
-    let closed : s.slot ≡ Closed = each_in (λ (slot : Slot). slot ≡ Closed) b.slots s.slot all (get_in b.slots n s.slot s.slot_is) in
+    let closed : s.slot ≡ Closed = each-at (λ (slot : Slot). slot ≡ Closed) b.slots s.slot all (get_in b.slots n s.slot s.slot_is) in
     one s.slot s.verdict closed s.stands
   where
     one : (slot : Slot) (verdict : Verdict2) → slot ≡ Closed → SourceStands config n source old slot verdict (history_of n notes) → NothingOrListed config n source old target (history_of n notes (suc k)) (history_of n notes)

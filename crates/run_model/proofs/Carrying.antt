@@ -7,6 +7,7 @@ use Rattle.std.proofs.lemmas.List.Elements.{All-contains}
 use Rattle.acq_base.specs.Plan.{IsPlanned, names_of}
 use Rattle.acq_base.specs.declared.installed.Old.{Old}
 use Rattle.acq_base.specs.declared.plan.Source.{Source}
+use Rattle.update_model.proofs.Carried.{each-at}
 use Rattle.acq_outside.specs.Disk.{Files, with_file}
 use Rattle.board_model.specs.CallLaws.{AreOnce}
 use Rattle.board_model.specs.Changes.{AreMade}
@@ -23,7 +24,7 @@ use Rattle.list_commits.specs.SetLaws.{OwnsChanges}
 use Rattle.list_commits.proofs.Apart.{here, there}
 use Rattle.run_model.specs.Begun.{Begun}
 use Rattle.run_model.specs.Groups.{Group, OfSource, OfNone, AreGroups, AreOfNone, IsNewSet, all_groups, changes_in, commit_of, commits_of, removed_in, sources_in}
-use Rattle.run_model.proofs.Names.{SameUnder, each_in, get_in, in_plan, sources_apart}
+use Rattle.run_model.proofs.Names.{SameUnder, get_in, in_plan, sources_apart}
 use Rattle.run_model.proofs.Ready.{Below, WasReady, owns, put_names, was_ready}
 
 -- ---- groups in turn
@@ -136,7 +137,7 @@ pub record HasGroup (begun : Begun) (heard : List Note) (n : ℕ) (source : Sour
   pub behind : SameUnder source (folder_steps changes between) after
 
 never_again : (n : ℕ) (ns : List ℕ) → Each (λ m. m ≢ n) ns → Contains ns n → ⊥
-never_again n ns others is = each_in (λ m. m ≢ n) ns n others is refl
+never_again n ns others is = each-at (λ m. m ≢ n) ns n others is refl
 
 pub has_group : Below → (begun : Begun) (heard : List Note) (groups : List Group) (lists : Files) (n : ℕ) (source : Source) → All IsPlanned begun.config.sources → AreApart (flat_map names_of begun.config.sources)
     → AreGroups begun heard groups → AreOnce (sources_in groups) → slice_get begun.config.sources n ≡ Some source → Contains (sources_in groups) n → HasGroup begun heard n source lists (after_groups groups lists)

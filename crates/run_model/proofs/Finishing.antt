@@ -27,6 +27,7 @@ use Rattle.update_model.specs.declared.log.RunLog.{RunLog}
 use Rattle.update_model.specs.declared.settled.Held.{Held}
 use Rattle.update_model.specs.declared.settled.Verdict2.{Verdict2}
 use Rattle.update_model.specs.declared.settled.Verdict2.TheVariants.{Installed, Hit, Older, Kept}
+use Rattle.update_model.proofs.Carried.{each-at}
 use Rattle.board_model.proofs.Making.{none-in, first-or-rest}
 use Rattle.board_model.proofs.Resting.{olds-there}
 use Rattle.board_bounds.proofs.Asking.{reached-stands}
@@ -38,7 +39,7 @@ use Rattle.run_model.specs.Laws.{RunsLeaveOutcomes}
 use Rattle.run_model.specs.Runs.{installed_by, is_installed, is_told_installed}
 use Rattle.run_model.proofs.Carrying.{HasGroup, Made, after_groups, all_in_turn, has_group, is_made, kept}
 use Rattle.run_model.proofs.Ends.{same_release, set_admitted, ok_once}
-use Rattle.run_model.proofs.Names.{SameUnder, each_in, get_in, holds_moved, installed_moved, keeps_same}
+use Rattle.run_model.proofs.Names.{SameUnder, get_in, holds_moved, installed_moved, keeps_same}
 use Rattle.run_model.proofs.Ready.{Below, installed_set}
 use Rattle.run_model.proofs.Setting.{LeavesSet, leaves_set}
 
@@ -96,7 +97,7 @@ is_settled laws config olds notes b n source old r finished at =
     let board : (run_world r.events (start_world config olds r.lanes)).board ≡ b = ap (λ (w : World). w.board) r.leads in
     let all : Each (λ slot. slot ≡ Closed) b.slots =
     subst (λ (x : Board). Each (λ slot. slot ≡ Closed) x.slots) board ((laws.exactly config olds r.lanes r.events r.each).0 (ap is_finished board ∙ finished)) in
-    let closed : s.slot ≡ Closed = each_in (λ (slot : Slot). slot ≡ Closed) b.slots s.slot all (get_in b.slots n s.slot s.slot_is) in
+    let closed : s.slot ≡ Closed = each-at (λ (slot : Slot). slot ≡ Closed) b.slots s.slot all (get_in b.slots n s.slot s.slot_is) in
     ((laws.once config olds notes b r).closed n).1 (s.slot_is ∙ ap (λ (x : Slot). Some x) closed)
 
 -- ---- a source that is not installed

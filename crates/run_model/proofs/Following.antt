@@ -14,6 +14,7 @@ use Rattle.board_model.specs.Laws.{BoardsStand}
 use Rattle.board_model.specs.Slots.{Config, Slot, Closed, is_ready}
 use Rattle.host_queues.specs.Lanes.{changed_at}
 use Rattle.update_model.specs.declared.settled.Verdict2.{Verdict2}
+use Rattle.update_model.proofs.Carried.{each-from}
 use Rattle.board_model.proofs.Making.{none-in}
 use Rattle.board_model.proofs.Places.{bound}
 use Rattle.board_model.proofs.Events.{ready-slot}
@@ -26,7 +27,6 @@ use Rattle.run_model.proofs.Carrying.{all_in_turn}
 use Rattle.run_model.proofs.Cleaning.{stays_loose}
 use Rattle.run_model.proofs.Counting.{there_too, verdicts_count}
 use Rattle.run_model.proofs.Finishing.{once_filtered}
-use Rattle.run_model.proofs.Names.{each_all}
 use Rattle.run_model.proofs.Ready.{Below}
 
 pub installed_are_once : SourcesAreSettledOnce → InstalledAreOnce
@@ -100,7 +100,7 @@ installed_are_in_turn b h = rising_filtered (λ k. is_told_installed (slice_get 
 
 pub lists_are_read : Below → ListsAreRead
 lists_are_read below source lists s planned rest =
-    each_all (λ name. reads s name ≡ lists name) (names_of source) (λ name is. rest.lists_are name (All-contains (λ n. is_list n ≡ true) (names_of source) name (below.lists source planned) is))
+    each-from (λ name. reads s name ≡ lists name) (names_of source) (λ name is. rest.lists_are name (All-contains (λ n. is_list n ≡ true) (names_of source) name (below.lists source planned) is))
 
 -- ---- the sources that are told as installed
 

@@ -5,6 +5,7 @@ use Rattle.std.proofs.lemmas.Slice.Eq.{bytes_eq-Decides}
 use Rattle.acq_base.specs.declared.installed.Old.{Old}
 use Rattle.acq_base.specs.declared.plan.Source.{Source}
 use Rattle.acq_base.specs.declared.plan.Target.{Target}
+use Rattle.update_model.proofs.Carried.{each-from}
 use Rattle.acq_outside.specs.Crash.{reads}
 use Rattle.acq_outside.specs.Disk.{Files}
 use Rattle.board_model.specs.Changes.{IsInstalled}
@@ -17,7 +18,7 @@ use Rattle.journal_model.specs.declared.step.Gate.{Gate}
 use Rattle.journal_model.specs.declared.step.Gate.TheVariants.{Open, Damaged, Shut}
 use Rattle.lists_dir.specs.Installed.{installed_of, listed, lists_of}
 use Rattle.run_model.specs.Beginnings.{InstalledListsBegin, OpenedListsAreAlone}
-use Rattle.run_model.proofs.Names.{each_all, map_in}
+use Rattle.run_model.proofs.Names.{map_in}
 
 -- ---- names of rows
 
@@ -56,7 +57,7 @@ found files targets name (Some bytes) is among = present files targets name byte
 installed_so : (files : Files) (source : Source) → IsInstalled source (installed_of files source) files
 installed_so files source = record {
   release = refl;
-  lists = each_all (λ target. named (lists_of files source.targets) target.name.0 ≡ files target.name.0) source.targets
+  lists = each-from (λ target. named (lists_of files source.targets) target.name.0 ≡ files target.name.0) source.targets
       (λ target is. found files source.targets target.name.0 (files target.name.0) refl (map_in (λ (t : Target). t.name.0) source.targets target is));
 }
 

@@ -24,6 +24,7 @@ use Rattle.update_model.specs.declared.log.RunLog.{RunLog}
 use Rattle.update_model.specs.declared.settled.Verdict2.{Verdict2}
 use Rattle.update_model.specs.declared.settled.Verdict2.TheVariants as verdicts
 use Rattle.update_model.specs.declared.settled.Verdict2.TheVariants.{Installed, Hit}
+use Rattle.update_model.proofs.Carried.{each-from}
 use Rattle.board_model.proofs.Making.{none-in, first-or-rest}
 use Rattle.run_model.specs.Begun.{Begun, BeginsOver}
 use Rattle.run_model.specs.Coming.{CameTo, LeavesMirrored, mirrored}
@@ -36,7 +37,6 @@ use Rattle.run_model.proofs.Counting.{there_too, verdicts_count}
 use Rattle.run_model.proofs.Ends.{outcome_admitted, set_admitted, ok_once}
 use Rattle.run_model.proofs.Finishing.{Finished, runs_leave_outcomes}
 use Rattle.run_model.proofs.Hearing.{release_is_mirrors}
-use Rattle.run_model.proofs.Names.{each_all}
 
 -- what the crates below say of a board that heard a mirror
 pub record Heard : Type 0 where
@@ -151,7 +151,7 @@ all_well outcome_of (source ∷ sources) (verdict ∷ told) same each =
 
 pub runs_lead_to_next : Heard → RunsLeadToNext
 runs_lead_to_next laws together begun lists log commits run mirror plan begins heard same = record {
-  sources = subst (Each leaves) (sym same) (each_all leaves begun.config.sources (λ source among. let at = get_of begun.config.sources source among in (left at.0 source at.1).leaves));
+  sources = subst (Each leaves) (sym same) (each-from leaves begun.config.sources (λ source among. let at = get_of begun.config.sources source among in (left at.0 source at.1).leaves));
   others = λ name out.
       runs_clean_up laws.finished.below together begun lists log commits name begins run (λ within. out (subst (λ (ss : List Source). Contains (flat_map names_of ss) name) (sym same) within))
       ∙ ap (λ (c : Bool). if c then None else lists name) clean;

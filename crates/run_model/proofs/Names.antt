@@ -1,7 +1,7 @@
 -- Names of a plan's sources, no two of which are one.
 use Rattle.std.proofs.Common.{◌≡◌, ◌≢◌, ◌⊎◌, ⊎_elim, refl, sym, ap, ◌∙◌, subst, ℕ, zero, suc, List, [], ◌∷◌, map, Contains, Some, option_map}
 use Rattle.std.specs.Prelude.{slice_get}
-use Rattle.std.specs.List.{flat_map, AllByRecursion as Each}
+use Rattle.std.specs.List.{flat_map}
 use Rattle.std.proofs.lemmas.List.Elements.{Contains-append_left, Contains-append_right}
 use Rattle.acq_base.specs.Plan.{names_of}
 use Rattle.acq_base.specs.Sum.{sum_of}
@@ -15,19 +15,12 @@ use Rattle.commit_journal.specs.Changes.{AreApart}
 use Rattle.release_file.specs.Release.{listed_sum}
 use Rattle.update_model.specs.Next.{Holds, Keeps}
 use Rattle.update_model.specs.Outcomes.{Admitted}
+use Rattle.update_model.proofs.Carried.{each-from, each-at}
 use Rattle.board_model.proofs.Making.{none-in, first-or-rest}
 use Rattle.list_commits.proofs.Apart.{here, there}
 use Rattle.list_commits.proofs.Recording.{both_apart, right_apart}
 
 -- ---- elements of lists
-
-pub each_all : {X : Type 0} (P : X → Type 0) (xs : List X) → ((x : X) → Contains xs x → P x) → Each P xs
-each_all P [] all = tt
-each_all P (x ∷ xs) all = (all x (here x xs x refl), each_all P xs (λ y is. all y (there x xs y is)))
-
-pub each_in : {X : Type 0} (P : X → Type 0) (xs : List X) (x : X) → Each P xs → Contains xs x → P x
-each_in P [] x each is = absurd (none-in x is)
-each_in P (y ∷ ys) x each is = ⊎_elim (λ same. subst P same each.0) (λ later. each_in P ys x each.1 later) (first-or-rest y ys x is)
 
 pub map_in : {X Y : Type 0} (f : X → Y) (xs : List X) (x : X) → Contains xs x → Contains (map f xs) (f x)
 map_in f [] x is = absurd (none-in x is)
@@ -75,17 +68,17 @@ target_in source target is = there source.release_name.0 (map (λ (t : Target). 
 pub holds_moved : (source : Source) (set : Admitted) (a b : Files) → SameUnder source a b → Holds a source set → Holds b source set
 holds_moved source set a b same h = record {
   release_file = same source.release_name.0 (release_in source) ∙ h.release_file;
-  lists = each_all (λ target. option_map sum_of (b target.name.0) ≡ listed_sum set.release target.path) source.targets
+  lists = each-from (λ target. option_map sum_of (b target.name.0) ≡ listed_sum set.release target.path) source.targets
       (λ target is. ap (option_map sum_of) (same target.name.0 (target_in source target is))
-      ∙ each_in (λ (t : Target). option_map sum_of (a t.name.0) ≡ listed_sum set.release t.path) source.targets target h.lists is);
+      ∙ each-at (λ (t : Target). option_map sum_of (a t.name.0) ≡ listed_sum set.release t.path) source.targets target h.lists is);
 }
 
 pub keeps_same : (source : Source) (a b : Files) → SameUnder source a b → Keeps source a b
-keeps_same source a b same = each_all (λ name. b name ≡ a name) (names_of source) same
+keeps_same source a b same = each-from (λ name. b name ≡ a name) (names_of source) same
 
 pub installed_moved : (source : Source) (old : Old) (a b : Files) → SameUnder source a b → IsInstalled source old a → IsInstalled source old b
 installed_moved source old a b same h = record {
   release = h.release ∙ sym (same source.release_name.0 (release_in source));
-  lists = each_all (λ target. named old.lists target.name.0 ≡ b target.name.0) source.targets
-      (λ target is. each_in (λ (t : Target). named old.lists t.name.0 ≡ a t.name.0) source.targets target h.lists is ∙ sym (same target.name.0 (target_in source target is)));
+  lists = each-from (λ target. named old.lists target.name.0 ≡ b target.name.0) source.targets
+      (λ target is. each-at (λ (t : Target). named old.lists t.name.0 ≡ a t.name.0) source.targets target h.lists is ∙ sym (same target.name.0 (target_in source target is)));
 }

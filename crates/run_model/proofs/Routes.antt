@@ -22,9 +22,10 @@ use Rattle.update_model.specs.Points.{start}
 use Rattle.update_model.specs.Releases.{IsAdmissible, installed_release}
 use Rattle.update_model.specs.Walks.{Walk, IsRoute, release_walk, target_walk}
 use Rattle.update_model.specs.declared.end.End.{End}
+use Rattle.update_model.proofs.Carried.{each-at}
 use Rattle.run_model.specs.Laws.{NewSetsAreAdmissible, NewSetsAreMirrors}
 use Rattle.run_model.proofs.Hearing.{agrees_along, said_by}
-use Rattle.run_model.proofs.Names.{each_in, get_in}
+use Rattle.run_model.proofs.Names.{get_in}
 
 -- ---- beside what a run begins with
 
@@ -46,7 +47,7 @@ lists_lie dir parts config source old installed sizes [] places = tt
 lists_lie dir parts config source old installed sizes (l ∷ lists) places =
     let target = target_of source l.place l.wanted.name places.0 in
     let lies : named old.lists ((target.1).0).name.0 ≡ dir ((target.1).0).name.0 =
-    each_in (λ (t : Target). named old.lists t.name.0 ≡ dir t.name.0) source.targets (target.1).0 installed.lists (get_in source.targets target.0 (target.1).0 (target.1).1) in
+    each-at (λ (t : Target). named old.lists t.name.0 ≡ dir t.name.0) source.targets (target.1).0 installed.lists (get_in source.targets target.0 (target.1).0 (target.1).1) in
     ((subst (λ (x : ListName). named old.lists x.0 ≡ dir x.0) (target.1).2 lies, sizes l.wanted.name.0), lists_lie dir parts config source old installed sizes lists places.1)
 
 -- ---- routes that agree with a mirror

@@ -13,7 +13,10 @@ use Rattle.board_model.specs.Runs.{Note}
 use Rattle.commit_journal.specs.Changes.{Filled, folder_steps, stepped_all}
 use Rattle.commit_journal.specs.Runs.{Commit, LeavesFirst, IsWholeNow, IsWholeSince, Moment, after_first}
 use Rattle.update_model.specs.Next.{Keeps}
+use Rattle.update_model.proofs.Carried.{each-at}
 use Rattle.board_model.proofs.Making.{none-in, first-or-rest}
+use Rattle.acq_outside.proofs.Going.{since_map}
+use Rattle.commit_journal.proofs.Running.{stands_as}
 use Rattle.list_commits.proofs.Apart.{here, there, apart_of}
 use Rattle.run_model.specs.Begun.{Begun, BeginsOver}
 use Rattle.run_model.specs.Coming.{HasNewSet, LeavesWhole, SourcesAreWhole}
@@ -22,8 +25,7 @@ use Rattle.run_model.specs.Laws.{CommitsLeaveWhole, CrashesLeaveWhole, GroupsMak
 use Rattle.run_model.specs.Runs.{AreAll, HasBegun, MayHaveBegun, installed_by, is_told_installed}
 use Rattle.run_model.proofs.Carrying.{HasGroup, after_groups, has_group, is_made, kept, stepped, after_both}
 use Rattle.run_model.proofs.Finishing.{once_filtered}
-use Rattle.run_model.proofs.Moments.{since_more, stands_more}
-use Rattle.run_model.proofs.Names.{each_in, SameUnder, holds_moved, installed_moved, keeps_same}
+use Rattle.run_model.proofs.Names.{SameUnder, holds_moved, installed_moved, keeps_same}
 use Rattle.run_model.proofs.Ready.{Below}
 use Rattle.run_model.proofs.Setting.{LeavesSet, leaves_set}
 
@@ -132,7 +134,7 @@ group_makes below begun heard n changes new_set lists before begins same =
 
 pub groups_make_sets : Below → GroupsMakeSets
 groups_make_sets below begun lists before heard n changes new_set begins keeps =
-    group_makes below begun heard n changes new_set lists before begins (λ name is. each_in (λ name. before name ≡ lists name) (names_of new_set.source) name keeps is)
+    group_makes below begun heard n changes new_set lists before begins (λ name is. each-at (λ name. before name ≡ lists name) (names_of new_set.source) name keeps is)
 
 new_set_whole : Below → (begun : Begun) (heard : List Note) (n : ℕ) (source : Source) (lists after : Files) → BeginsOver begun lists → slice_get begun.config.sources n ≡ Some source
     → HasGroup begun heard n source lists after → HasNewSet begun heard n source after
@@ -188,8 +190,8 @@ commits_leave_whole below law together begun lists commits run count begins n so
 pub crashes_leave_whole : Below → SourcesAreSettledOnce → ((commits : List Commit) (acknowledged started : ℕ) (old now : List State) → Moment commits acknowledged started old now → IsWholeNow commits acknowledged started old now)
     → ((commits : List Commit) (acknowledged started : ℕ) (old now : List State) → Moment commits acknowledged started old now → IsWholeSince commits started old now) → CrashesLeaveWhole
 crashes_leave_whole below law whole_now whole_since together begun lists commits run acknowledged started opened now begins rest moment = (
-  since_more (LeavesFirst (commits_of commits) lists 0 started) (LeavesWhole begun run.heard lists) opened now (whole 0) (whole_since (commits_of commits) acknowledged started opened now moment lists rest),
-  stands_more (LeavesFirst (commits_of commits) lists acknowledged started) (LeavesWhole begun run.heard lists) now (whole acknowledged)
+  since_map (LeavesFirst (commits_of commits) lists 0 started) (LeavesWhole begun run.heard lists) opened now (whole 0) (whole_since (commits_of commits) acknowledged started opened now moment lists rest),
+  stands_as (LeavesFirst (commits_of commits) lists acknowledged started) (LeavesWhole begun run.heard lists) now (whole acknowledged)
       (whole_now (commits_of commits) acknowledged started opened now moment lists rest),
 )
   where

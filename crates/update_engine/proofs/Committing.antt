@@ -38,13 +38,14 @@ use Rattle.update_model.specs.declared.settled.Settled.{Settled}
 use Rattle.update_model.specs.declared.settled.Verdict2.{Verdict2}
 use Rattle.update_model.specs.declared.settled.Verdict2.TheVariants.{Installed}
 use Rattle.board_model.proofs.Making.{none-in}
+use Rattle.acq_outside.proofs.Going.{no_time}
 use Rattle.journal_model.proofs.Views.{partial_apart, partial_not_journal}
 use Rattle.commit_journal.proofs.Prepares.{settled_at}
 use Rattle.board_bounds.proofs.Walking.{at_all}
 use Rattle.run_model.proofs.Loose.{among}
 use Rattle.run_model.proofs.Names.{in_plan}
 use Rattle.run_model.proofs.Finishing.{is_held}
-use Rattle.run_jobs.proofs.Keeping.{stays_holds, no_time, told_back}
+use Rattle.run_jobs.proofs.Keeping.{stays_holds, told_back}
 use Rattle.update_engine.specs.Known.{Committing}
 use Rattle.update_engine.specs.Session.{GoesAside, HasCommittedSets, IsAtMoment, IsOneSet, IsStanding, StopsAside, begun_of, installed_in}
 use Rattle.update_engine.proofs.Naming.{release_free, which_name}
@@ -393,7 +394,7 @@ goes_committed laws b c n settled groups old now ready comes same new_one are ke
 -- nothing was done to the disk
 pub stops_here : Committing → (b : Board) (now : List State) → StopsAside b now now
 stops_here laws b now = λ start notes count lists opened sound under sets.
-    stops_unbegun laws start notes count lists opened b now now under.heard (record { lists = no_time _ now; rest = no_time _ now }) (λ is. is) sets
+    stops_unbegun laws start notes count lists opened b now now under.heard (record { lists = no_time now now _ refl; rest = no_time now now _ refl }) (λ is. is) sets
 
 -- the commit was not made
 pub stops_in_commit : Committing → (b : Board) (n : ℕ) (settled : Settled) (groups : List (List Change)) (old now : List State) → first_ready b.slots ≡ Some n → settled_of b n ≡ Some settled → is_installed settled.verdict ≡ true

@@ -26,11 +26,11 @@ use Rattle.run_model.specs.Groups.{Group, OfNone, OfSource, AreGroups, AreOfNone
 use Rattle.run_model.specs.Runs.{AreAll, AreInTurn, AreLooseLists, AreRising, Cleans, HasBegun, MayHaveBegun, cleans_up, is_kept}
 use Rattle.update_model.specs.declared.log.RunLog.{RunLog}
 use Rattle.update_model.specs.declared.settled.Verdict2.{Verdict2}
+use Rattle.acq_outside.proofs.Going.{no_time}
 use Rattle.list_commits.proofs.Apart.{there}
 use Rattle.list_commits.proofs.Gone.{all_kept}
 use Rattle.run_model.proofs.Stopping.{sources_of_both}
 use Rattle.run_jobs.proofs.Telling.{each_last}
-use Rattle.run_jobs.proofs.Keeping.{no_time}
 use Rattle.update_engine.specs.Known.{Committing}
 use Rattle.update_engine.specs.Session.{HasAllBut, HasBegunOver, HasEnded, HasLast, EndsLast, IsAtMoment, IsOneSet, IsPick, LeavesLast, Pick, StopsAside, StopsLast, begun_of, cleans, groups_for, names_to_go, numbers_of, some_names, with_removed}
 use Rattle.update_engine.proofs.Committing.{commits_last, have_shape, none_removed, settled_made}
@@ -353,7 +353,7 @@ stops_within laws together cleanup start notes count lists files opened mid now 
 pub stops_first : Committing → (together cleanup : Bool) (b : Board) (old now : List State) → now ≡ old → StopsLast together cleanup b old now
 stops_first laws together cleanup b old now same = λ start notes count lists opened switch h.
     subst (IsAtMoment start together lists opened) (sym same)
-    (stops_before laws together start notes count lists opened old old b [] h.under_way.heard (all_committed together start notes opened old b h.first h.sets) (record { lists = no_time _ old; rest = no_time _ old }) (λ is. is))
+    (stops_before laws together start notes count lists opened old old b [] h.under_way.heard (all_committed together start notes opened old b h.first h.sets) (record { lists = no_time old old _ refl; rest = no_time old old _ refl }) (λ is. is))
 
 -- it stopped as its sets were committed one by one
 pub stops_one_by_one : (together cleanup : Bool) (b : Board) (old now : List State) → together ≡ false → StopsAside b old now → StopsLast together cleanup b old now
@@ -365,7 +365,7 @@ pub stops_between : Committing → (together cleanup : Bool) (b c : Board) (old 
 stops_between laws together cleanup b c old mid now groups leaves same = λ start notes count lists opened switch h.
     let l = leaves start notes count h.sound h.under_way in
     subst (IsAtMoment start together lists opened) (sym same)
-    (stops_before laws together start notes count lists opened mid mid c l.picks l.under_way.heard (l.sets opened h.first h.sets) (record { lists = no_time _ mid; rest = no_time _ mid }) (λ is. is))
+    (stops_before laws together start notes count lists opened mid mid c l.picks l.under_way.heard (l.sets opened h.first h.sets) (record { lists = no_time mid mid _ refl; rest = no_time mid mid _ refl }) (λ is. is))
 
 -- reads change nothing
 pub leaves_on : (together : Bool) (b c : Board) (old mid now : List State) (groups : List (List Change)) → now ≡ mid → LeavesLast together b c old mid groups → LeavesLast together b c old now groups
