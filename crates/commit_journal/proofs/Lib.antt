@@ -1,19 +1,22 @@
-pub mod Recovers
-pub mod Carries
+-- Cited by the crates above too: a disk that stays idle, moments one after another, and what holds before, within and behind a
+-- commit.
+pub mod Fills
+pub mod Turned
+pub mod Prepares
+pub mod Running
+-- Of this crate's own functions.
+mod Recovers
+mod Carries
 mod Besides
-pub mod Looks
+mod Looks
 mod Turns
 mod Finds
 mod Lists
-pub mod Others
+mod Others
 mod Recordable
 mod Stepping
-pub mod Opens
-pub mod Turned
-pub mod Parted
-pub mod Fills
+mod Opens
+mod Parted
 mod Records
 mod Notes
-pub mod Prepares
-pub mod Running
 mod Allowed

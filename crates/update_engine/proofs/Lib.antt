@@ -1,4 +1,6 @@
+-- Cited by the crate above too: elements of lists, and counts that stay.
 pub mod Lists
+-- Of this crate's own functions.
 mod Naming
 mod OnBoards
 mod Committing
