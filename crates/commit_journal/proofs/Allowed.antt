@@ -1,5 +1,5 @@
 -- Changes whose steps a record may have may be recorded.
-use Rattle.std.proofs.Common.{◌≡◌, ◌≢◌, inl, inr, refl, sym, ap, ◌∙◌, subst, ℕ, ◌<◌, ◌^◌, Bool, true, false, List, [], ◌∷◌, ◌++◌, length, append_assoc, append-nil}
+use Rattle.std.proofs.Common.{◌≡◌, inl, inr, refl, sym, subst, ℕ, ◌<◌, ◌^◌, Bool, true, false, List, [], ◌∷◌, ◌++◌, length, append_assoc, append-nil}
 use Rattle.journal_model.specs.Names.{partial}
 use Rattle.journal_model.specs.Reading.{is_name_of, is_allowed, clashes, step_named}
 use Rattle.journal_model.specs.Spelling.{all_steps, AreAllowed}

@@ -5,12 +5,11 @@ use Rattle.acq_outside.specs.Crash.{State, IsSound, AllSound, reads}
 use Rattle.acq_outside.specs.Moments.{Stands, Since, From, Each}
 use Rattle.acq_outside.proofs.Going.{no_time, since_map, handed_on}
 use Rattle.acq_outside.proofs.Crashes.{reads_left}
-use Rattle.journal_model.specs.Names.{journal, partial}
+use Rattle.journal_model.specs.Names.{partial}
 use Rattle.journal_model.specs.Spelling.{all_steps}
 use Rattle.journal_model.specs.Reopen.{lists, Leaves, LeavesEither}
 use Rattle.journal_model.specs.Rest.{IsIdle, IsSettled, IsAtRest}
 use Rattle.journal_model.specs.Steps.{IsIn, Touches}
-use Rattle.journal_model.proofs.Views.{apart_names, partial_aside}
 use Rattle.journal_model.specs.declared.step.Step.{Step}
 use Rattle.commit_journal.specs.declared.changing.Change.{Change}
 use Rattle.commit_journal.specs.declared.changing.Change.TheVariants.{Put, Drop}

@@ -13,7 +13,7 @@ use Rattle.acq_outside.specs.declared.etc.Place.TheVariants.{SourcesList, Source
 use Rattle.configuration.specs.Answers.{IsOrdered, part_names}
 use Rattle.configuration.specs.Folder.{Folder, Part, folder_of, parts_at, text_at}
 use Rattle.configuration.specs.Names.{counts, listing}
-use Rattle.configuration.proofs.Order.{Name, HasAll, IsIn, below_in, not_below_itself, ordered_head, ordered_tail, same_names}
+use Rattle.configuration.proofs.Order.{Name, IsIn, below_in, not_below_itself, ordered_head, ordered_tail, same_names}
 use Rattle.configuration.proofs.Listing.{counts_listed, listed_counts, listing_ordered}
 
 -- ---- names that count, in order, are their own listing

@@ -9,7 +9,7 @@ use Rattle.source_lists.specs.declared.entry.Entry.{Entry}
 use Rattle.configuration.specs.declared.error.ConfigurationError.{ConfigurationError}
 use Rattle.configuration.specs.Answers.{Adds, AddsParts, AddsText, AreCounted, AreNames, AreParts, IsOrdered, IsOutside, IsText, ReadsConf, ReadsEntries}
 use Rattle.configuration.specs.Configured.{all_of, conf_part, conf_text, entries_given, list_part, list_text, option_pair, pairs_given}
-use Rattle.configuration.specs.Folder.{Folder, Part, folder_of, parts_in}
+use Rattle.configuration.specs.Folder.{Folder, Part, parts_in}
 use Rattle.configuration.specs.Names.{counts}
 use Rattle.configuration.proofs.Fronts.{some_text}
 use Rattle.configuration.proofs.Order.{ordered_nil, Name}

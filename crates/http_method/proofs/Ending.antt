@@ -7,7 +7,7 @@ use Rattle.acq_base.specs.declared.uri.Uri.{Uri}
 use Rattle.acq_outside.specs.declared.word.Fetch.{Fetch}
 use Rattle.acq_outside.specs.declared.word.Word.{Word}
 use Rattle.acq_outside.specs.declared.word.Word.TheVariants.{Piece, Done, Other}
-use Rattle.acq_outside.specs.Word.{CanBegin, IsWord, IsSoundWord}
+use Rattle.acq_outside.specs.Word.{CanBegin, IsWord}
 use Rattle.acq_base.specs.Mirror.{World, answer_at}
 use Rattle.acq_net.specs.declared.link.Link.{Ghosts}
 use Rattle.acq_net.specs.Due.{Due}
@@ -26,7 +26,7 @@ use Rattle.http_method.specs.declared.reading.Place.{Place}
 use Rattle.http_method.specs.declared.reading.Reading.{Reading}
 use Rattle.http_method.specs.declared.reading.Said.{Said}
 use Rattle.http_method.specs.Line.{Line, line_of}
-use Rattle.http_method.specs.Reading.{GivesOn, Goes, HearsSo, IsAsked, IsOpen, IsReading, IsServed, IsTold, IsKeptBehind, Keeps, Ends, Hears, Reads, SaysOn, StandsBehind, is_end, is_file, is_kept, keeps, kept_if, leaves_open, part_of, under_of, word_of}
+use Rattle.http_method.specs.Reading.{GivesOn, Goes, HearsSo, IsAsked, IsOpen, IsReading, IsServed, IsTold, Keeps, Ends, Hears, Reads, SaysOn, StandsBehind, is_end, is_file, is_kept, keeps, kept_if, leaves_open, part_of, under_of, word_of}
 use Rattle.http_method.proofs.Received.{AllGrow, AllTell}
 use Rattle.http_method.proofs.Mirrors.{AllFit, AllRise, Means, OneReading, Stays, StaysAtEnd, ends_open, followed_none, means_last, means_piece, piece_within, told_word}
 

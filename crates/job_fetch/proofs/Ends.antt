@@ -1,5 +1,5 @@
 -- A reply that is no file, as the answer to a whole fetch.
-use Rattle.std.proofs.Common.{◌≡◌, ◌⊎◌, inr, ⊎_elim, refl, sym, ap, ◌∙◌, ℕ, ◌<◌, ◌≤◌, Bool, true, List, length, take, Option, Some, None, IfSome, Result, Ok, Err, OnErr, arith}
+use Rattle.std.proofs.Common.{◌≡◌, ◌⊎◌, inr, ⊎_elim, refl, ap, ℕ, ◌<◌, ◌≤◌, Bool, true, List, length, take, Option, Some, None, IfSome, Result, Ok, Err, OnErr, arith}
 use Rattle.std.proofs.lemmas.Bool.{le-leb, lt-leb, lt-ltb}
 use Rattle.acq_base.specs.Mirror.{World, answer_at}
 use Rattle.acq_base.specs.declared.uri.Uri.{Uri}

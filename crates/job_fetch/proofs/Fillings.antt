@@ -1,14 +1,14 @@
 -- A list's file on its way as pieces come, from one moment of the disk to a later one.
-use Rattle.std.proofs.Common.{◌≡◌, ◌≢◌, refl, sym, ap, ◌∙◌, subst, ℕ, ◌+◌, ◌<◌, ◌≤◌, List, [], ◌∷◌, ◌++◌, length, take, length-append, arith}
+use Rattle.std.proofs.Common.{◌≡◌, refl, sym, ap, ◌∙◌, subst, ℕ, ◌+◌, ◌<◌, ◌≤◌, List, [], ◌∷◌, ◌++◌, length, take, length-append, arith}
 use Rattle.std.proofs.lemmas.List.{length-take-le, take-append-le}
 use Rattle.acq_base.specs.Sum.{sum_of}
 use Rattle.acq_base.specs.declared.sum.Sum.{Sum}
 use Rattle.acq_outside.specs.Crash.{State}
 use Rattle.acq_outside.proofs.Going.{onward}
-use Rattle.acq_outside.specs.Moments.{IsTold, Since, Stands, From}
+use Rattle.acq_outside.specs.Moments.{IsTold, Since, Stands}
 use Rattle.hash_gate.specs.Pieces.{HasSummed, size_so_far}
 use Rattle.journal_model.specs.Rest.{IsPartSynced, IsPartThere, KeepsRest, StaysAtRest, part_bytes}
-use Rattle.partial_store.specs.Parts.{PartOf, part_of}
+use Rattle.partial_store.specs.Parts.{part_of}
 use Rattle.job_fetch.specs.Fetched.{KeepsFront, LastsAs, Staging}
 use Rattle.job_fetch.specs.Pieces.{IsFilling}
 use Rattle.job_fetch.specs.declared.filling.Filling.{Filling}

@@ -1,5 +1,5 @@
 -- What has come into a list's file on its way, where the method and the disk tell.
-use Rattle.std.proofs.Common.{◌≡◌, refl, sym, ap, ◌∙◌, subst, ℕ, true, ◌+◌, ◌≤◌, List, ◌++◌, length, take, Option, IfSome}
+use Rattle.std.proofs.Common.{◌≡◌, sym, subst, ℕ, true, ◌+◌, ◌≤◌, List, ◌++◌, length, take, Option, IfSome}
 use Rattle.acq_base.specs.Mirror.{World, answer_at}
 use Rattle.acq_base.specs.Sum.{sum_of}
 use Rattle.acq_base.specs.declared.fetch.Job.{Job}

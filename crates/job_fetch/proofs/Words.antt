@@ -1,5 +1,5 @@
 -- One word after another.
-use Rattle.std.proofs.Common.{◌≡◌, ℕ, List, length, subst, Option, Some, IfSome}
+use Rattle.std.proofs.Common.{◌≡◌, ℕ, List, length, subst, Option, IfSome}
 use Rattle.acq_base.specs.Mirror.{World}
 use Rattle.acq_outside.specs.Word.{IsPiece, IsWord, further}
 use Rattle.acq_outside.specs.declared.word.Fetch.{Fetch}

@@ -1,5 +1,5 @@
 -- A board with one lane from which nothing goes out.
-use Rattle.std.proofs.Common.{◌≡◌, ◌∙◌, ℕ, zero, suc, Bool, true, false, List, [], ◌∷◌, length, map, Option, Some, None, refl, sym, ap, subst, arith}
+use Rattle.std.proofs.Common.{◌≡◌, ◌∙◌, ℕ, zero, suc, false, List, [], ◌∷◌, length, map, None, refl, sym, ap, subst, arith}
 use Rattle.std.specs.Prelude.{is_some, slice_get}
 use Rattle.acq_outside.specs.Crash.{State}
 use Rattle.board_model.specs.Boards.{Board, is_out, issued, issued_job}
@@ -7,7 +7,7 @@ use Rattle.board_model.specs.CallLaws.{IdleBoardsAskNothing, JobsAlwaysStand}
 use Rattle.board_model.specs.Jobs.{JobsStand, NoneAsks}
 use Rattle.board_model.specs.Reached.{Reached}
 use Rattle.board_model.specs.Runs.{Note, World}
-use Rattle.host_queues.specs.Lanes.{Queue, first_of}
+use Rattle.host_queues.specs.Lanes.{Queue}
 use Rattle.run_jobs.specs.Running.{Begun, IsReady, IsUnderWay}
 
 one_queue : (queues : List Queue) → map (λ (q : Queue). q.is_out) queues ≡ false ∷ [] → (lane : ℕ) → slice_get queues (suc lane) ≡ None
