@@ -19,9 +19,9 @@ use Rattle.list_commits.specs.Made.{after_all}
 use Rattle.run_jobs.specs.Counting.{CountsOn, CountsUp}
 use Rattle.run_model.specs.Begun.{Begun}
 use Rattle.run_model.specs.Groups.{commits_of}
-use Rattle.run_model.specs.Laws.{CrashesLeaveWhole, NewSetsAreMirrors, RunsHoldAsTold, RunsKeepOthers, RunsLeadToNext, RunsLeaveMirrored}
+use Rattle.run_model.specs.Laws.{RunsHoldAsTold, RunsKeepOthers, RunsLeadToNext, RunsLeaveMirrored}
 use Rattle.run_model.specs.Coming.{HasHeardOut, LeavesMirrored}
-use Rattle.update_engine.specs.Run.{Engine, ForMirror, HasFinished, IsOfRun, Logged, NoneFell, Run, StopsAtMoment, StopsWhole, asks_of_lane}
+use Rattle.update_engine.specs.Run.{Engine, ForMirror, HasFinished, IsOfRun, Logged, NoneFell, Run, asks_of_lane}
 use Rattle.update_model.specs.Next.{IsNext}
 use Rattle.update_model.specs.Trails.{heard_of}
 use Rattle.update_model.specs.declared.ask.Closed.{Closed}
@@ -32,7 +32,7 @@ use Rattle.update_model.specs.declared.log.Heard.TheVariants.{Absent, Fault, Gar
 use Rattle.update_model.specs.declared.log.RunLog.{RunLog}
 use Rattle.run_jobs.proofs.OneJob.{same_number}
 use Rattle.run_jobs.proofs.Telling.{counts_rise}
-use Rattle.run_promises.specs.Promise.{NewSetsAreOf, EndsAsServed, ReadsLists, RunsEndAsServed, RunsEndAsTold, RunsStopWithSets, SomeRose, StopsWithSets}
+use Rattle.run_promises.specs.Promise.{EndsAsServed, ReadsLists, RunsEndAsServed, RunsEndAsTold, SomeRose}
 
 -- ---- faults that are told, and counts
 
@@ -147,7 +147,7 @@ logs_what_was_heard stand run before after log logged =
 
 -- ---- what it leaves
 
-for_mirror : {X : Type 0} (told : List (Option Mirror)) (P Q : Mirror → Type 0) → (X → ForMirror told P) → ((mirror : Mirror) → (X → P mirror) → Q mirror) → ForMirror told Q
+pub for_mirror : {X : Type 0} (told : List (Option Mirror)) (P Q : Mirror → Type 0) → (X → ForMirror told P) → ((mirror : Mirror) → (X → P mirror) → Q mirror) → ForMirror told Q
 for_mirror [] P Q agrees f = tt
 for_mirror (None ∷ others) P Q agrees f = tt
 for_mirror (Some mirror ∷ others) P Q agrees f = λ same. f mirror (λ x. agrees x same)
@@ -199,7 +199,7 @@ serves stand next leaves run before after log keeps logged =
         let finished = logged.commits settled in
         inr (serves_lists next leaves run before after log logged mirror agrees (none_is_dead logged.begun.config.settings.retries logged.heard notes) finished)
 
--- ---- what is told, and stops
+-- ---- what is told
 
 pub ends_as_told : RunsHoldAsTold → RunsKeepOthers → RunsEndAsTold
 ends_as_told holds keeps run before after log logged settled =
@@ -215,25 +215,3 @@ ends_as_told holds keeps run before after log logged settled =
       keeps = λ n source verdict is told none.
           keeps run.together logged.begun (lists_now before.trace) log finished.commits n source verdict finished.read.begins finished.ran (rw logged.of_run.sources is) told none;
     }
-
-pub stops_with_sets : CrashesLeaveWhole → NewSetsAreMirrors → RunsStopWithSets
-stops_with_sets crashes news run before after safe settled = by (safe.stops settled)
-  where
-    mirrors_of : (stop : StopsAtMoment run before.mirrors before.trace after.trace) → ForMirror before.mirrors (NewSetsAreOf stop.begun stop.has.heard (lists_now before.trace))
-    mirrors_of stop =
-        for_mirror {X = Unit {0}} before.mirrors (λ mirror. Agrees mirror stop.begun.parts stop.begun.config.sources stop.has.heard) _ (λ one. stop.answers)
-        (λ mirror agrees n source set came. news stop.begun (lists_now before.trace) stop.has.heard n source set mirror stop.read.begins (agrees tt) came)
-
-    by : StopsWhole run before.mirrors before.trace after.trace → StopsWithSets run before after
-    by (inl early) = inl early
-    by (inr stop) =
-        let whole = crashes run.together stop.begun (lists_now before.trace) stop.commits stop.has stop.acknowledged stop.started stop.opened after.trace stop.read.begins stop.opens.rests stop.moment in
-        inr (record {
-          begun = stop.begun;
-          reads = record { opened = stop.opened; opens = stop.opens; of_run = stop.of_run; read = stop.read };
-          heard = stop.has.heard;
-          since = whole.0;
-          at_last = whole.1;
-          answers = stop.answers;
-          mirrors = mirrors_of stop;
-        })

@@ -1,22 +1,22 @@
 -- What a run promises, in the words of those who keep lists.
 use Rattle.std.specs.Prelude.{◌≡◌, ◌⊎◌, ℕ, List, ◌∷◌, slice_get, Some, Ok}
+use Rattle.std.specs.List.{AllByRecursion as Each}
 use Rattle.acq_base.specs.Mirror.{World as Mirror}
 use Rattle.acq_base.specs.declared.plan.Source.{Source}
 use Rattle.acq_outside.specs.Count.{Rose}
-use Rattle.acq_outside.specs.Crash.{State}
+use Rattle.acq_outside.specs.Crash.{State, IsImage}
 use Rattle.acq_outside.specs.Disk.{Files}
 use Rattle.acq_outside.specs.Moments.{From, IsTold, Since, Stands, ToldAs}
-use Rattle.board_model.specs.Agreeing.{Agrees}
 use Rattle.board_model.specs.RunLaws.{HasSet}
-use Rattle.board_model.specs.Runs.{Note}
-use Rattle.commit_journal.specs.Opening.{Recovers}
-use Rattle.journal_model.specs.Reopen.{lists_now}
+use Rattle.journal_model.specs.Reopen.{LeavesAsOf, lists_now, reopened}
 use Rattle.journal_model.specs.Rest.{IsAtRest, IsSettled}
+use Rattle.release_file.specs.Release.{release_of}
 use Rattle.run_model.specs.Begun.{Begun}
-use Rattle.run_model.specs.Coming.{CameTo, HoldsTold, LeavesMirrored, LeavesWhole, mirrored}
+use Rattle.run_model.specs.Coming.{HoldsTold, LeavesMirrored, mirrored}
 use Rattle.update_engine.specs.Run.{Engine, ForMirror, HasOpened, IsOfRun, IsReadFrom, KeepsMethods, Logged, Run, StaysSafe}
-use Rattle.update_model.specs.Next.{IsNext, Keeps}
+use Rattle.update_model.specs.Next.{Holds, IsNext, Keeps}
 use Rattle.update_model.specs.Outcomes.{Admitted}
+use Rattle.update_model.specs.Releases.{IsAdmissible, installed_release}
 use Rattle.update_model.specs.declared.log.RunLog.{RunLog}
 use Rattle.update_model.specs.declared.settled.Held.{Held}
 use Rattle.update_model.specs.declared.settled.Verdict2.{Verdict2}
@@ -34,28 +34,55 @@ pub record ReadsLists (run : Run) (entry : List State) (begun : Begun) : Type 0 
 
 -- ---- a stop at any moment
 
--- each set that a source came to is the mirror's
-abbrev pub NewSetsAreOf : Begun → List Note → Files → Mirror → Type 0
-NewSetsAreOf begun heard lists mirror =
-    (n : ℕ) (source : Source) (set : Admitted) → CameTo begun heard n source (Ok set) → mirrored mirror begun lists source ≡ Ok set
+-- the Release of these bytes, which may be installed beside the former one
+pub record MayBeInstalled (run : Run) (former : Files) (source : Source) (set : Admitted) : Type 0 where
+  pub reads : release_of set.bytes ≡ Ok set.release
+  pub admissible : IsAdmissible set.release (installed_release (former source.release_name.0)) run.settings.dates run.change run.moment
 
--- Once the journal was open, each source has at each moment, in whatever a crash leaves, what it had or its new set, whole.
--- Over a mirror what was heard is the mirror's, or faults, and the new set is the mirror's.
-pub record LeavesSets (run : Run) (before after : Engine) : Type 0 where
-  pub begun : Begun
-  pub reads : ReadsLists run before.trace begun
-  pub heard : List Note
-  pub since : Since reads.opened after.trace (LeavesWhole begun heard (lists_now before.trace))
-  pub at_last : Stands (LeavesWhole begun heard (lists_now before.trace)) after.trace
-  pub answers : ForMirror before.mirrors (λ mirror. Agrees mirror begun.parts begun.config.sources heard)
-  pub mirrors : ForMirror before.mirrors (NewSetsAreOf begun heard (lists_now before.trace))
+-- under a source's names lies a new set, whole
+pub record HasNew (IsNew : Source → Admitted → Type 0) (source : Source) (lists : Files) : Type 0 where
+  pub set : Admitted
+  pub is_new : IsNew source set
+  pub holds : Holds lists source set
 
--- before that a crash leaves what it left at entry
+-- It is opened again as lists in which each source has what it had, or a new set, whole.
+pub record HasSets (run : Run) (IsNew : Source → Admitted → Type 0) (former image : Files) : Type 0 where
+  pub lists : Files
+  pub is : reopened image ≡ Some lists
+  pub sources : Each (λ source. Keeps source former lists ⊎ HasNew IsNew source lists) run.plan.sources
+
+-- so it is, whatever a crash leaves
+abbrev pub LeavesSets : Run → (Source → Admitted → Type 0) → Files → State → Type 0
+LeavesSets run IsNew former s = (image : Files) → IsImage s image → HasSets run IsNew former image
+
+-- Up to one moment, at which the journal is open, a crash leaves what it left at entry. At each moment since then it leaves
+-- such lists.
+pub record StopsWith (run : Run) (IsNew : Source → Admitted → Type 0) (entry opened now : List State) : Type 0 where
+  pub until : Since entry opened (From LeavesAsOf entry)
+  pub since : Since opened now (LeavesSets run IsNew (lists_now entry))
+
+-- with sets that may be installed
 abbrev pub StopsWithSets : Run → Engine → Engine → Type 0
-StopsWithSets run before after = Since before.trace after.trace (From Recovers before.trace) ⊎ LeavesSets run before after
+StopsWithSets run before after =
+    (opened : List State) × StopsWith run (MayBeInstalled run (lists_now before.trace)) before.trace opened after.trace
 
 abbrev pub RunsStopWithSets : Type 0
 RunsStopWithSets = (run : Run) (before after : Engine) → StaysSafe run before after → WasSettled before → StopsWithSets run before after
+
+-- the set that a mirror's answers define, with the lists on their way that stood there at that moment
+pub record IsServed (run : Run) (mirror : Mirror) (entry opened : List State) (source : Source) (set : Admitted) : Type 0 where
+  pub begun : Begun
+  pub reads : ReadsLists run entry begun
+  pub same : reads.opened ≡ opened
+  pub is : mirrored mirror begun (lists_now entry) source ≡ Ok set
+
+-- over one mirror that all methods tell, with its sets
+abbrev pub StopsOverMirror : Run → Engine → Engine → Type 0
+StopsOverMirror run before after = ForMirror before.mirrors (λ mirror.
+    (opened : List State) × StopsWith run (IsServed run mirror before.trace opened) before.trace opened after.trace)
+
+abbrev pub RunsStopAsServed : Type 0
+RunsStopAsServed = (run : Run) (before after : Engine) → StaysSafe run before after → WasSettled before → StopsOverMirror run before after
 
 -- ---- what a log tells
 

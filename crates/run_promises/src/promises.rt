@@ -21,9 +21,17 @@ pub fn runs_end_as_told()
     runs_leave_outcomes();
 }
 
-/// Whatever a run answers, each source has at each moment, in whatever a crash leaves, its former set or its new one, whole.
+/// Whatever a run answers, each source has at each moment, in whatever a crash leaves, its former set or a new one, whole, of
+/// a Release that may be installed.
 pub fn runs_stop_with_sets()
     ensures { law.RunsStopWithSets }
+{
+    commits_leave_whole();
+}
+
+/// Over a mirror such a new set is the one that the mirror's answers define.
+pub fn runs_stop_as_served()
+    ensures { law.RunsStopAsServed }
 {
     commits_leave_whole();
 }

@@ -5,7 +5,7 @@ use Rattle.command_words.specs.declared.request.Options.{Options}
 use Rattle.configuration.specs.declared.configuring.Configured.{Configured}
 use Rattle.report_text.specs.declared.fault.FaultLine.{FaultLine}
 use Rattle.report_text.specs.declared.fault.FaultLine.TheVariants.{Disk, Memory, Held, Etc}
-use Rattle.run_promises.specs.Promise.{EndsAsTold, EndsOverMirror, RunsEndAsServed, RunsEndAsTold, RunsStopWithSets, WasSettled}
+use Rattle.run_promises.specs.Promise.{EndsAsTold, EndsOverMirror, RunsEndAsServed, RunsEndAsTold, RunsStopAsServed, RunsStopWithSets, WasSettled}
 use Rattle.update_engine.specs.Run.{KeepsMethods, Run}
 use Rattle.update_model.specs.declared.log.RunLog.{RunLog}
 use Rattle.update_program.specs.Asked.{AskFor, Give, run_for}
@@ -40,7 +40,7 @@ without_log None is = is
 without_log (Some log) is = tt
 
 module _
-    (serves : RunsEndAsServed) (tells : RunsEndAsTold) (stops : RunsStopWithSets) (told : Option EtcFiles) (options : Options) (moment : Option ℤ) (before after : Objects)
+    (serves : RunsEndAsServed) (tells : RunsEndAsTold) (stops_as_served : RunsStopAsServed) (stops : RunsStopWithSets) (told : Option EtcFiles) (options : Options) (moment : Option ℤ) (before after : Objects)
     (status : ℕ) (keeps : KeepsMethods before.engine after.engine) where
   by_why : SaysWhy before after status → status ≡ 100 → IsRefused told options before
   by_why (inl said) is = absurd (disk_failed before.out after.out status said is)
@@ -80,7 +80,8 @@ module _
     way = inr (record {
       run = run_for it ran.0 options.together;
       asks = asked it ran.0 given ran.1;
-      stops = λ settled. stops (run_for it ran.0 options.together) before.engine after.engine ran.2.crash settled;
+      stops = stops (run_for it ran.0 options.together) before.engine after.engine ran.2.crash;
+      stops_as_served = stops_as_served (run_for it ran.0 options.together) before.engine after.engine ran.2.crash;
       tells = tells_run (run_for it ran.0 options.together) log ran.2;
       ends = ends_run (run_for it ran.0 options.together) log ran.2;
     });

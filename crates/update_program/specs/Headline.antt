@@ -4,7 +4,7 @@ use Rattle.acq_outside.specs.Etc.{EtcFiles}
 use Rattle.command_words.specs.declared.request.Options.{Options}
 use Rattle.commit_journal.specs.Opening.{damage_of}
 use Rattle.configuration.specs.declared.error.ConfigurationError.{ConfigurationError}
-use Rattle.run_promises.specs.Promise.{EndsAsTold, EndsOverMirror, StopsWithSets, WasSettled}
+use Rattle.run_promises.specs.Promise.{EndsAsTold, EndsOverMirror, StopsOverMirror, StopsWithSets, WasSettled}
 use Rattle.update_engine.specs.Run.{Run}
 use Rattle.update_model.specs.declared.log.RunLog.{RunLog}
 use Rattle.update_program.specs.Asked.{AskFor, Give}
@@ -17,12 +17,13 @@ abbrev pub IsRefused : Option EtcFiles → Options → Objects → Type 0
 IsRefused told options before =
     ((refusal : ConfigurationError) × Give told options.pairs (Err refusal)) ⊎ ((at : ℕ) × (IsTrue before.tells → damage_of before.files ≡ Some at))
 
--- A run that is asked for. A stop leaves each source its former set or its new one, whole. Where a log is answered, the lists
--- are as it tells, and over a mirror lists and log are what the mirror's answers define.
+-- A run that is asked for. A stop leaves each source its former set or a new one, whole, which over a mirror is the mirror's.
+-- Where a log is answered, the lists are as it tells, and over a mirror lists and log are what the mirror's answers define.
 pub record RunsWell (told : Option EtcFiles) (options : Options) (moment : Option ℤ) (before after : Objects) (log : Option RunLog) : Type 0 where
   pub run : Run
   pub asks : AskFor told options moment run
   pub stops : WasSettled before.engine → StopsWithSets run before.engine after.engine
+  pub stops_as_served : WasSettled before.engine → StopsOverMirror run before.engine after.engine
   pub tells : IfSome log (λ known. WasSettled before.engine → EndsAsTold run before.engine.trace after.engine.trace known)
   pub ends : IfSome log (EndsOverMirror run before.engine after.engine)
 

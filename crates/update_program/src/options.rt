@@ -16,7 +16,9 @@ use acq_outside::{Clock, Disk, Etc, Method, Sink};
 use command_words::Options;
 use configuration::{ConfigurationError, configure};
 use report_text::FaultLine;
-use run_promises::{runs_end_as_served, runs_end_as_told, runs_stop_with_sets};
+use run_promises::{
+    runs_end_as_served, runs_end_as_told, runs_stop_as_served, runs_stop_with_sets,
+};
 use std::alloc::Global;
 
 /// Reads the configuration, and runs what it plans.
@@ -49,6 +51,7 @@ pub fn run_options<E: Etc, D: Disk, M: Method, C: Clock, S: Sink>(
 {
     runs_end_as_served();
     runs_end_as_told();
+    runs_stop_as_served();
     runs_stop_with_sets();
     run_configured(alloc, options, etc, disk, methods, clock, out)
 }
