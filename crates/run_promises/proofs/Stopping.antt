@@ -65,7 +65,7 @@ later crashes run before after IsNew stop new =
     let whole = crashes run.together stop.begun lists stop.commits stop.has stop.acknowledged stop.started stop.opened after.trace stop.read.begins stop.opens.rests stop.moment in
     record {
       until = as_at before.trace stop.opened stop.opens.recovers;
-      since = since_more (LeavesWhole stop.begun stop.has.heard lists) (LeavesSets run IsNew lists) stop.opened after.trace
+      since = since_map (LeavesWhole stop.begun stop.has.heard lists) (LeavesSets run IsNew lists) stop.opened after.trace
           (leaves_sets run stop.begun stop.has.heard lists IsNew stop.of_run.sources new) whole.0;
     }
 
