@@ -55,8 +55,7 @@ pub record HasSets (run : Run) (IsNew : Source → Admitted → Type 0) (former 
 abbrev pub LeavesSets : Run → (Source → Admitted → Type 0) → Files → State → Type 0
 LeavesSets run IsNew former s = (image : Files) → IsImage s image → HasSets run IsNew former image
 
--- Up to one moment, at which the journal is open, a crash leaves what it left at entry. At each moment since then it leaves
--- such lists.
+-- Up to one moment a crash leaves what it left at entry, and at each moment since then it leaves such lists.
 pub record StopsWith (run : Run) (IsNew : Source → Admitted → Type 0) (entry opened now : List State) : Type 0 where
   pub until : Since entry opened (From LeavesAsOf entry)
   pub since : Since opened now (LeavesSets run IsNew (lists_now entry))
