@@ -17,8 +17,8 @@ use Rattle.acq_base.specs.Digits.{IsNumber, is_number, number_of_digits}
 digits_test : IsDigitsTest (λ ds. list_all is_ascii_digit ds ≡ true)
 digits_test = search rules
 
-own : IsNumeralModel (λ ds. list_all is_ascii_digit ds ≡ true) (digits_value 10)
-own = numerals_by_value _ digits_test
+pub numerals : IsNumeralModel (λ ds. list_all is_ascii_digit ds ≡ true) (digits_value 10)
+numerals = numerals_by_value _ digits_test
 
 IsNumber-from_test : (text : List ℕ) → is_number text ≡ true → IsNumber text
 IsNumber-from_test text h =
@@ -42,7 +42,7 @@ IsSome-number text =
     ]
 
 -- digits are ASCII, and so UTF-8
-digits_ascii : (text : List ℕ) → list_all is_ascii_digit text ≡ true → IsAscii text
+pub digits_ascii : (text : List ℕ) → list_all is_ascii_digit text ≡ true → IsAscii text
 digits_ascii [] h = IsAscii-nil
 digits_ascii (c ∷ rest) h =
     let p = and_parts (is_ascii_digit c) (list_all is_ascii_digit rest) h in
@@ -57,4 +57,4 @@ number_from_ok_iff text (Ok x) h digits short = grind (arith, nat_tests)
 number_from_ok_iff text (Err e) h digits short = grind (arith, nat_tests)
 
 pub parsed_number : {E : Type 0} (text : List ℕ) (r : Result ℕ E) → ParsesUnsigned 64 10 text r → list_all is_ascii_digit text ≡ true → length text ≤ 20 → result_ok r ≡ number_of_digits text
-parsed_number text r h digits short = number_from_ok_iff text r (parse_digits own 64 text r h digits) digits short
+parsed_number text r h digits short = number_from_ok_iff text r (parse_digits numerals 64 text r h digits) digits short

@@ -1,7 +1,7 @@
 -- A text without a torn token is written in pieces: they are found from the left.
 use Rattle.std.proofs.Common.{◌≡◌, ◌≢◌, ◌⊎◌, inl, inr, ℕ, zero, suc, ◌+◌, ◌-◌, ◌<◌, ◌≤◌, Bool, true, false, ◌&&◌, ◌||◌, List, [], ◌∷◌, ◌++◌, length, refl, sym, ap, ◌∙◌, subst, append_assoc, length-append, Option, Some, None, Result, Ok, Err, arith}
 use Rattle.std.specs.Prelude.{◌==◌, nat_le, slice_index}
-use Rattle.std.proofs.lemmas.Bool.{cases_Bool}
+use Rattle.std.proofs.lemmas.Bool.{cases_Bool, or_cases, false≢true}
 use Rattle.std.proofs.lemmas.Bool.Decides.{nat_tests}
 use Rattle.apt_conf.specs.declared.token.Token.{Token}
 use Rattle.apt_conf.specs.declared.token.Token.TheVariants.{Word, Quoted, Semicolon, Open, Close, Torn}
@@ -37,13 +37,6 @@ record Front (word : Bool) (text : List ℕ) : Type 0 where
 abbrev IsUntorn : Bool → ℕ → List ℕ → Type 0
 IsUntorn word c r = (word ≡ true → c ≢ 35) → (lexeme_at (c ∷ r) ≢ lexemes.Torn) × (lexeme_at (c ∷ r) ≢ lexemes.Unclosed)
 
-or_true : (a b : Bool) → (a || b) ≡ true → (a ≡ true) ⊎ (b ≡ true)
-or_true true b h = inl refl
-or_true false b h = inr h
-
-no_true : false ≡ true → ⊥
-no_true e = cc
-
 command_torn : (r : List ℕ) → is_command (35 ∷ r) ≡ true → lexeme_at (35 ∷ r) ≡ lexemes.Torn
 unfolding lexeme_at comment_at
 command_torn r h = rw h refl
@@ -73,20 +66,20 @@ front_hash word r good =
       rest = l.rest;
       is = is;
       is_piece = (l.none, l.ends, λ f. subst (λ (m : List ℕ). is_command m ≡ false) is (no_command word r good f (cases_Bool (is_command (35 ∷ r)))));
-      ends = λ w. absurd (no_true w);
+      ends = λ w. absurd (false≢true w);
       shorter = shorter_by (35 ∷ l.inside) l.rest (35 ∷ r) is (omega arith);
     }
   where
     no_command : (word : Bool) (r : List ℕ) → IsUntorn word 35 r → word ≡ false → (is_command (35 ∷ r) ≡ true) ⊎ (is_command (35 ∷ r) ≡ false) → is_command (35 ∷ r) ≡ false
     no_command word r good f (inr none) = none
-    no_command word r good f (inl t) = absurd ((good (λ w. absurd (no_true (sym f ∙ w)))).0 (command_torn r t))
+    no_command word r good f (inl t) = absurd ((good (λ w. absurd (false≢true (sym f ∙ w)))).0 (command_torn r t))
 
 front_slashes : (word : Bool) (r : List ℕ) → Front word (47 ∷ 47 ∷ r)
 unfolding piece_text IsPiece
 front_slashes word r =
     let l = find_line r in
     let is : 47 ∷ 47 ∷ r ≡ 47 ∷ 47 ∷ l.inside ++ l.rest = ap (λ (m : List ℕ). 47 ∷ 47 ∷ m) l.is in
-    record { piece = slash_comment l.inside; rest = l.rest; is = is; is_piece = (l.none, l.ends); ends = λ w. absurd (no_true w); shorter = shorter_by (47 ∷ 47 ∷ l.inside) l.rest (47 ∷ 47 ∷ r) is (omega arith) }
+    record { piece = slash_comment l.inside; rest = l.rest; is = is; is_piece = (l.none, l.ends); ends = λ w. absurd (false≢true w); shorter = shorter_by (47 ∷ 47 ∷ l.inside) l.rest (47 ∷ 47 ∷ r) is (omega arith) }
 
 front_closed : (word : Bool) (r : List ℕ) → IsUntorn word 47 (42 ∷ r) → Front word (47 ∷ 42 ∷ r)
 unfolding piece_text IsPiece
@@ -96,7 +89,7 @@ front_closed word r good = found (find_close r)
     found (inr short) = absurd ((good (λ w. omega arith)).1 (unclosed_torn r short))
     found (inl e) =
         let is : 47 ∷ 42 ∷ r ≡ (47 ∷ 42 ∷ e.inside ++ 42 ∷ 47 ∷ []) ++ e.rest = ap (λ (m : List ℕ). 47 ∷ 42 ∷ m) (e.is ∙ sym (append_assoc e.inside (42 ∷ 47 ∷ []) e.rest)) in
-        record { piece = closed_comment e.inside; rest = e.rest; is = is; is_piece = e.none; ends = λ w. absurd (no_true w); shorter = shorter_by (47 ∷ 42 ∷ e.inside ++ 42 ∷ 47 ∷ []) e.rest (47 ∷ 42 ∷ r) is (omega arith) }
+        record { piece = closed_comment e.inside; rest = e.rest; is = is; is_piece = e.none; ends = λ w. absurd (false≢true w); shorter = shorter_by (47 ∷ 42 ∷ e.inside ++ 42 ∷ 47 ∷ []) e.rest (47 ∷ 42 ∷ r) is (omega arith) }
 
 front_quoted : (word : Bool) (r : List ℕ) → IsUntorn word 34 r → Front word (34 ∷ r)
 unfolding piece_text token_text IsPiece IsToken
@@ -111,13 +104,13 @@ front_quoted word r good = found (find_quote 34 r)
           rest = q.rest;
           is = is;
           is_piece = (q.feeds, q.quotes, λ front e. q.end (34 ∷ front) (ap (λ (l : List ℕ). 34 ∷ l) e));
-          ends = λ w. absurd (no_true w);
+          ends = λ w. absurd (false≢true w);
           shorter = shorter_by (34 ∷ q.inside ++ 34 ∷ []) q.rest (34 ∷ r) is (omega arith);
         }
 
 front_word : (word : Bool) (c : ℕ) (r : List ℕ) → (word ≡ true → ends_word (c ∷ r) ≡ true) → ends_word (c ∷ r) ≡ false → Front word (c ∷ r)
 unfolding piece_text token_text IsPiece IsToken
-front_word true c r h f = absurd (no_true (sym f ∙ h refl))
+front_word true c r h f = absurd (false≢true (sym f ∙ h refl))
 front_word false c r h f =
     let i = word_inside c r f in
     let w = find_word c r i.0 i.1 in
@@ -126,51 +119,51 @@ front_word false c r h f =
 
 front_space : (word : Bool) (c : ℕ) (r : List ℕ) → (c ≡ 32) ⊎ ((c ≡ 9) ⊎ (c ≡ 10)) → Front word (c ∷ r)
 unfolding piece_text IsPiece
-front_space word c r h = record { piece = space c; rest = r; is = refl; is_piece = h; ends = λ w. absurd (no_true w); shorter = omega arith }
+front_space word c r h = record { piece = space c; rest = r; is = refl; is_piece = h; ends = λ w. absurd (false≢true w); shorter = omega arith }
 
 front_line_end : (word : Bool) (r : List ℕ) → Front word (13 ∷ 10 ∷ r)
 unfolding piece_text IsPiece
-front_line_end word r = record { piece = line_end; rest = r; is = refl; is_piece = tt; ends = λ w. absurd (no_true w); shorter = omega arith }
+front_line_end word r = record { piece = line_end; rest = r; is = refl; is_piece = tt; ends = λ w. absurd (false≢true w); shorter = omega arith }
 
 front_semicolon : (word : Bool) (r : List ℕ) → Front word (59 ∷ r)
 unfolding piece_text token_text IsPiece IsToken
-front_semicolon word r = record { piece = token Semicolon; rest = r; is = refl; is_piece = tt; ends = λ w. absurd (no_true w); shorter = omega arith }
+front_semicolon word r = record { piece = token Semicolon; rest = r; is = refl; is_piece = tt; ends = λ w. absurd (false≢true w); shorter = omega arith }
 
 front_open : (word : Bool) (r : List ℕ) → Front word (123 ∷ r)
 unfolding piece_text token_text IsPiece IsToken
-front_open word r = record { piece = token Open; rest = r; is = refl; is_piece = tt; ends = λ w. absurd (no_true w); shorter = omega arith }
+front_open word r = record { piece = token Open; rest = r; is = refl; is_piece = tt; ends = λ w. absurd (false≢true w); shorter = omega arith }
 
 front_close : (word : Bool) (r : List ℕ) → Front word (125 ∷ r)
 unfolding piece_text token_text IsPiece IsToken
-front_close word r = record { piece = token Close; rest = r; is = refl; is_piece = tt; ends = λ w. absurd (no_true w); shorter = omega arith }
+front_close word r = record { piece = token Close; rest = r; is = refl; is_piece = tt; ends = λ w. absurd (false≢true w); shorter = omega arith }
 
 same_of : (c d : ℕ) → (c == d) ≡ true → c ≡ d
 same_of c d h = grind (arith, nat_tests)
 
 front_mark : (word : Bool) (c : ℕ) (r : List ℕ) → IsUntorn word c r → is_delimiter (c ∷ r) ≡ true → Front word (c ∷ r)
-front_mark word c r good h = one (or_true (c == 34 || c == 59 || c == 123) (c == 125) h)
+front_mark word c r good h = one (or_cases (c == 34 || c == 59 || c == 123) (c == 125) h)
   where
     three : ((c == 34) ≡ true) ⊎ ((c == 59) ≡ true) → Front word (c ∷ r)
     three (inl e) = subst (λ (d : ℕ). IsUntorn word d r → Front word (d ∷ r)) (sym (same_of c 34 e)) (front_quoted word r) good
     three (inr e) = subst (λ (d : ℕ). Front word (d ∷ r)) (sym (same_of c 59 e)) (front_semicolon word r)
 
     two : ((c == 34 || c == 59) ≡ true) ⊎ ((c == 123) ≡ true) → Front word (c ∷ r)
-    two (inl e) = three (or_true (c == 34) (c == 59) e)
+    two (inl e) = three (or_cases (c == 34) (c == 59) e)
     two (inr e) = subst (λ (d : ℕ). Front word (d ∷ r)) (sym (same_of c 123 e)) (front_open word r)
 
     one : ((c == 34 || c == 59 || c == 123) ≡ true) ⊎ ((c == 125) ≡ true) → Front word (c ∷ r)
-    one (inl e) = two (or_true (c == 34 || c == 59) (c == 123) e)
+    one (inl e) = two (or_cases (c == 34 || c == 59) (c == 123) e)
     one (inr e) = subst (λ (d : ℕ). Front word (d ∷ r)) (sym (same_of c 125 e)) (front_close word r)
 
 front_white : (word : Bool) (c : ℕ) (r : List ℕ) → is_space (c ∷ r) ≡ true → Front word (c ∷ r)
-front_white word c r h = front_space word c r (one (or_true (c == 32 || c == 9) (c == 10) h))
+front_white word c r h = front_space word c r (one (or_cases (c == 32 || c == 9) (c == 10) h))
   where
     two : ((c == 32) ≡ true) ⊎ ((c == 9) ≡ true) → (c ≡ 32) ⊎ ((c ≡ 9) ⊎ (c ≡ 10))
     two (inl e) = inl (same_of c 32 e)
     two (inr e) = inr (inl (same_of c 9 e))
 
     one : ((c == 32 || c == 9) ≡ true) ⊎ ((c == 10) ≡ true) → (c ≡ 32) ⊎ ((c ≡ 9) ⊎ (c ≡ 10))
-    one (inl e) = two (or_true (c == 32) (c == 9) e)
+    one (inl e) = two (or_cases (c == 32) (c == 9) e)
     one (inr e) = inr (inr (same_of c 10 e))
 
 front_ending : (word : Bool) (c : ℕ) (r : List ℕ) → is_line_end (c ∷ r) ≡ true → Front word (c ∷ r)
@@ -181,11 +174,11 @@ front_ending word c (d ∷ r) h =
     subst (λ (m : List ℕ). Front word m) (sym (ap (λ (x : ℕ). x ∷ d ∷ r) one ∙ ap (λ (x : ℕ). 13 ∷ x ∷ r) two)) (front_line_end word r)
 
 front_comment : (word : Bool) (c : ℕ) (r : List ℕ) → IsUntorn word c r → opens_comment (c ∷ r) ≡ true → Front word (c ∷ r)
-front_comment word c r good h = one (or_true (c == 35) (c == 47 && (slice_index r 0 == 47 || slice_index r 0 == 42)) h)
+front_comment word c r good h = one (or_cases (c == 35) (c == 47 && (slice_index r 0 == 47 || slice_index r 0 == 42)) h)
   where
     slashed : (r : List ℕ) → IsUntorn word 47 r → ((slice_index r 0 == 47) ≡ true) ⊎ ((slice_index r 0 == 42) ≡ true) → Front word (47 ∷ r)
-    slashed [] good (inl e) = absurd (no_true e)
-    slashed [] good (inr e) = absurd (no_true e)
+    slashed [] good (inl e) = absurd (false≢true e)
+    slashed [] good (inr e) = absurd (false≢true e)
     slashed (d ∷ r) good (inl e) = subst (λ (x : ℕ). Front word (47 ∷ x ∷ r)) (sym (same_of d 47 e)) (front_slashes word r)
     slashed (d ∷ r) good (inr e) = subst (λ (x : ℕ). IsUntorn word 47 (x ∷ r) → Front word (47 ∷ x ∷ r)) (sym (same_of d 42 e)) (front_closed word r) good
 
@@ -194,20 +187,20 @@ front_comment word c r good h = one (or_true (c == 35) (c == 47 && (slice_index 
     one (inr e) =
         let slash : c ≡ 47 = grind (arith, nat_tests) in
         let next : (slice_index r 0 == 47 || slice_index r 0 == 42) ≡ true = grind (arith, nat_tests) in
-        subst (λ (d : ℕ). IsUntorn word d r → Front word (d ∷ r)) (sym slash) (λ g. slashed r g (or_true (slice_index r 0 == 47) (slice_index r 0 == 42) next)) good
+        subst (λ (d : ℕ). IsUntorn word d r → Front word (d ∷ r)) (sym slash) (λ g. slashed r g (or_cases (slice_index r 0 == 47) (slice_index r 0 == 42) next)) good
 
 front_boundary : (word : Bool) (c : ℕ) (r : List ℕ) → IsUntorn word c r → is_boundary (c ∷ r) ≡ true → Front word (c ∷ r)
 unfolding is_boundary
 front_boundary word c r good h =
     let some : (length (c ∷ r) == 0) ≡ false = grind (arith, nat_tests) in
-    one (or_true (is_space (c ∷ r) || is_line_end (c ∷ r)) (is_delimiter (c ∷ r)) (rw some at h))
+    one (or_cases (is_space (c ∷ r) || is_line_end (c ∷ r)) (is_delimiter (c ∷ r)) (rw some at h))
   where
     two : (is_space (c ∷ r) ≡ true) ⊎ (is_line_end (c ∷ r) ≡ true) → Front word (c ∷ r)
     two (inl e) = front_white word c r e
     two (inr e) = front_ending word c r e
 
     one : ((is_space (c ∷ r) || is_line_end (c ∷ r)) ≡ true) ⊎ (is_delimiter (c ∷ r) ≡ true) → Front word (c ∷ r)
-    one (inl e) = two (or_true (is_space (c ∷ r)) (is_line_end (c ∷ r)) e)
+    one (inl e) = two (or_cases (is_space (c ∷ r)) (is_line_end (c ∷ r)) e)
     one (inr e) = front_mark word c r good e
 
 find_front : (word : Bool) (c : ℕ) (r : List ℕ) → IsUntorn word c r → (word ≡ true → ends_word (c ∷ r) ≡ true) → Front word (c ∷ r)
@@ -219,7 +212,7 @@ find_front word c r good h = one (cases_Bool (ends_word (c ∷ r)))
     two (inr e) = front_comment word c r good e
 
     one : (ends_word (c ∷ r) ≡ true) ⊎ (ends_word (c ∷ r) ≡ false) → Front word (c ∷ r)
-    one (inl e) = two (or_true (is_boundary (c ∷ r)) (opens_comment (c ∷ r)) e)
+    one (inl e) = two (or_cases (is_boundary (c ∷ r)) (opens_comment (c ∷ r)) e)
     one (inr e) = front_word word c r h e
 
 -- ---- all pieces
@@ -297,7 +290,7 @@ read_untorn last place (t ∷ ts) pairs h =
 -- a text that is read is written in pieces
 read_written : (text : List ℕ) (pairs : List Pair) → pairs_of text ≡ Ok pairs → IsInPieces text
 read_written text pairs h =
-    let w = find_pieces (length text) (last_line text) 1 false text (omega arith) (λ e. absurd (no_true e)) (read_untorn (last_line text) start (tokens_of text) pairs (tokens_read text pairs h)) in
+    let w = find_pieces (length text) (last_line text) 1 false text (omega arith) (λ e. absurd (false≢true e)) (read_untorn (last_line text) start (tokens_of text) pairs (tokens_read text pairs h)) in
     (w.pieces, (w.is, w.are))
 
 in_pieces : (old new : List Entry) (result : Result (Unit {0}) ConfError) (read : Result (List Pair) ConfError) (text : List ℕ) → pairs_of text ≡ read → Reads old new result read → OnOk result (IsInPieces text)

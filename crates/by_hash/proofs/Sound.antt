@@ -1,8 +1,8 @@
 -- A name behind the front of an installed file's path makes a sound URI.
-use Rattle.std.proofs.Common.{◌≡◌, ℕ, ◌≤◌, List, [], ◌∷◌, ◌++◌, length, Some, All, IsTrue, inl, inr, refl, sym, subst, ◌==◌, ◌||◌, ◌<◌, ◌/◌, ◌%◌, codes, slice_index, get_or, length-append, arith}
-use Rattle.std.specs.List.{flat_map, list_any, slice_get}
+use Rattle.std.proofs.Common.{◌≡◌, ℕ, ◌≤◌, List, [], ◌∷◌, ◌++◌, length, Some, All, IsTrue, inl, inr, refl, sym, subst, ◌<◌, ◌/◌, ◌%◌, codes, slice_index, get_or, length-append, arith}
+use Rattle.std.specs.List.{list_any, slice_get}
 use Rattle.std.proofs.lemmas.Bool.{cases_Bool}
-use Rattle.std.proofs.lemmas.List.Elements.{All-nil, All-cons, All-head, All-tail, All-append, All-get_or, All-from_get_or}
+use Rattle.std.proofs.lemmas.List.Elements.{All-nil, All-cons, All-head, All-tail, All-append, All-from_get_or}
 use Rattle.std.proofs.lemmas.List.Sums.{AllPass-from_list_all}
 use Rattle.std.proofs.lemmas.Option.{same_Some}
 use Rattle.hex.proofs.HexLemmas.{length-encode_with}
@@ -10,7 +10,8 @@ use Rattle.hex.specs.Hex.{encode_lower, encode_with, lower_digits}
 use Rattle.acq_base.specs.declared.uri.Scheme.{Scheme}
 use Rattle.acq_base.specs.declared.uri.Scheme.TheVariants.{Http, File}
 use Rattle.acq_base.specs.declared.uri.Uri.{Uri}
-use Rattle.acq_base.specs.Uri.{text_of_parts, list_name, name_of_parts, name_byte, is_uri_character, is_alphanumeric, IsSound, port_text}
+use Rattle.acq_base.specs.Uri.{text_of_parts, list_name, name_of_parts, is_uri_character, IsSound, port_text}
+use Rattle.acq_base.proofs.Uris.{length-name, digit_fits}
 use Rattle.by_hash.specs.Beside.{is_slash, folder, beside, IsShortName}
 use Rattle.by_hash.specs.Candidates.{by_hash_name}
 
@@ -27,25 +28,6 @@ All-folder P (c ∷ path) all =
       | inl is ↦ rw is (All-cons P c (folder path) (All-head P c path all) (All-folder P path (All-tail P c path all)))
       | inr isnt ↦ rw isnt (All-nil P)
     ]
-
--- a byte of a path takes at least one byte of its list name
-length-name_byte : (c : ℕ) → 1 ≤ length (name_byte c)
-length-name_byte c =
-    elim (cases_Bool (c == 47)) [
-      | inl is ↦ rw is (omega arith)
-      | inr isnt ↦
-          elim (cases_Bool (is_alphanumeric c || list_any (λ d. c == d) (codes ".-+:"))) [
-            | inl plain ↦ rw (isnt, plain) (omega arith)
-            | inr escaped ↦ rw (isnt, escaped) (omega arith)
-          ]
-    ]
-
-length-name : (xs : List ℕ) → length xs ≤ length (flat_map name_byte xs)
-length-name [] = omega arith
-length-name (c ∷ xs) =
-    let one = length-name_byte c in
-    let more = length-name xs in
-    let both = length-append (name_byte c) (flat_map name_byte xs) in omega (arith, one, more, both)
 
 short : (scheme : Scheme) (host : List ℕ) (port : ℕ) (path name : List ℕ) → length (name_of_parts scheme host port path) ≤ 240 → length name ≤ 240
     → length (text_of_parts scheme host port (folder path ++ name)) ≤ 16384
@@ -82,9 +64,6 @@ beside_sound uri name sound named is_short = record {
 abbrev IsUriCharacter : ℕ → Type 0
 IsUriCharacter c = IsTrue (is_uri_character c)
 
-digit : (k : ℕ) → k < 16 → IsUriCharacter (slice_index lower_digits k)
-digit k below = All-get_or IsUriCharacter lower_digits k 0 below (AllPass-from_list_all is_uri_character lower_digits refl)
-
 digits : (bytes : List ℕ) → All (λ b. b < 256) bytes → All IsUriCharacter (encode_lower bytes)
 unfolding encode_with
 digits [] all = All-nil IsUriCharacter
@@ -92,8 +71,8 @@ digits (b ∷ bytes) all =
     let byte : b < 256 = All-head (λ b. b < 256) b bytes all in
     let high : b / 16 < 16 = omega (arith, byte) in
     let low : b % 16 < 16 = omega arith in
-    All-cons IsUriCharacter (slice_index lower_digits (b / 16)) (slice_index lower_digits (b % 16) ∷ encode_lower bytes) (digit (b / 16) high)
-    (All-cons IsUriCharacter (slice_index lower_digits (b % 16)) (encode_lower bytes) (digit (b % 16) low) (digits bytes (All-tail (λ b. b < 256) b bytes all)))
+    All-cons IsUriCharacter (slice_index lower_digits (b / 16)) (slice_index lower_digits (b % 16) ∷ encode_lower bytes) (digit_fits (b / 16) high)
+    (All-cons IsUriCharacter (slice_index lower_digits (b % 16)) (encode_lower bytes) (digit_fits (b % 16) low) (digits bytes (All-tail (λ b. b < 256) b bytes all)))
 
 -- the name that a digest gives is short
 pub short_name : (digest : List ℕ) → length digest ≡ 32 → ((i : ℕ) → get_or digest i 0 < 256) → IsShortName (by_hash_name digest)

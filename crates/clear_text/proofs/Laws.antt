@@ -5,6 +5,7 @@ use Rattle.std.specs.List.{list_any, list_all}
 use Rattle.std.specs.Cmp.Lexicographic.{bytes_decides}
 use Rattle.std.specs.Str.Lines.{lines as text_lines, strip_carriage_return}
 use Rattle.std.proofs.lemmas.Bool.{cases_Bool, and_parts, not-true, false≢true}
+use Rattle.acq_base.proofs.Texts.{bytes_eq-true}
 use Rattle.clear_text.specs.Frame.{begin_line, is_line, IsFrame, ended}
 use Rattle.clear_text.specs.Refused.{CanBegin, IsRefused, Tells}
 use Rattle.clear_text.specs.Unframed.{in_headers, framed, unframed_lines, unframed}
@@ -12,7 +13,7 @@ use Rattle.clear_text.specs.declared.error.FrameError.{FrameError}
 use Rattle.clear_text.specs.declared.error.FrameError.TheVariants.{NoMemory}
 use Rattle.clear_text.proofs.Complete.{complete}
 use Rattle.clear_text.proofs.Lines.{is_feed, lines_feed}
-use Rattle.clear_text.proofs.Sound.{equal, sound}
+use Rattle.clear_text.proofs.Sound.{sound}
 use Rattle.clear_text.proofs.Stops.{Stops, GoesOn, headers_stop}
 
 -- ---- what is told of lines
@@ -36,7 +37,7 @@ told_lines (line ∷ lines) text e =
       | inl is ↦
           let read = framed-ok (in_headers 2 lines) text (rw is at e) in
           let whole = sound lines read.0 read.1 in
-          subst (Tells (line ∷ lines)) (sym read.2) (whole.0, subst (λ l. IsFrame (l ∷ lines) whole.0) (sym (equal line begin_line is)) whole.1, whole.2)
+          subst (Tells (line ∷ lines)) (sym read.2) (whole.0, subst (λ l. IsFrame (l ∷ lines) whole.0) (sym (bytes_eq-true line begin_line is)) whole.1, whole.2)
       | inr isnt ↦
           let plain : Ok None ≡ Ok text = rw isnt at e in
           let none : text ≡ None = cc in
@@ -76,7 +77,7 @@ refused_lines (line ∷ lines) fault e =
     elim (cases_Bool (bytes_eq line begin_line)) [
       | inl is ↦
           let read = framed-err (in_headers 2 lines) fault (rw is at e) in
-          subst (λ l. IsRefused (l ∷ lines) fault) (sym (equal line begin_line is)) (refused_within lines fault read (headers_stop lines 2 fault read))
+          subst (λ l. IsRefused (l ∷ lines) fault) (sym (bytes_eq-true line begin_line is)) (refused_within lines fault read (headers_stop lines 2 fault read))
       | inr isnt ↦ absurd (let plain : Ok None ≡ Err fault = rw isnt at e in cc)
     ]
 
@@ -109,7 +110,7 @@ lines_again [] plain = refl
 lines_again (line ∷ lines) plain =
     let parts = and_parts (is_line line) (list_all is_line lines) plain in
     let own = and_parts (not (list_any is_feed line)) (bytes_eq (strip_carriage_return line) line) parts.0 in
-    let kept = equal (strip_carriage_return line) line own.1 in
+    let kept = bytes_eq-true (strip_carriage_return line) line own.1 in
     let rest = lines_again lines parts.1 in
     ap text_lines (append_assoc line (10 ∷ []) (ended lines))
     ∙ lines_feed line (ended lines) (not-true (list_any is_feed line) own.0)

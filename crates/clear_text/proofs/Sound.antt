@@ -2,16 +2,13 @@
 use Rattle.std.proofs.Common.{◌≡◌, ℕ, ◌+◌, nat_eq, Bool, true, false, List, [], ◌∷◌, ◌++◌, ◌&&◌, Option, Some, None, Result, Ok, Err, inl, inr, refl, sym, ap, ◌∙◌, append_assoc, arith}
 use Rattle.std.specs.Prelude.{bytes_eq}
 use Rattle.std.specs.List.{list_any, list_all}
-use Rattle.std.specs.Cmp.Lexicographic.{bytes_decides}
 use Rattle.std.proofs.lemmas.Bool.{cases_Bool}
 use Rattle.std.proofs.lemmas.Bool.Decides.{nat_tests}
 use Rattle.acq_base.specs.Words.{is_blank}
+use Rattle.acq_base.proofs.Texts.{bytes_eq-true}
 use Rattle.clear_text.specs.Frame.{begin_line, signature_line, end_line, begins_with, is_dash, is_header, IsEscape, AreEscapes, IsFrame, ended}
 use Rattle.clear_text.specs.Unframed.{is_empty, unescaped, behind_dash, with_line, with_text_line, behind_frame, in_signature, in_text, in_headers}
 use Rattle.clear_text.specs.declared.error.FrameError.{FrameError}
-
-pub equal : (a b : List ℕ) → bytes_eq a b ≡ true → a ≡ b
-equal a b same = (bytes_decides a b).0 same
 
 -- ---- behind the text
 
@@ -36,7 +33,7 @@ signed_rest (line ∷ lines) at bytes e =
     elim (cases_Bool (bytes_eq line end_line)) [
       | inl is ↦
           let rest = all_blank lines (at + 1) bytes (rw is at e) in
-          (record { signature = []; behind = lines; split = ap (λ l. l ∷ lines) (equal line end_line is); signed = refl; blank = rest.0 }, rest.1)
+          (record { signature = []; behind = lines; split = ap (λ l. l ∷ lines) (bytes_eq-true line end_line is); signed = refl; blank = rest.0 }, rest.1)
       | inr isnt ↦
           let rest = signed_rest lines (at + 1) bytes (rw isnt at e) in
           (record { signature = line ∷ rest.0.signature; behind = rest.0.behind; split = ap (λ ls. line ∷ ls) rest.0.split; signed = rw isnt rest.0.signed; blank = rest.0.blank }, rest.1)
@@ -85,7 +82,7 @@ text_of (written ∷ lines) at bytes e =
     elim (cases_Bool (bytes_eq written signature_line)) [
       | inl is ↦
           let rest = signed_rest lines (at + 1) bytes (rw is at e) in
-          record { text = []; escaped = []; more = lines; split = ap (λ l. l ∷ lines) (equal written signature_line is); dashed = tt; signed = rest.0; bytes_are = rest.1 }
+          record { text = []; escaped = []; more = lines; split = ap (λ l. l ∷ lines) (bytes_eq-true written signature_line is); dashed = tt; signed = rest.0; bytes_are = rest.1 }
       | inr isnt ↦ by (unescaped written) refl (rw isnt at e) (λ text read. text_of lines (at + 1) text read)
     ]
   where

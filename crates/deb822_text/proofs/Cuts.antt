@@ -1,34 +1,12 @@
 -- Where a text is cut: at the end of its first line, and at its first colon.
-use Rattle.std.proofs.Common.{◌≡◌, ℕ, suc, ◌+◌, ◌<◌, ◌≤◌, Bool, true, false, cond, not, nat_eq, List, [], ◌∷◌, length, get_or, take, drop, ◌||◌, refl, sym, ap, ◌∙◌, arith}
+use Rattle.std.proofs.Common.{◌≡◌, ℕ, suc, ◌+◌, ◌<◌, ◌≤◌, Bool, true, false, cond, not, nat_eq, List, [], ◌∷◌, length, get_or, take, drop, refl, sym, ap, ◌∙◌, arith}
 use Rattle.std.specs.List.{slice_split, position_or_len, list_any, onto_first}
 use Rattle.std.specs.Str.Lines.{lines as text_lines, lines_of_parts, strip_carriage_return}
 use Rattle.std.proofs.lemmas.List.{take_all, drop_all, drop-drop}
 use Rattle.std.proofs.lemmas.Bool.{ne_eqb}
 use Rattle.std.proofs.lemmas.List.Splits.{slice_split_first}
+use Rattle.acq_base.proofs.Lists.{list_any-there, list_any-nowhere, split_cons}
 use Rattle.deb822_text.specs.Control.{is_colon, begins_with, Unknown, field_line, named_line}
-
--- an element passes where the first that does stands within the list
-pub list_any-within : {X : Type 0} (p : X → Bool) (xs : List X) → position_or_len p xs < length xs → list_any p xs ≡ true
-list_any-within p [] within = absurd (omega arith)
-list_any-within p (x ∷ xs) within = elim (p x) as (λ b. cond (not b) (1 + position_or_len p xs) 0 < suc (length xs) → (b || list_any p xs) ≡ true) [
-  | true ↦ λ _. refl
-  | false ↦ λ less. list_any-within p xs (omega (arith, less))
-] within
-
-pub list_any-nowhere : {X : Type 0} (p : X → Bool) (xs : List X) → length xs ≤ position_or_len p xs → list_any p xs ≡ false
-list_any-nowhere p [] none = refl
-list_any-nowhere p (x ∷ xs) none = elim (p x) as (λ b. suc (length xs) ≤ cond (not b) (1 + position_or_len p xs) 0 → (b || list_any p xs) ≡ false) [
-  | true ↦ λ short. absurd (omega (arith, short))
-  | false ↦ λ long. list_any-nowhere p xs (omega (arith, long))
-] none
-
--- parts are never none
-pub split_cons : {X : Type 0} (p : X → Bool) (xs : List X) → (part : List X) × (parts : List (List X)) × (slice_split p xs ≡ part ∷ parts)
-split_cons p [] = ([], [], refl)
-split_cons {X} p (x ∷ xs) = elim (p x) as (λ b. (part : List X) × (parts : List (List X)) × (cond b ([] ∷ slice_split p xs) (onto_first x (slice_split p xs)) ≡ part ∷ parts)) [
-  | true ↦ ([], slice_split p xs, refl)
-  | false ↦ let i = split_cons p xs in (x ∷ i.0, i.1, ap (onto_first x) i.2)
-]
 
 split_none : {X : Type 0} (p : X → Bool) (xs : List X) → length xs ≤ position_or_len p xs → slice_split p xs ≡ xs ∷ []
 split_none p [] none = refl
@@ -61,7 +39,7 @@ lines_last (x ∷ xs) n is long none =
 -- a line with a colon, and one without
 pub field_line-colon : (at : ℕ) (line : List ℕ) (n : ℕ) → n ≡ position_or_len is_colon line → n < length line → field_line at line ≡ named_line at (take n line) (drop 1 (drop n line))
 field_line-colon at line n is within =
-    let any : list_any is_colon line ≡ true = list_any-within is_colon line (rw (← is) within) in
+    let any : list_any is_colon line ≡ true = list_any-there is_colon line (rw (← is) within) in
     let behind : drop 1 (drop n line) ≡ drop (n + 1) line = drop-drop 1 n line in
     rw (any, behind, is) refl
 

@@ -9,7 +9,7 @@ use Rattle.std.specs.FinMap.{nat_cmp-IsAntisymmetric}
 use Rattle.std.specs.Cmp.{IsTotalOrder, alike_right, tied_back, tied_itself}
 use Rattle.std.specs.Cmp.Lexicographic.{slice_cmp, pointwise, bytes_decides, on_texts}
 use Rattle.std.proofs.lemmas.Cmp.{nat_cmp_total, on_total, then_total}
-use Rattle.std.proofs.lemmas.Bool.{eqb-true, eq-eqb, false≢true, true≢false, leb-true, leb-false, ltb-true, lt-ltb}
+use Rattle.std.proofs.lemmas.Bool.{eqb-true, eq-eqb, false≢true, true≢false, leb-true, leb-false, ltb-true, lt-ltb, and_parts, or_left, or_right}
 use lib.ListN.{get_or}
 use Rattle.std.proofs.lemmas.List.{append-nil, take-append-drop, drop_more, length-append, length-take}
 use Rattle.std.proofs.lemmas.List.Folds.{list_any-append}
@@ -88,14 +88,6 @@ is_key wanted key = is_eq (name_cmp key wanted) && nat_eq key.place wanted.place
 abbrev Has : List Key → Key → Type 0
 Has keys wanted = list_any (is_key wanted) keys ≡ true
 
-and-left : (a b : Bool) → (a && b) ≡ true → a ≡ true
-and-left true b e = refl
-and-left false b e = absurd cc
-
-and-right : (a b : Bool) → (a && b) ≡ true → b ≡ true
-and-right true b e = e
-and-right false b e = absurd cc
-
 equal_told : (o : Ordering) → is_eq o ≡ true → o ≡ Equal
 equal_told Less e = absurd cc
 equal_told Equal e = refl
@@ -103,7 +95,7 @@ equal_told Greater e = absurd cc
 
 key_parts : (wanted key : Key) → is_key wanted key ≡ true → (name_cmp key wanted ≡ Equal) × (key.place ≡ wanted.place)
 key_parts wanted key e =
-    (equal_told (name_cmp key wanted) (and-left (is_eq (name_cmp key wanted)) (nat_eq key.place wanted.place) e), eqb-true key.place wanted.place (and-right (is_eq (name_cmp key wanted)) (nat_eq key.place wanted.place) e))
+    (equal_told (name_cmp key wanted) (and_parts (is_eq (name_cmp key wanted)) (nat_eq key.place wanted.place) e).0, eqb-true key.place wanted.place (and_parts (is_eq (name_cmp key wanted)) (nat_eq key.place wanted.place) e).1)
 
 first_or_more : (a b : Bool) → (a || b) ≡ true → (a ≡ true) ⊎ ((a ≡ false) × (b ≡ true))
 first_or_more true b e = inl refl
@@ -186,13 +178,6 @@ less_or_same a b up = pick (nat_le b a) refl
 next_told : (key next : Key) (more : List Key) (bound : ℕ) → name_cmp key next ≡ Equal → key.place < next.place → next.place ≤ bound → IsAtMost (next_place (key ∷ next ∷ more)) bound
 next_told key next more bound same later at_most = subst (λ (t : Bool). IsAtMost (cond t (Some next.place) None) bound) (sym (repeated_told key next same later)) at_most
 
-either-left : (a b : Bool) → a ≡ true → (a || b) ≡ true
-either-left a b e = rw e refl
-
-either-right : (a b : Bool) → b ≡ true → (a || b) ≡ true
-either-right true b e = refl
-either-right false b e = e
-
 is_key_told : (wanted key : Key) → name_cmp key wanted ≡ Equal → key.place ≡ wanted.place → is_key wanted key ≡ true
 is_key_told wanted key same place = rw (same, eq-eqb key.place wanted.place place) refl
 
@@ -216,7 +201,7 @@ found (key ∷ next ∷ more) up first second same before has_first has_second =
                   | inl less ↦ lesser-left (next_place (key ∷ next ∷ more)) (least_place (next ∷ more)) second.place (next_told key next more second.place at.0 less at.2)
                   | inr level ↦
                       lesser-right (next_place (key ∷ next ∷ more)) (least_place (next ∷ more)) second.place
-                      (found (next ∷ more) up.1 first second same before (either-left (is_key first next) (list_any (is_key first) more) (is_key_told first next (sym (name_total.congr key next first at.0) ∙ own.0) (sym level ∙ own.1))) later.1)
+                      (found (next ∷ more) up.1 first second same before (or_left (is_key first next) (list_any (is_key first) more) (is_key_told first next (sym (name_total.congr key next first at.0) ∙ own.0) (sym level ∙ own.1))) later.1)
                 ]
             | inr behind ↦ lesser-right (next_place (key ∷ next ∷ more)) (least_place (next ∷ more)) second.place (found (next ∷ more) up.1 first second same before behind.1 later.1)
           ]
@@ -247,23 +232,23 @@ guarded true place given e = (refl, cc)
 guarded false place given e = absurd cc
 
 Has-first : (key : Key) (keys : List Key) → Has (key ∷ keys) key
-Has-first key keys = either-left (is_key key key) (list_any (is_key key) keys) (is_key_told key key (tied_itself name_total key) refl)
+Has-first key keys = or_left (is_key key key) (list_any (is_key key) keys) (is_key_told key key (tied_itself name_total key) refl)
 
 Has-behind : (key : Key) (keys : List Key) (wanted : Key) → Has keys wanted → Has (key ∷ keys) wanted
-Has-behind key keys wanted has = either-right (is_key wanted key) (list_any (is_key wanted) keys) has
+Has-behind key keys wanted has = or_right (is_key wanted key) (list_any (is_key wanted) keys) has
 
 repeats_here : (key : Key) (keys : List Key) (place : ℕ) → next_place (key ∷ keys) ≡ Some place → Repeats (key ∷ keys) place
 repeats_here key [] place e = absurd cc
 repeats_here key (next ∷ more) place e =
     let own = guarded (is_repeated key next) next.place place e in
-    let names = and-right (nat_eq key.digest next.digest) (pointwise nat_eq key.name next.name && nat_lt key.place next.place) own.0 in
+    let names = (and_parts (nat_eq key.digest next.digest) (pointwise nat_eq key.name next.name && nat_lt key.place next.place) own.0).1 in
     record {
       first = key;
       second = next;
       has_first = Has-first key (next ∷ more);
       has_second = Has-behind key (next ∷ more) next (Has-first next more);
-      name = (bytes_decides key.name next.name).0 (and-left (pointwise nat_eq key.name next.name) (nat_lt key.place next.place) names);
-      before = ltb-true key.place next.place (and-right (pointwise nat_eq key.name next.name) (nat_lt key.place next.place) names);
+      name = (bytes_decides key.name next.name).0 (and_parts (pointwise nat_eq key.name next.name) (nat_lt key.place next.place) names).0;
+      before = ltb-true key.place next.place (and_parts (pointwise nat_eq key.name next.name) (nat_lt key.place next.place) names).1;
       is = own.1;
     }
 
@@ -300,9 +285,9 @@ has_name_at : (fields : List Field) (earlier later : ℕ) (name : List ℕ) (d :
 has_name_at [] earlier later name d before within same = absurd (omega (arith, within))
 has_name_at (field ∷ fields) earlier zero name d before within same = absurd (omega (arith, before))
 has_name_at (field ∷ fields) zero (suc later) name d before within same =
-    either-left (str_eq_ignore_ascii_case field.name name) (has_name (names_of (take later fields)) name) ((bytes_decides (str_to_ascii_lowercase field.name) (str_to_ascii_lowercase name)).1 same)
+    or_left (str_eq_ignore_ascii_case field.name name) (has_name (names_of (take later fields)) name) ((bytes_decides (str_to_ascii_lowercase field.name) (str_to_ascii_lowercase name)).1 same)
 has_name_at (field ∷ fields) (suc earlier) (suc later) name d before within same =
-    either-right (str_eq_ignore_ascii_case field.name name) (has_name (names_of (take later fields)) name) (has_name_at fields earlier later name d (omega (arith, before)) (omega (arith, within)) same)
+    or_right (str_eq_ignore_ascii_case field.name name) (has_name (names_of (take later fields)) name) (has_name_at fields earlier later name d (omega (arith, before)) (omega (arith, within)) same)
 
 keys_from-append : (place : ℕ) (fields more : List Field) → keys_from place (fields ++ more) ≡ keys_from place fields ++ keys_from (place + length fields) more
 keys_from-append place [] more = λ i. keys_from (plus_none i) more
@@ -338,8 +323,8 @@ key_there start (field ∷ fields) name has =
     ]
 
 Has-append : (keys more : List Key) (wanted : Key) → Has keys wanted ⊎ Has more wanted → Has (keys ++ more) wanted
-Has-append keys more wanted (inl there) = list_any-append (is_key wanted) keys more ∙ either-left (list_any (is_key wanted) keys) (list_any (is_key wanted) more) there
-Has-append keys more wanted (inr there) = list_any-append (is_key wanted) keys more ∙ either-right (list_any (is_key wanted) keys) (list_any (is_key wanted) more) there
+Has-append keys more wanted (inl there) = list_any-append (is_key wanted) keys more ∙ or_left (list_any (is_key wanted) keys) (list_any (is_key wanted) more) there
+Has-append keys more wanted (inr there) = list_any-append (is_key wanted) keys more ∙ or_right (list_any (is_key wanted) keys) (list_any (is_key wanted) more) there
 
 Has-moved : (keys others : List Key) (wanted : Key) → IsPermutation keys others → Has keys wanted → Has others wanted
 Has-moved keys others wanted moved has = sym (list_any-IsPermutation (is_key wanted) keys others moved) ∙ has

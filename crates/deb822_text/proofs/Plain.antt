@@ -5,9 +5,10 @@ use Rattle.std.specs.Str.Lines.{lines as text_lines, lines_of_parts, strip_carri
 use Rattle.std.proofs.lemmas.Bool.{and_parts, or_parts, and_right, not-true, ne_eqb, leb-true}
 use Rattle.std.proofs.lemmas.List.{reverse-reverse, take_at, drop_at, length-append}
 use Rattle.acq_base.specs.Words.{is_blank, trimmed_start, trimmed_end, trimmed}
+use Rattle.acq_base.proofs.Lists.{split_cons}
 use Rattle.deb822_text.specs.Control.{Continuation, Named, is_colon, is_hash, begins_with, may_begin_name, is_name_character, is_name, is_empty, line_of, field_line}
 use Rattle.deb822_text.specs.Written.{is_line_character, ends_with, is_first_line, is_later_line, first_line_text}
-use Rattle.deb822_text.proofs.Cuts.{split_cons, field_line-colon}
+use Rattle.deb822_text.proofs.Cuts.{field_line-colon}
 
 -- ---- a line up to its line feed
 

@@ -2,13 +2,13 @@
 use Rattle.std.proofs.Common.{◌≡◌, ◌≢◌, ◌∙◌, ◌⊎◌, inl, inr, ℕ, zero, suc, ◌<◌, ◌&&◌, ◌==◌, not, Bool, true, false, if◌then◌else◌, List, [], ◌∷◌, ◌++◌, codes, length, get_or, AllPairs, Option, Some, None, Result, Ok, Err, IfOk, refl, sym, ap, subst, arith}
 use Rattle.std.specs.Prelude.{bytes_eq, is_some, Contains}
 use Rattle.std.specs.List.{AllByRecursion as Each}
-use Rattle.std.proofs.lemmas.Bool.{cases_Bool, and_parts}
-use Rattle.std.proofs.lemmas.Bool.Decides.{nat_tests}
+use Rattle.std.proofs.lemmas.Bool.{cases_Bool}
 use Rattle.std.proofs.lemmas.List.Quantifiers.{all_pairs_push}
 use Rattle.std.proofs.lemmas.Slice.Eq.{bytes_eq-Decides}
 use Rattle.acq_base.specs.declared.sum.Sum.{Sum}
 use Rattle.acq_base.specs.Sum.{sum_of_texts}
 use Rattle.acq_base.specs.Words.{words, is_blank}
+use Rattle.acq_base.proofs.SameSums.{same_sum-true, same_sum-refl}
 use Rattle.std.specs.Result.{result_ok}
 use Rattle.deb822_text.specs.Control.{paragraphs_of, field_named}
 use Rattle.deb822_text.specs.declared.error.TextError.{TextError}
@@ -195,20 +195,8 @@ read-distinct bytes (Err refusal) is = tt
 
 -- ---- chains
 
-same-true : (a b : Sum) → same_sum a b ≡ true → a ≡ b
-same-true a b h =
-    let parts = and_parts (a.size == b.size) (bytes_eq a.sha.0 b.sha.0) h in
-    let size : a.size ≡ b.size = grind (arith, nat_tests) in
-    let sha = (bytes_eq-Decides a.sha.0 b.sha.0).0 parts.1 in
-    ap (λ n. record { size = n; sha = a.sha }) size ∙ ap (λ bytes. record { size = b.size; sha = record { 0 = bytes } }) sha
-
-same-itself : (a : Sum) → same_sum a a ≡ true
-same-itself a =
-    let bytes : bytes_eq a.sha.0 a.sha.0 ≡ true = (bytes_eq-Decides a.sha.0 a.sha.0).1 refl in
-    rw bytes (grind (arith, nat_tests))
-
 differs : (a b : Sum) → same_sum a b ≡ false → a ≢ b
-differs a b h same = let hit : same_sum a b ≡ true = ap (same_sum a) (sym same) ∙ same-itself a in cc
+differs a b h same = let hit : same_sum a b ≡ true = ap (same_sum a) (sym same) ∙ same_sum-refl a in cc
 
 abbrev no_lines : List Step → Sum → Type 0
 no_lines lines have = Each (λ (line : Step). line.sum ≢ have) lines
@@ -251,7 +239,7 @@ entry-is (line ∷ lines) have found e = by (entry_on lines have) refl (λ f h. 
           | inl hit ↦
               let some = rw hit at rest in
               let same : found ≡ line ∷ lines = cc in
-              record { before = []; entry = line; behind = lines; whole = refl; from_here = same; from = same-true line.sum have hit; last = none-on lines have is }
+              record { before = []; entry = line; behind = lines; whole = refl; from_here = same; from = same_sum-true line.sum have hit; last = none-on lines have is }
           | inr miss ↦ let none = rw miss at rest in absurd (cc)
         ]
 

@@ -8,34 +8,34 @@ use Rattle.release_file.specs.declared.changing.HeadField.{HeadField}
 use Rattle.release_file.specs.declared.changing.HeadField.TheVariants.{Origin, Label, Suite, Codename}
 use Rattle.release_file.specs.declared.release.Head.{Head}
 
-same-refl : (text : Option (List ℕ)) → same_text text text ≡ true
-same-refl None = refl
-same-refl (Some text) = (bytes_decides text text).1 refl
+pub same_text-refl : (text : Option (List ℕ)) → same_text text text ≡ true
+same_text-refl None = refl
+same_text-refl (Some text) = (bytes_decides text text).1 refl
 
-same-true : (a b : Option (List ℕ)) → same_text a b ≡ true → a ≡ b
-same-true None None h = refl
-same-true None (Some b) h = absurd (false≢true h)
-same-true (Some a) None h = absurd (false≢true h)
-same-true (Some a) (Some b) h = ap (λ t. Some t) ((bytes_decides a b).0 h)
+pub same_text-true : (a b : Option (List ℕ)) → same_text a b ≡ true → a ≡ b
+same_text-true None None h = refl
+same_text-true None (Some b) h = absurd (false≢true h)
+same_text-true (Some a) None h = absurd (false≢true h)
+same_text-true (Some a) (Some b) h = ap (λ t. Some t) ((bytes_decides a b).0 h)
 
 -- a field that may follow is switched on where it differs
 follows : (on : Bool) (a b : Option (List ℕ)) → (on || same_text a b) ≡ true → a ≢ b → on ≡ true
 follows true a b h differs = refl
-follows false a b h differs = absurd (differs (same-true a b h))
+follows false a b h differs = absurd (differs (same_text-true a b h))
 
 may : (on : Bool) (a b : Option (List ℕ)) → (a ≢ b → on ≡ true) → (on || same_text a b) ≡ true
 may true a b h = refl
 may false a b h =
     elim (cases_Bool (same_text a b)) [
       | inl is ↦ is
-      | inr isnt ↦ absurd (false≢true (h (λ same. false≢true (sym isnt ∙ ap (same_text a) (sym same) ∙ same-refl a))))
+      | inr isnt ↦ absurd (false≢true (h (λ same. false≢true (sym isnt ∙ ap (same_text a) (sym same) ∙ same_text-refl a))))
     ]
 
 -- a field that may not
 differs_off : (on : Bool) (a b : Option (List ℕ)) → (on || same_text a b) ≡ false → (a ≢ b) × (on ≡ false)
 differs_off on a b h =
     let parts = or_parts on (same_text a b) h in
-    ((λ same. false≢true (sym parts.1 ∙ ap (same_text a) (sym same) ∙ same-refl a)), parts.0)
+    ((λ same. false≢true (sym parts.1 ∙ ap (same_text a) (sym same) ∙ same_text-refl a)), parts.0)
 
 -- ---- the four fields
 
@@ -44,8 +44,8 @@ abbrev Explains : Change → Head → Head → Option HeadField → Type 0
 Explains change old new None = IsAllowed change old new
 Explains change old new (Some field) = IsFirstRefused change old new field
 
-one : (change : Change) (old new : Head) (field : HeadField) → may_follow change old new field ≡ true → text_in field old ≢ text_in field new → is_on change field ≡ true
-one change old new field h = follows (is_on change field) (text_in field old) (text_in field new) h
+pub followed : (change : Change) (old new : Head) (field : HeadField) → may_follow change old new field ≡ true → text_in field old ≢ text_in field new → is_on change field ≡ true
+followed change old new field h = follows (is_on change field) (text_in field old) (text_in field new) h
 
 -- the fields before a place may follow
 abbrev Fine : Change → Head → Head → ℕ → Type 0
@@ -76,15 +76,15 @@ fine_codename change old new origin label suite Suite less = suite
 fine_codename change old new origin label suite Codename less = absurd (omega (arith, less))
 
 all_fine : (change : Change) (old new : Head) → May change old new Origin → May change old new Label → May change old new Suite → May change old new Codename → IsAllowed change old new
-all_fine change old new origin label suite codename Origin = one change old new Origin origin
-all_fine change old new origin label suite codename Label = one change old new Label label
-all_fine change old new origin label suite codename Suite = one change old new Suite suite
-all_fine change old new origin label suite codename Codename = one change old new Codename codename
+all_fine change old new origin label suite codename Origin = followed change old new Origin origin
+all_fine change old new origin label suite codename Label = followed change old new Label label
+all_fine change old new origin label suite codename Suite = followed change old new Suite suite
+all_fine change old new origin label suite codename Codename = followed change old new Codename codename
 
 first : (change : Change) (old new : Head) (field : HeadField) → may_follow change old new field ≡ false → Fine change old new (place_of field) → IsFirstRefused change old new field
 first change old new field bad before =
     let off = differs_off (is_on change field) (text_in field old) (text_in field new) bad in
-    record { differs = off.0; off = off.1; before = λ other less. one change old new other (before other less) }
+    record { differs = off.0; off = off.1; before = λ other less. followed change old new other (before other less) }
 
 explained : (change : Change) (old new : Head) → Explains change old new (first_refused change old new)
 unfolding first_refused

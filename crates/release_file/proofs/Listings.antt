@@ -1,14 +1,15 @@
 -- A Release that is read lists a path with a sum exactly where a sum line says so, and no path twice.
 use Rattle.std.proofs.Common.{◌≡◌, ◌≢◌, ◌∙◌, ◌⊎◌, ◌↔◌, ◌==◌, ℕ, zero, suc, ◌+◌, ◌<◌, ◌≤◌, true, false, not, List, [], ◌∷◌, ◌++◌, codes, drop, get_or, filter, Option, Some, None, Result, Ok, Err, IfOk, refl, sym, ap, subst, inl, inr, arith, ⊎_elim, length}
 use Rattle.std.specs.Prelude.{bytes_eq, option_to_list, if◌then◌else◌, Contains, AllPairs}
-use Rattle.std.proofs.lemmas.Bool.{cases_Bool, and_parts, false≢true, not-false}
-use Rattle.std.proofs.lemmas.Bool.Decides.{nat_tests}
+use Rattle.std.proofs.lemmas.Bool.{cases_Bool, false≢true, not-false}
 use Rattle.std.proofs.lemmas.List.{take_all}
 use Rattle.std.proofs.lemmas.List.Elements.{Contains-append_left, Contains-append_right, Contains-push, Contains-push_cases, filter_passes}
 use Rattle.std.proofs.lemmas.List.Kept.{AllPairs-cons, AllPairs-filter}
 use Rattle.acq_base.specs.declared.sum.Sum.{Sum}
+use Rattle.acq_base.proofs.SameSums.{same_sum-true}
+use Rattle.acq_base.proofs.Texts.{bytes_eq-true, bytes_eq-refl}
 use Rattle.release_file.specs.Entries.{sum_beside}
-use Rattle.release_file.specs.Release.{listed_of_line, entries_in, same_sum, sum_in, agrees, may_follow, first_bad, firsts, refused_at, files_of_lines, files_of_field, files_of, ◌>>=◌, date_of, until_of, release_of_fields, release_of_paragraphs, release_of_text, release_in, text_within, release_of, listed_sum}
+use Rattle.release_file.specs.Release.{listed_of_line, entries_in, sum_in, agrees, may_follow, first_bad, firsts, refused_at, files_of_lines, files_of_field, files_of, ◌>>=◌, date_of, until_of, release_of_fields, release_of_paragraphs, release_of_text, release_in, text_within, release_of, listed_sum}
 use Rattle.release_file.specs.Listing.{later_lines, sums_of_paragraphs, sums_of_text, sums_field, entries_of}
 use Rattle.deb822_text.specs.Control.{paragraphs_of, field_named}
 use Rattle.deb822_text.specs.declared.error.TextError.{TextError}
@@ -18,19 +19,9 @@ use Rattle.release_file.specs.declared.error.ReleaseError.TheVariants.{BadSums, 
 use Rattle.release_file.specs.declared.release.Release.{Release}
 use Rattle.release_file.specs.declared.error.ReleaseError.{ReleaseError}
 use Rattle.release_file.specs.declared.release.Listed.{Listed}
-use Rattle.release_file.proofs.SumLines.{bytes_eq-true, bytes_eq-refl, keeps, sum_in-push, entries_above, entries_above-more, AreFine, none_bad}
+use Rattle.release_file.proofs.SumLines.{keeps, sum_in-push, entries_above, entries_above-more, AreFine, none_bad}
 
 -- ---- sums by path
-
-pub same_sum-true : (a b : Sum) → same_sum a b ≡ true → a ≡ b
-same_sum-true a b h =
-    let parts = and_parts (a.size == b.size) (bytes_eq a.sha.0 b.sha.0) h in
-    let size : a.size ≡ b.size = grind (arith, nat_tests) in
-    let sha = bytes_eq-true a.sha.0 b.sha.0 parts.1 in
-    ap (λ n. record { size = n; sha = a.sha }) size ∙ ap (λ bytes. record { size = b.size; sha = record { 0 = bytes } }) sha
-
-pub same_sum-refl : (a : Sum) → same_sum a a ≡ true
-same_sum-refl a = rw (bytes_eq-refl a.sha.0) (grind (arith, nat_tests))
 
 -- a filter by another path keeps the sum of this one
 sum_in-filter : (first : Listed) (path : List ℕ) (files : List Listed) → bytes_eq first.path path ≡ false → sum_in (filter (keeps first) files) path ≡ sum_in files path

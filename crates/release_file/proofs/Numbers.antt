@@ -1,25 +1,19 @@
 -- That a text of few decimal digits writes a small number.
-use Rattle.std.proofs.Common.{◌≡◌, ◌&&◌, nat_le, ℕ, ◌<◌, ◌≤◌, ◌^◌, true, List, length, inl, inr, Some, None, Result, Ok, Err, sym, subst, ◌∙◌, arith, IfSome, rules}
+use Rattle.std.proofs.Common.{◌≡◌, ◌&&◌, nat_le, ℕ, ◌<◌, ◌≤◌, ◌^◌, true, List, length, inl, inr, Some, None, Result, Ok, Err, sym, subst, ◌∙◌, arith, IfSome}
 use Rattle.std.proofs.lemmas.Bool.{cases_Bool}
 use Rattle.std.proofs.lemmas.Bool.Decides.{nat_tests}
-use Rattle.std.proofs.lemmas.Str.Parse.{IsNumeralModel, IsDigitsTest, numerals_by_value, digits_value_short}
+use Rattle.std.proofs.lemmas.Str.Parse.{digits_value_short}
 use Rattle.std.specs.Char.{is_ascii_digit}
 use Rattle.std.specs.List.{list_all}
 use Rattle.std.specs.Result.{result_ok, OkIff}
 use Rattle.std.specs.Str.Parse.{digits_value}
 use Rattle.acq_base.specs.Digits.{number_of_digits}
+use Rattle.acq_base.proofs.Numbers.{numerals}
 use Rattle.release_file.specs.DateText.{number_of}
-
--- `list_all is_ascii_digit` in std's words for numerals
-digits_test : IsDigitsTest (λ ds. list_all is_ascii_digit ds ≡ true)
-digits_test = search rules
-
-own : IsNumeralModel (λ ds. list_all is_ascii_digit ds ≡ true) (digits_value 10)
-own = numerals_by_value _ digits_test
 
 -- so many digits write a number below that power of ten
 digits-lt : (text : List ℕ) (most : ℕ) → list_all is_ascii_digit text ≡ true → length text ≤ most → digits_value 10 text < 10 ^ most
-digits-lt text most h short = digits_value_short own text most h short
+digits-lt text most h short = digits_value_short numerals text most h short
 
 -- few digits are digits of a number below 2^64
 pub few_digits : (least most : ℕ) (text : List ℕ) → 1 ≤ least → least ≤ length text → length text ≤ most → most ≤ 4 → number_of_digits text ≡ number_of least most text

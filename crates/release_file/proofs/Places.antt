@@ -78,7 +78,7 @@ fits-line most comments at count line h =
       ]
     ]
 
-length-lines_from : (comments : Bool) (at : ℕ) (lines : List (List ℕ)) → length (lines_from comments at lines) ≡ length lines
+pub length-lines_from : (comments : Bool) (at : ℕ) (lines : List (List ℕ)) → length (lines_from comments at lines) ≡ length lines
 length-lines_from comments at [] = refl
 length-lines_from comments at (line ∷ lines) = ap suc (length-lines_from comments (at + 1) lines)
 
@@ -148,7 +148,7 @@ within-groups most lines h =
 
 -- ---- the fields of a group
 
-few_continued : (lines : List Line) → length (continued lines) ≤ length lines
+pub few_continued : (lines : List Line) → length (continued lines) ≤ length lines
 few_continued [] = omega arith
 few_continued (Continuation at text ∷ lines) = omega (arith, few_continued lines)
 few_continued (Separator ∷ lines) = omega arith

@@ -4,6 +4,7 @@ use Rattle.std.proofs.lemmas.Bool.{cases_Bool, false≢true, not-true, not-false
 use Rattle.std.proofs.lemmas.List.{take_all, take-append-drop, length-append, length-take-le}
 use Rattle.std.proofs.Math.Seq.{take-append_seam, get_or-append_seam}
 use Rattle.acq_base.specs.declared.sum.Sum.{Sum}
+use Rattle.acq_base.proofs.SameSums.{same_sum-true, same_sum-refl}
 use Rattle.deb822_text.specs.Control.{paragraphs_of, field_named}
 use Rattle.deb822_text.specs.declared.error.TextError.{TextError}
 use Rattle.deb822_text.specs.declared.paragraph.Field.{Field}
@@ -21,7 +22,7 @@ use Rattle.release_file.specs.declared.error.ReleaseError.TheVariants.{BadDate, 
 use Rattle.release_file.specs.declared.release.Listed.{Listed}
 use Rattle.release_file.specs.declared.release.Release.{Release}
 use Rattle.release_file.proofs.SumLines.{AreFine, none_bad, first_found}
-use Rattle.release_file.proofs.Listings.{IsConsistent, consistent-above, same_sum-true, same_sum-refl, sum_in-Contains}
+use Rattle.release_file.proofs.Listings.{IsConsistent, consistent-above, sum_in-Contains}
 
 -- ---- one line
 

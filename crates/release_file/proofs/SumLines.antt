@@ -2,23 +2,17 @@
 use Rattle.std.proofs.Common.{◌≡◌, ◌∙◌, ℕ, zero, suc, ◌+◌, ◌<◌, ◌≤◌, Bool, true, false, not, cond, List, [], ◌∷◌, ◌++◌, length, take, get_or, filter, find, Option, Some, None, Ok, Err, refl, sym, ap, inl, inr, arith}
 use Rattle.std.specs.Prelude.{bytes_eq, option_to_list, if◌then◌else◌}
 use Rattle.std.specs.List.{filter_map, cons_option, range_with_len}
-use Rattle.std.specs.Cmp.Lexicographic.{bytes_decides, slice_cmp}
+use Rattle.std.specs.Cmp.Lexicographic.{slice_cmp}
 use Rattle.std.specs.Ordering.{nat_cmp, is_eq}
 use Rattle.std.proofs.lemmas.Map.Text.{is_eq-slice_cmp}
 use Rattle.std.proofs.lemmas.Bool.{cases_Bool, cases_lt}
 use Rattle.std.proofs.lemmas.List.{take_more, take_all, append-nil, get_or_default}
 use Rattle.acq_base.specs.declared.sum.Sum.{Sum}
+use Rattle.acq_base.proofs.Texts.{bytes_eq-true}
 use Rattle.release_file.specs.Entries.{with_entry, sum_beside}
 use Rattle.release_file.specs.Release.{listed_of_line, entries_in, sum_in, agrees, may_follow, is_bad_at, first_bad, firsts, files_of_lines}
 use Rattle.release_file.specs.declared.error.ReleaseError.TheVariants.{BadSums}
 use Rattle.release_file.specs.declared.release.Listed.{Listed}
-
--- equal texts are equal, and a text equals itself
-pub bytes_eq-true : (a b : List ℕ) → bytes_eq a b ≡ true → a ≡ b
-bytes_eq-true a b h = (bytes_decides a b).0 h
-
-pub bytes_eq-refl : (a : List ℕ) → bytes_eq a a ≡ true
-bytes_eq-refl a = (bytes_decides a a).1 refl
 
 -- the sum of a path with one more entry
 pub sum_in-push : (entries : List Listed) (entry : Listed) (path : List ℕ) → sum_in (entries ++ entry ∷ []) path ≡ sum_beside (sum_in entries path) entry path

@@ -1,9 +1,10 @@
 -- A text is cut at the end of its first line.
-use Rattle.std.proofs.Common.{◌≡◌, ℕ, suc, ◌+◌, ◌<◌, ◌≤◌, Bool, true, false, cond, not, nat_eq, List, [], ◌∷◌, length, ◌||◌, refl, sym, ap, ◌∙◌, arith}
+use Rattle.std.proofs.Common.{◌≡◌, ℕ, suc, ◌+◌, ◌<◌, Bool, true, false, cond, not, nat_eq, List, [], ◌∷◌, length, ◌||◌, refl, sym, ap, ◌∙◌, arith}
 use Rattle.std.specs.List.{slice_split, position_or_len, list_any, onto_first, before_first, after_first}
 use Rattle.std.specs.Str.Lines.{lines as text_lines, lines_of_parts, strip_carriage_return}
 use Rattle.std.proofs.lemmas.Bool.{ne_eqb}
 use Rattle.std.proofs.lemmas.List.Splits.{slice_split_first}
+use Rattle.acq_base.proofs.Lists.{split_cons}
 
 -- an element passes exactly where the first that does stands within the list
 pub list_any-within : {X : Type 0} (p : X → Bool) (xs : List X) → list_any p xs ≡ true → position_or_len p xs < length xs
@@ -12,20 +13,6 @@ list_any-within p (x ∷ xs) is = elim (p x) as (λ b. (b || list_any p xs) ≡ 
   | true ↦ λ _. omega arith
   | false ↦ λ more. let i = list_any-within p xs more in omega (arith, i)
 ] is
-
-pub list_any-there : {X : Type 0} (p : X → Bool) (xs : List X) → position_or_len p xs < length xs → list_any p xs ≡ true
-list_any-there p [] within = absurd (omega arith)
-list_any-there p (x ∷ xs) within = elim (p x) as (λ b. cond (not b) (1 + position_or_len p xs) 0 < suc (length xs) → (b || list_any p xs) ≡ true) [
-  | true ↦ λ _. refl
-  | false ↦ λ less. list_any-there p xs (omega (arith, less))
-] within
-
-pub list_any-nowhere : {X : Type 0} (p : X → Bool) (xs : List X) → length xs ≤ position_or_len p xs → list_any p xs ≡ false
-list_any-nowhere p [] none = refl
-list_any-nowhere p (x ∷ xs) none = elim (p x) as (λ b. suc (length xs) ≤ cond (not b) (1 + position_or_len p xs) 0 → (b || list_any p xs) ≡ false) [
-  | true ↦ λ short. absurd (omega (arith, short))
-  | false ↦ λ long. list_any-nowhere p xs (omega (arith, long))
-] none
 
 pub place-nowhere : {X : Type 0} (p : X → Bool) (xs : List X) → list_any p xs ≡ false → position_or_len p xs ≡ length xs
 place-nowhere p [] none = refl
@@ -41,14 +28,6 @@ split_whole p (x ∷ xs) none = elim (p x) as (λ b. (b || list_any p xs) ≡ fa
   | true ↦ λ no. absurd (cc)
   | false ↦ λ no. ap (onto_first x) (split_whole p xs no)
 ] none
-
--- parts are never none
-split_cons : {X : Type 0} (p : X → Bool) (xs : List X) → (part : List X) × (parts : List (List X)) × (slice_split p xs ≡ part ∷ parts)
-split_cons p [] = ([], [], refl)
-split_cons {X} p (x ∷ xs) = elim (p x) as (λ b. (part : List X) × (parts : List (List X)) × (cond b ([] ∷ slice_split p xs) (onto_first x (slice_split p xs)) ≡ part ∷ parts)) [
-  | true ↦ ([], slice_split p xs, refl)
-  | false ↦ let i = split_cons p xs in (x ∷ i.0, i.1, ap (onto_first x) i.2)
-]
 
 -- the first line ends at the first line feed
 pub lines_cut : (xs : List ℕ) → list_any (λ c. nat_eq c 10) xs ≡ true → text_lines xs ≡ strip_carriage_return (before_first (λ c. nat_eq c 10) xs) ∷ text_lines (after_first (λ c. nat_eq c 10) xs)

@@ -1,11 +1,12 @@
 -- The commits of a run, one by one or together: they do the same, together they are at most one, and they lead to what is
 -- next.
-use Rattle.std.proofs.Common.{◌≡◌, ◌⊎◌, inl, inr, ℕ, zero, suc, ◌<◌, ◌≤◌, Bool, true, false, ◌&&◌, List, [], ◌∷◌, ◌++◌, length, map, Contains, Option, Some, None, filter_map, refl, sym, ap, ◌∙◌, subst, arith}
-use Rattle.std.specs.List.{list_all, slice_index_or, cons_option, AllByRecursion as Each}
+use Rattle.std.proofs.Common.{◌≡◌, inl, inr, ℕ, suc, ◌≤◌, Bool, true, false, ◌&&◌, List, [], ◌∷◌, ◌++◌, length, map, Contains, Option, Some, None, filter_map, refl, sym, ap, ◌∙◌, subst, arith}
+use Rattle.std.specs.List.{list_all, cons_option, AllByRecursion as Each}
 use Rattle.std.proofs.lemmas.List.{append-nil}
 use Rattle.std.proofs.lemmas.List.Elements.{Contains-append_cases, Contains-append_left, Contains-append_right}
 use Rattle.acq_base.specs.declared.plan.Source.{Source}
 use Rattle.acq_base.specs.declared.settings.Settings.{Settings}
+use Rattle.acq_base.proofs.Lists.{first-or-rest}
 use Rattle.update_model.specs.Carried.{Does, Carried, Committed, all_deeds, CommitsDoTheSame, TogetherIsOneCommit, CommitsLeadToNext}
 use Rattle.update_model.specs.Next.{Deed, Installs, CleansUp, deed_of, clean_up, cleans, deeds, commits, one_commit, is_settled_well}
 use Rattle.update_model.specs.Outcomes.{Outcome, Directory}
@@ -17,13 +18,6 @@ use Rattle.update_model.proofs.Nexts.{tests-hold}
 behind : {X : Type 0} (y : X) (xs : List X) (x : X) → Contains xs x → Contains (y ∷ xs) x
 behind y xs x c = (suc c.0, omega (arith, c.1), c.2)
 
-either : {X : Type 0} (y : X) (xs : List X) (x : X) → Contains (y ∷ xs) x → (y ≡ x) ⊎ Contains xs x
-either {X} y xs x c = at c.0 c.1 c.2
-  where
-    at : (k : ℕ) → k < length (y ∷ xs) → slice_index_or (y ∷ xs) k x ≡ x → (y ≡ x) ⊎ Contains xs x
-    at zero below is = inl is
-    at (suc k) below is = inr (k, omega (arith, below), is)
-
 -- what a filter keeps comes from an element
 kept-by : {X Y : Type 0} (f : X → Option Y) (xs : List X) (y : Y) → Contains (filter_map f xs) y → (x : X) × Contains xs x × (f x ≡ Some y)
 kept-by f [] y c = absurd (omega (arith, c.1))
@@ -34,7 +28,7 @@ kept-by {X} {Y} f (x ∷ xs) y c = at (f x) refl c (λ d. kept-by f xs y d)
         → (z : X) × Contains (x ∷ xs) z × (f z ≡ Some y)
     at None e d more = let r = more d in (r.0, behind x xs r.0 r.1, r.2)
     at (Some v) e d more =
-        elim (either v (filter_map f xs) y d) [
+        elim (first-or-rest v (filter_map f xs) y d) [
           | inl here ↦ (x, (0, omega arith, refl), e ∙ ap (λ (w : Y). Some w) here)
           | inr there ↦ let r = more there in (r.0, behind x xs r.0 r.1, r.2)
         ]
@@ -42,7 +36,7 @@ kept-by {X} {Y} f (x ∷ xs) y c = at (f x) refl c (λ d. kept-by f xs y d)
 found-by : {X Y : Type 0} (f : X → Option Y) (xs : List X) (y : Y) (x : X) → Contains xs x → f x ≡ Some y → Contains (filter_map f xs) y
 found-by f [] y x c is = absurd (omega (arith, c.1))
 found-by {X} {Y} f (z ∷ xs) y x c is =
-    elim (either z xs x c) [
+    elim (first-or-rest z xs x c) [
       | inl here ↦ subst (λ (o : Option Y). Contains (cons_option o (filter_map f xs)) y) (sym (ap f here ∙ is)) (0, omega arith, refl)
       | inr there ↦ further (f z) (found-by f xs y x there is)
     ]

@@ -4,6 +4,7 @@ use Rattle.std.proofs.lemmas.Bool.{cases_Bool}
 use Rattle.acq_base.specs.declared.plan.Source.{Source}
 use Rattle.acq_base.specs.declared.sum.Sum.{Sum}
 use Rattle.acq_base.specs.declared.uri.Uri.{Uri}
+use Rattle.acq_base.proofs.SameSums.{same_sum-true}
 use Rattle.pdiff_index.specs.declared.index.Step.{Step}
 use Rattle.release_file.specs.Release.{same_sum}
 use Rattle.update_model.specs.Faults.{IsListed, ListsEndAsListed, ReleasesEndAsServed}
@@ -22,7 +23,7 @@ use Rattle.update_model.specs.declared.ask.Ending.TheVariants as endings
 use Rattle.update_model.specs.declared.end.End.{End}
 use Rattle.update_model.specs.declared.end.End.TheVariants.{Got, Stands, Ended}
 use Rattle.update_model.specs.declared.wanted.Wanted.{Wanted}
-use Rattle.update_model.proofs.Sums.{fitting-is, same_sum-true}
+use Rattle.update_model.proofs.Sums.{fitting-is}
 
 -- ---- the ends of a walk, whatever is answered
 

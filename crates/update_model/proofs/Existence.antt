@@ -74,7 +74,7 @@ lists-are file (t ∷ ts) distinct =
         let here : lists_at file (t ∷ ts) u.name.0 ≡ file u = rw other h.0 in
         (here, behind us (λ c. far (suc c.0, omega (arith, c.1), c.2)) h.1)
 
-front-distinct : (xs ys : List (List ℕ)) → AllPairs (λ a b. a ≢ b) (xs ++ ys) → AllPairs (λ a b. a ≢ b) xs
+pub front-distinct : (xs ys : List (List ℕ)) → AllPairs (λ a b. a ≢ b) (xs ++ ys) → AllPairs (λ a b. a ≢ b) xs
 front-distinct xs ys h = λ i j d before below same.
     let count = length-append xs ys in
     let first : slice_index_or (xs ++ ys) i d ≡ slice_index_or xs i d = get_or_append_left xs ys d i (omega (arith, before, below)) in

@@ -1,30 +1,12 @@
 -- No field of a head is refused exactly where its change is allowed.
-use Rattle.std.proofs.Common.{◌≡◌, ◌≢◌, ℕ, ◌||◌, Bool, true, false, not, List, Option, Some, None, refl, ap, ◌∙◌, subst, inl, inr, if◌then◌else◌}
+use Rattle.std.proofs.Common.{◌≡◌, ◌≢◌, ◌||◌, Bool, true, false, not, Option, Some, None, refl, ap, ◌∙◌, subst, inl, inr, if◌then◌else◌}
 use Rattle.std.proofs.lemmas.Bool.{cases_Bool}
-use Rattle.std.proofs.lemmas.Slice.Eq.{bytes_eq-Decides}
 use Rattle.release_file.specs.Changes.{text_in, is_on, same_text, may_follow, first_refused, IsAllowed}
 use Rattle.release_file.specs.declared.changing.Change.{Change}
 use Rattle.release_file.specs.declared.changing.HeadField.{HeadField}
 use Rattle.release_file.specs.declared.changing.HeadField.TheVariants.{Origin, Label, Suite, Codename}
 use Rattle.release_file.specs.declared.release.Head.{Head}
-
-same_text-true : (a b : Option (List ℕ)) → same_text a b ≡ true → a ≡ b
-same_text-true None None h = refl
-same_text-true None (Some b) h = cc
-same_text-true (Some a) None h = cc
-same_text-true (Some a) (Some b) h = ap (λ x. Some x) ((bytes_eq-Decides a b).0 h)
-
-same_text-itself : (a : Option (List ℕ)) → same_text a a ≡ true
-same_text-itself None = refl
-same_text-itself (Some a) = (bytes_eq-Decides a a).1 refl
-
--- a field that may follow stays, or may change
-followed : (change : Change) (old new : Head) (field : HeadField) → may_follow change old new field ≡ true → text_in field old ≢ text_in field new → is_on change field ≡ true
-followed change old new field h differs = look (is_on change field) h
-  where
-    look : (on : Bool) → (on || same_text (text_in field old) (text_in field new)) ≡ true → on ≡ true
-    look true h = refl
-    look false h = absurd (differs (same_text-true (text_in field old) (text_in field new) h))
+use Rattle.release_file.proofs.Changes.{same_text-refl, followed}
 
 follows : (change : Change) (old new : Head) (field : HeadField) → IsAllowed change old new → may_follow change old new field ≡ true
 follows change old new field allowed = look (is_on change field) refl
@@ -36,7 +18,7 @@ follows change old new field allowed = look (is_on change field) refl
           | inl same ↦ ap (λ b. b || same_text (text_in field old) (text_in field new)) e ∙ same
           | inr other ↦
               let differs : text_in field old ≢ text_in field new =
-              λ s. let t : same_text (text_in field old) (text_in field new) ≡ true = subst (λ x. same_text (text_in field old) x ≡ true) s (same_text-itself (text_in field old)) in absurd (cc) in
+              λ s. let t : same_text (text_in field old) (text_in field new) ≡ true = subst (λ x. same_text (text_in field old) x ≡ true) s (same_text-refl (text_in field old)) in absurd (cc) in
               absurd (let on = allowed field differs in cc)
         ]
 

@@ -9,12 +9,12 @@ use Rattle.acq_base.specs.Sum.{sum_of}
 use Rattle.acq_base.specs.declared.plan.Source.{Source}
 use Rattle.acq_base.specs.declared.plan.Target.{Target}
 use Rattle.acq_base.specs.declared.sum.Sum.{Sum}
+use Rattle.acq_base.proofs.SameSums.{same_sum-true, same_sum-refl}
 use Rattle.release_file.specs.Release.{listed_sum, same_sum}
 use Rattle.release_file.specs.declared.release.Release.{Release}
 use Rattle.update_model.specs.Laws.{NextsAreAlike, NextsAreClean, NextsKeep, HeldSetsAreFound}
 use Rattle.update_model.specs.Next.{Leaves, cleans, is_settled_well, same_bytes, same_sums}
 use Rattle.update_model.specs.Outcomes.{Directory, Outcome, new_set}
-use Rattle.update_model.proofs.Sums.{same_sum-true, same_sum-itself}
 
 -- a source's names in two directories
 abbrev AlikeAt : Source → Directory → Directory → Type 0
@@ -98,7 +98,7 @@ same-sums None None = ((λ h. refl), (λ h. refl))
 same-sums None (Some b) = ((λ h. cc), (λ h. cc))
 same-sums (Some a) None = ((λ h. cc), (λ h. cc))
 same-sums (Some a) (Some b) =
-    ((λ h. ap (λ x. Some x) (same_sum-true a b h)), (λ h. subst (λ x. same_sum a x ≡ true) (same_Some a b h) (same_sum-itself a)))
+    ((λ h. ap (λ x. Some x) (same_sum-true a b h)), (λ h. subst (λ x. same_sum a x ≡ true) (same_Some a b h) (same_sum-refl a)))
 
 pub tests-hold : {X : Type 0} (test : X → Bool) (P : X → Type 0) → ((x : X) → (test x ≡ true) ↔ P x) → (xs : List X) → (list_all test xs ≡ true) ↔ Each P xs
 tests-hold test P by [] = ((λ h. tt), (λ h. refl))

@@ -1,38 +1,31 @@
 -- Patches lie at sound URIs.
-use Rattle.std.proofs.Common.{◌≡◌, ℕ, ◌≤◌, ◌==◌, ◌||◌, ◌&&◌, ◌⊎◌, inl, inr, Bool, true, false, not, nat_le, List, [], ◌∷◌, ◌++◌, length, IsTrue, Some, codes, refl, sym, subst, length-append, arith}
-use Rattle.std.specs.List.{flat_map, list_all, list_any, slice_get}
-use Rattle.std.proofs.lemmas.Bool.{cases_Bool, and_parts, eqb-true}
+use Rattle.std.proofs.Common.{◌≡◌, ℕ, ◌≤◌, ◌==◌, ◌&&◌, inl, inr, Bool, true, false, not, nat_le, List, [], ◌∷◌, ◌++◌, length, IsTrue, Some, codes, refl, sym, subst, length-append, arith}
+use Rattle.std.specs.List.{list_all, list_any, slice_get}
+use Rattle.std.proofs.lemmas.Bool.{and_parts, eqb-true, or_cases, or_left}
 use Rattle.std.proofs.lemmas.List.Elements.{All-append}
 use Rattle.std.proofs.lemmas.List.Sums.{AllPass-from_list_all}
 use Rattle.acq_base.specs.declared.uri.Scheme.{Scheme}
 use Rattle.acq_base.specs.declared.uri.Scheme.TheVariants.{Http, File}
-use Rattle.acq_base.specs.Uri.{text_of_parts, name_of_parts, name_byte, is_alphanumeric, is_uri_character, port_text}
+use Rattle.acq_base.specs.Uri.{text_of_parts, name_of_parts, is_alphanumeric, is_uri_character, port_text}
+use Rattle.acq_base.proofs.Uris.{length-name}
 use Rattle.pdiff_index.specs.Index.{are_dots, is_name, is_name_character}
 use Rattle.update_model.specs.Laws.{PatchUrisAreSound, PatchUrisAreShort}
 
 -- ---- the characters of a patch's name
 
-or-cases : (a b : Bool) → (a || b) ≡ true → (a ≡ true) ⊎ (b ≡ true)
-or-cases true b h = inl refl
-or-cases false b h = inr h
-
-or-left : (a b : Bool) → a ≡ true → (a || b) ≡ true
-or-left true b h = refl
-or-left false b h = cc
-
 is-uri-character : (c d : ℕ) → (c == d) ≡ true → is_uri_character d ≡ true → is_uri_character c ≡ true
 is-uri-character c d same is = subst (λ x. is_uri_character x ≡ true) (sym (eqb-true c d same)) is
 
 name-character : (c : ℕ) → is_name_character c ≡ true → is_uri_character c ≡ true
-name-character c h = elim (or-cases (is_alphanumeric c) (list_any (λ d. c == d) (codes "._-+")) h) [
-  | inl plain ↦ or-left (is_alphanumeric c) (list_any (λ d. c == d) (codes "-._~:/?[]@!$&'()*+,;=%")) plain
-  | inr one ↦ elim (or-cases (c == 46) (list_any (λ d. c == d) (codes "_-+")) one) [
+name-character c h = elim (or_cases (is_alphanumeric c) (list_any (λ d. c == d) (codes "._-+")) h) [
+  | inl plain ↦ or_left (is_alphanumeric c) (list_any (λ d. c == d) (codes "-._~:/?[]@!$&'()*+,;=%")) plain
+  | inr one ↦ elim (or_cases (c == 46) (list_any (λ d. c == d) (codes "_-+")) one) [
     | inl dot ↦ is-uri-character c 46 dot refl
-    | inr two ↦ elim (or-cases (c == 95) (list_any (λ d. c == d) (codes "-+")) two) [
+    | inr two ↦ elim (or_cases (c == 95) (list_any (λ d. c == d) (codes "-+")) two) [
       | inl low ↦ is-uri-character c 95 low refl
-      | inr three ↦ elim (or-cases (c == 45) (list_any (λ d. c == d) (codes "+")) three) [
+      | inr three ↦ elim (or_cases (c == 45) (list_any (λ d. c == d) (codes "+")) three) [
         | inl dash ↦ is-uri-character c 45 dash refl
-        | inr four ↦ elim (or-cases (c == 43) false four) [ inl plus ↦ is-uri-character c 43 plus refl | inr none ↦ absurd (cc) ]
+        | inr four ↦ elim (or_cases (c == 43) false four) [ inl plus ↦ is-uri-character c 43 plus refl | inr none ↦ absurd (cc) ]
       ]
     ]
   ]
@@ -72,25 +65,6 @@ patches-sound w name sound named short = record {
 }
 
 -- ---- short
-
--- a byte of a path takes at least one byte of its list name
-length-name_byte : (c : ℕ) → 1 ≤ length (name_byte c)
-length-name_byte c =
-    elim (cases_Bool (c == 47)) [
-      | inl is ↦ rw is (omega arith)
-      | inr isnt ↦
-          elim (cases_Bool (is_alphanumeric c || list_any (λ d. c == d) (codes ".-+:"))) [
-            | inl plain ↦ rw (isnt, plain) (omega arith)
-            | inr escaped ↦ rw (isnt, escaped) (omega arith)
-          ]
-    ]
-
-length-name : (xs : List ℕ) → length xs ≤ length (flat_map name_byte xs)
-length-name [] = omega arith
-length-name (c ∷ xs) =
-    let one = length-name_byte c in
-    let more = length-name xs in
-    let both = length-append (name_byte c) (flat_map name_byte xs) in omega (arith, one, more, both)
 
 at_most : (name : List ℕ) → nat_le (length name) 240 ≡ true → length name ≤ 240
 at_most name h = grind (arith, h)

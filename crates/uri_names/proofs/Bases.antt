@@ -2,7 +2,6 @@
 use Rattle.std.proofs.Common.{◌≡◌, ◌≢◌, ℕ, zero, suc, ◌+◌, ◌-◌, ◌<◌, ◌≤◌, inl, inr, Bool, true, false, ◌||◌, ◌==◌, nat_lt, List, [], ◌∷◌, ◌++◌, length, get_or, take, reverse, All, IsTrue, unwrap_or, codes, refl, sym, ap, ◌∙◌, subst, append_assoc, length-append, lit≤, arith}
 use Rattle.std.specs.List.{list_all, list_any, slice_split, suffix_len}
 use Rattle.std.proofs.lemmas.Bool.{cases_eq, cond-true, cond-false, and_parts, or_cases, or_parts, both_ways, or_from, ne_eqb, eq-eqb, eqb-true, eqb-false, ltb-true, and_left}
-use Rattle.std.proofs.lemmas.Bool.Decides.{nat_tests}
 use Rattle.std.proofs.lemmas.Option.{slice_get_within}
 use Rattle.std.proofs.lemmas.List.{take_more, take_all, get_or-reverse}
 use Rattle.std.proofs.lemmas.List.Elements.{All-nil, All-head, All-tail, All-append, All-push, All-take, All-weaker}
@@ -19,7 +18,8 @@ use Rattle.url.proofs.HostLemmas.{none_from_list_any}
 use Rattle.url.proofs.PathLemmas.{without_last_valid, push_valid, empty_segment}
 use Rattle.url.proofs.SetLemmas.{kept_from_passes}
 use Rattle.acq_base.specs.declared.uri.Uri.{Uri}
-use Rattle.acq_base.specs.Uri.{is_alphanumeric, is_uri_character}
+use Rattle.acq_base.specs.Uri.{is_uri_character}
+use Rattle.acq_base.proofs.Uris.{alphanumeric_small}
 use Rattle.uri_names.specs.Reading.{with_one_slash}
 use Rattle.uri_names.specs.Folder.{is_slash, is_dot, is_dot_dot, resolved, joined, remove_dot_segments, below_of, is_below_character, AreBelowCharacters}
 use Rattle.uri_names.specs.Normal.{IsNormal, IsBase}
@@ -102,13 +102,10 @@ list_below (x ∷ xs) each c e =
       | inr later ↦ list_below xs parts.1 c later
     ]
 
-letter_below : (c : ℕ) → is_alphanumeric c ≡ true → c < 128
-letter_below c e = grind (arith, nat_tests)
-
 ascii : (c : ℕ) → IsTrue (is_below_character c) → c < 128
 ascii c here =
     elim (or_cases _ _ here) [
-      | inl letter ↦ letter_below c letter
+      | inl letter ↦ alphanumeric_small c letter
       | inr mark ↦ list_below (codes "._-+~:/") refl c mark
     ]
 

@@ -1,5 +1,5 @@
 -- List names tell sound URIs apart.
-use Rattle.std.proofs.Common.{◌≡◌, ℕ, ◌/◌, ◌%◌, ◌≤◌, ◌⊎◌, inl, inr, Bool, true, false, ◌||◌, ◌==◌, cond, List, [], ◌∷◌, ◌++◌, length, codes, flat_map, refl, sym, ap, ◌∙◌, subst, length-append, lit≤, arith}
+use Rattle.std.proofs.Common.{◌≡◌, ℕ, ◌/◌, ◌%◌, ◌≤◌, ◌⊎◌, inl, inr, Bool, true, false, ◌||◌, ◌==◌, cond, List, [], ◌∷◌, ◌++◌, length, codes, flat_map, refl, sym, ap, ◌∙◌, subst, length-append, arith}
 use Rattle.std.specs.List.{list_any}
 use Rattle.std.specs.Fmt.{digit_glyph}
 use Rattle.std.proofs.lemmas.Bool.{cases_Bool, cases_eq, cond-true, cond-false, both_ways, eq-eqb, ne_eqb, eqb-false}
@@ -89,13 +89,6 @@ flat_injective f first some (x ∷ xs) (y ∷ ys) e =
     let rest = flat_injective f first some xs ys parts.1 in
     (ap (λ c. c ∷ xs) parts.0) ∙ ap (λ l. y ∷ l) rest
 
-flat_long : (f : ℕ → List ℕ) → ((c : ℕ) → 1 ≤ length (f c)) → (xs : List ℕ) → length xs ≤ length (flat_map f xs)
-flat_long f some [] = lit≤ tt
-flat_long f some (x ∷ xs) = omega (arith, length-append (f x) (flat_map f xs), some x, flat_long f some xs)
-
 -- no two texts are escaped alike
 pub escaped_injective : (xs ys : List ℕ) → flat_map name_byte xs ≡ flat_map name_byte ys → xs ≡ ys
 escaped_injective = flat_injective name_byte (λ c d xs ys e. apart c d (name_byte c) (name_byte d) xs ys (kinds c) (kinds d) e) (λ c. some_out c (name_byte c) (kinds c))
-
-pub escaped_long : (xs : List ℕ) → length xs ≤ length (flat_map name_byte xs)
-escaped_long = flat_long name_byte (λ c. some_out c (name_byte c) (kinds c))

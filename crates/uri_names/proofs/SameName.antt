@@ -14,8 +14,9 @@ use Rattle.acq_base.specs.declared.uri.Uri.{Uri}
 use Rattle.acq_base.specs.declared.uri.Scheme.{Scheme}
 use Rattle.acq_base.specs.declared.uri.Scheme.TheVariants.{Http, File}
 use Rattle.acq_base.specs.Uri.{port_text, text_of_parts, uri_text, IsHostCharacter, IsHttpHost, IsAuthority, IsSound, name_byte, name_of_parts, list_name}
+use Rattle.acq_base.proofs.Uris.{length-name}
 use Rattle.uri_names.proofs.BelowSound.{IsRooted, root}
-use Rattle.uri_names.proofs.ListNames.{escaped_injective, escaped_long}
+use Rattle.uri_names.proofs.ListNames.{escaped_injective}
 
 abbrev NoSlash : ℕ → Type 0
 NoSlash c = c ≢ 47
@@ -144,8 +145,8 @@ marked uri sound = marked_parts uri.scheme uri.host uri.port uri.path (root uri.
 
 long_parts : (scheme : Scheme) (host : List ℕ) (port : ℕ) (path : List ℕ) → length (text_of_parts scheme host port path) ≤ 7 + length (name_of_parts scheme host port path)
 unfolding text_of_parts name_of_parts
-long_parts Http host port path = omega (arith, escaped_long (host ++ port_text port ++ path), length-append (codes "http://") (host ++ port_text port ++ path))
-long_parts File host port path = omega (arith, escaped_long path, length-append (codes "file://") path)
+long_parts Http host port path = omega (arith, length-name (host ++ port_text port ++ path), length-append (codes "http://") (host ++ port_text port ++ path))
+long_parts File host port path = omega (arith, length-name path, length-append (codes "file://") path)
 
 -- the text is at most seven bytes longer than the name
 pub text_short : (uri : Uri) → length (uri_text uri) ≤ 7 + length (list_name uri)

@@ -3,7 +3,7 @@ use Rattle.std.proofs.Common.{◌∙◌, ◌+◌, ◌<◌, ◌≤◌, length, dr
 use Rattle.std.specs.List.{position_or_len}
 use Rattle.std.proofs.lemmas.Bool.Decides.{nat_tests}
 use Rattle.std.proofs.lemmas.List.{drop-drop, drop_all, take_all}
-use Rattle.source_lists.proofs.Cuts.{list_any-there, list_any-nowhere}
+use Rattle.acq_base.proofs.Lists.{list_any-there, list_any-nowhere}
 use Rattle.source_lists.proofs.line.cut_at.Goals as goal
 
 pub returns-then-is_empty-clause-none : goal.returns-then-is_empty-clause-none
