@@ -208,7 +208,7 @@ runs-agree law sets config olds notes notes' b b' mirror dir parts r finished ag
 
 -- ---- a source that is ready
 
-come-open : (config : Config) (n : ℕ) (source : Source) (old : Old) (slot : Slot) (verdict : Verdict2) (history : History) → SourceStands config n source old slot verdict history → is_ready slot ≡ true
+pub come-open : (config : Config) (n : ℕ) (source : Source) (old : Old) (slot : Slot) (verdict : Verdict2) (history : History) → SourceStands config n source old slot verdict history → is_ready slot ≡ true
     → IsOpen config n source old slot history
 come-open config n source old slot verdict history (inl h) ready = h
 come-open config n source old slot verdict history (inr h) ready = let none : false ≡ true = subst (λ (s : Slot). is_ready s ≡ true) h.0 ready in absurd (cc)
@@ -253,10 +253,10 @@ record RoutesOf (dir : Directory) (parts : Parts) (config : Config) (came : List
   routes : AreRoutes dir parts config.settings.retries lists
 
 -- the lists lie beside a directory and partial files
-abbrev LiesBeside : Directory → Parts → Config → Old → ListEnd → Type 0
+abbrev pub LiesBeside : Directory → Parts → Config → Old → ListEnd → Type 0
 LiesBeside dir parts config old l = (named old.lists l.wanted.name.0 ≡ dir l.wanted.name.0) × (config.sizes l.wanted.name.0 ≡ length (parts l.wanted.name.0))
 
-lists-lie : (dir : Directory) (parts : Parts) (config : Config) (source : Source) (old : Old) → IsInstalled source old dir → ((name : List ℕ) → config.sizes name ≡ length (parts name))
+pub lists-lie : (dir : Directory) (parts : Parts) (config : Config) (source : Source) (old : Old) → IsInstalled source old dir → ((name : List ℕ) → config.sizes name ≡ length (parts name))
     → (lists : List ListEnd) → Each (λ l. name_at source l.place ≡ Some l.wanted.name) lists → Each (LiesBeside dir parts config old) lists
 lists-lie dir parts config source old installed sizes [] places = tt
 lists-lie dir parts config source old installed sizes (l ∷ lists) places =
@@ -299,7 +299,7 @@ set-of source old (Err (Older date)) verdict held is (inr e) = let both : verdic
 set-of source old (Err (Kept cause)) verdict held is (inl e) = let both : verdicts.Kept cause ≡ Installed held = sym is ∙ e in absurd (cc)
 set-of source old (Err (Kept cause)) verdict held is (inr e) = let both : verdicts.Kept cause ≡ Hit held = sym is ∙ e in absurd (cc)
 
-same-verdict : (o : Option Verdict2) (a b : Verdict2) → o ≡ Some a → o ≡ Some b → a ≡ b
+pub same-verdict : (o : Option Verdict2) (a b : Verdict2) → o ≡ Some a → o ≡ Some b → a ≡ b
 same-verdict o a b x y = let both : Some a ≡ Some b = sym x ∙ y in cc
 
 -- the outcome beside a directory

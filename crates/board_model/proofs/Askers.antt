@@ -6,6 +6,7 @@ use Rattle.std.proofs.lemmas.Bool.Decides.{nat_tests}
 use Rattle.acq_base.specs.declared.installed.Old.{Old}
 use Rattle.acq_base.specs.declared.plan.Source.{Source}
 use Rattle.host_queues.specs.Lanes.{Lanes}
+use Rattle.host_queues.proofs.Changes.{get-changed, get-other}
 use Rattle.update_model.specs.Obtained.{◌>>=◌}
 use Rattle.update_model.specs.Outcomes.{Admitted, Staying, admitted}
 use Rattle.update_model.specs.Points.{Point, Over, At}
@@ -18,7 +19,7 @@ use Rattle.board_model.specs.Slots.{Config, Standing, Slot, Asking, Listing, Ref
 use Rattle.board_model.specs.declared.key.Key.{Key}
 use Rattle.board_model.proofs.Counting.{as-other, as-self, ask-count, asks-below, asks-here, asks_among, asks_as, items-count}
 use Rattle.board_model.proofs.Numbers.{base, key-there, numbered}
-use Rattle.board_model.proofs.Places.{bound, get-changed, get-other}
+use Rattle.board_model.proofs.Places.{bound}
 
 -- ---- one number
 

@@ -2,6 +2,7 @@
 use Rattle.std.proofs.Common.{◌≡◌, ◌∙◌, ℕ, suc, ◌+◌, ◌++◌, Bool, true, false, List, [], ◌∷◌, map, length, Option, Some, None, refl, sym, ap, subst, arith}
 use Rattle.std.specs.Prelude.{◌&&◌, is_none, filter_map, option_map, slice_get, Result, Ok, Err}
 use Rattle.std.specs.List.{list_all, AllByRecursion as Each}
+use Rattle.std.proofs.lemmas.Bool.{and_parts}
 use Rattle.acq_base.specs.Mirror.{World as Mirror}
 use Rattle.acq_base.specs.Sum.{sum_of}
 use Rattle.acq_base.specs.declared.installed.Old.{Old}
@@ -55,10 +56,6 @@ asks-next law retries n path walk heard item h =
 
 -- ---- lists
 
-both : (a b : Bool) → (a && b) ≡ true → (a ≡ true) × (b ≡ true)
-both true b e = (refl, e)
-both false b e = absurd (cc)
-
 over-at : (p : Point) → is_none (asked p) ≡ true → (end : End) × (p ≡ Over end)
 over-at (Over end) e = (end, refl)
 over-at (At ask left faults next) e = absurd (cc)
@@ -88,7 +85,7 @@ lists-come law config n source old release place (target ∷ targets) (None ∷ 
     let rest = lists-come law config n source old release (suc place) targets lists history (λ k. subst (λ (p : ℕ). name_at source p ≡ option_map (λ (t : Target). t.name) (slice_get targets k)) (omega arith) (at (suc k))) h.1 ended in
     record { came = rest.came; names = rw h.0.0 rest.names; ends = rest.ends; routes = rest.routes; places = rest.places }
 lists-come law config n source old release place (target ∷ targets) (Some item ∷ lists) history at h ended =
-    let parts = both (has_ended (Some item)) (list_all has_ended lists) ended in
+    let parts = and_parts (has_ended (Some item)) (list_all has_ended lists) ended in
     let rest = lists-come law config n source old release (suc place) targets lists history (λ k. subst (λ (p : ℕ). name_at source p ≡ option_map (λ (t : Target). t.name) (slice_get targets k)) (omega arith) (at (suc k))) h.1 parts.1 in
     let sum : Sum = h.0.0 in
     let w : Wanted = want source release config.settings target sum in

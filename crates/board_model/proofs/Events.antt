@@ -10,6 +10,7 @@ use Rattle.acq_base.specs.declared.fetch.Job.{Job}
 use Rattle.acq_base.specs.declared.installed.Old.{Old}
 use Rattle.acq_base.specs.declared.plan.Source.{Source}
 use Rattle.host_queues.specs.Lanes.{changed_at}
+use Rattle.host_queues.proofs.Changes.{get-changed, get-other}
 use Rattle.update_model.specs.Points.{entry}
 use Rattle.update_model.specs.Releases.{release_text}
 use Rattle.update_model.specs.Trails.{Told}
@@ -27,7 +28,7 @@ use Rattle.board_model.specs.Slots.{Config, Slot, Asking, Closed, ask_of, item_i
 use Rattle.board_model.specs.Stands.{History, IsOpen, SourceStands, StandsAt, AllStand, history_of, of_key}
 use Rattle.board_model.specs.declared.key.Key.{Key}
 use Rattle.board_model.proofs.Hearing.{none-heard, of-same, of-other, apart-source, apart-place}
-use Rattle.board_model.proofs.Places.{get-changed, get-other, bound}
+use Rattle.board_model.proofs.Places.{bound}
 use Rattle.board_model.proofs.Sources.{with_note, heard-open}
 
 -- ---- at the beginning

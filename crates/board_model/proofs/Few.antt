@@ -1,12 +1,12 @@
 -- The log has few entries.
 use Rattle.std.proofs.Common.{◌≡◌, ◌≤◌, ◌<◌, ◌∙◌, inl, inr, ℕ, zero, suc, ◌+◌, ◌*◌, ◌^◌, nat_eq, Bool, true, false, List, [], ◌∷◌, ◌++◌, length, Option, Some, None, refl, sym, ap, subst, arith}
-use Rattle.std.specs.Prelude.{◌&&◌, bytes_eq, if◌then◌else◌, option_and_then, slice_get, Ok}
-use Rattle.std.specs.List.{list_any, AllByRecursion as Each}
+use Rattle.std.specs.Prelude.{bytes_eq, if◌then◌else◌, option_and_then, slice_get, Ok}
+use Rattle.std.specs.List.{AllByRecursion as Each}
 use Rattle.std.specs.Option.{option_map_or}
 use Rattle.std.proofs.lemmas.Bool.Decides.{nat_tests}
 use Rattle.std.proofs.lemmas.List.{length-append}
+use Rattle.std.proofs.lemmas.Bool.{and_parts}
 use Rattle.acq_base.specs.Sum.{sum_of}
-use Rattle.acq_base.specs.declared.fetch.Job.{Job}
 use Rattle.acq_base.specs.declared.installed.Old.{Old}
 use Rattle.acq_base.specs.declared.plan.Source.{Source}
 use Rattle.acq_base.specs.declared.plan.Target.{Target}
@@ -16,132 +16,32 @@ use Rattle.release_file.specs.Release.{listed_sum, release_of, same_sum}
 use Rattle.release_file.specs.declared.release.Release.{Release}
 use Rattle.update_model.specs.Files.{fitting, served}
 use Rattle.update_model.specs.Laws.{ListsAskLittle, ReleasesAskLittle, RunsStandInRoutes, SetsAreAdmissible, links_in}
-use Rattle.update_model.specs.Outcomes.{Admitted, outcome}
 use Rattle.update_model.specs.Points.{ran, start}
 use Rattle.update_model.specs.Releases.{release_text}
 use Rattle.update_model.specs.Trails.{Trail, entries}
 use Rattle.update_model.specs.Walks.{Walk, IsRoute, release_walk, target_walk}
 use Rattle.update_model.specs.Wanted.{chain, index_path, want}
-use Rattle.update_model.specs.declared.ask.Closed.{Closed as Answer_of}
 use Rattle.update_model.specs.declared.end.End.{End}
-use Rattle.update_model.specs.declared.settled.Settled.{Settled}
 use Rattle.update_model.specs.declared.settled.Verdict2.{Verdict2}
 use Rattle.update_model.specs.declared.wanted.Wanted.{Wanted}
-use Rattle.board_model.specs.Boards.{Asker, asker_of, first_ready, lane_with, settled_of, took_from}
 use Rattle.board_model.specs.CountLaws.{AsksAreFew, ChainsAreShort, ListedSizesFit, most_of, most_of_list, most_of_lists, most_of_release}
-use Rattle.board_model.specs.Jobs.{one_if}
-use Rattle.board_model.specs.Keys.{key_at, keys_from, keys_in, named, places_from, same_key}
-use Rattle.board_model.specs.Runs.{Answered, Event, Issue, Answer, Absorb, Settle, Note, World, answered, happens, noted, note_of, run, settle_as, settle_first, start as start_world, take_first, told_by, without_job}
-use Rattle.board_model.specs.Slots.{Config, Standing, Slot, Asking, Listing, Refused, Closed, joined}
-use Rattle.board_model.specs.Stands.{HasCome, HasHeard, History, IsOpen, ListStands, SourceStands, StandsAt, entries_of, history_of, of_key, tolds}
+use Rattle.board_model.specs.Keys.{keys_from, keys_in, named, places_from}
+use Rattle.board_model.specs.Runs.{Note, start as start_world}
+use Rattle.board_model.specs.Slots.{Config, Standing, Slot, Asking, Listing, Refused, Closed}
+use Rattle.board_model.specs.Stands.{HasHeard, History, IsOpen, ListStands, SourceStands, StandsAt, entries_of, history_of, of_key, tolds}
 use Rattle.board_model.specs.declared.key.Key.{Key}
-use Rattle.board_model.proofs.Askers.{asker-asks}
 use Rattle.board_model.proofs.Making.{list-at}
 use Rattle.board_model.proofs.Resting.{olds-there, reached-stands}
+use Rattle.board_model.proofs.Notes.{IsKnown, AllKnown, run-known, heard_by_keys, one-more, key-there, length-entries, read-of}
 
 -- ---- each note is of an item of the plan
 
--- a key of the plan
-abbrev IsKnown : List Source → Note → Type 0
-IsKnown sources note = (number : ℕ) × (key_at sources number ≡ Some note.key)
-
-record AllKnown (config : Config) (w : World) : Type 0 where
-  config_is : w.board.config ≡ config
-  known : Each (IsKnown config.sources) w.notes
-
-each-append : (P : Note → Type 0) (notes : List Note) (note : Note) → Each P notes → P note → Each P (notes ++ note ∷ [])
-each-append P [] note h new = (new, tt)
-each-append P (n ∷ notes) note h new = (h.0, each-append P notes note h.1 new)
-
-each-nil : (P : Note → Type 0) (notes : List Note) → Each P notes → Each P (notes ++ [])
-each-nil P [] h = tt
-each-nil P (n ∷ notes) h = (h.0, each-nil P notes h.1)
-
-take-known : (config : Config) (w : World) (queue : List Answered) → AllKnown config w → AllKnown config (take_first w queue)
-take-known config w [] h = h
-take-known config w (x ∷ queue) h = one (lane_with w.board.out x.job.no) (asker_of w.board x.job.no) refl
-  where
-    same-config : (from : Option ℕ) (asker : Option Asker) → (took_from w.board x.job.no (told_by x) from asker).config ≡ config
-    same-config None asker = h.config_is
-    same-config (Some from) None = h.config_is
-    same-config (Some from) (Some a) = h.config_is
-
-    one : (from : Option ℕ) (asker : Option Asker) → asker_of w.board x.job.no ≡ asker
-        → AllKnown config (record { board = took_from w.board x.job.no (told_by x) from asker; jobs = without_job from asker w.jobs; queue = queue; notes = w.notes ++ noted (told_by x) from asker })
-    one None asker is = record { config_is = same-config None asker; known = each-nil (IsKnown config.sources) w.notes h.known }
-    one (Some from) None is = record { config_is = same-config (Some from) None; known = each-nil (IsKnown config.sources) w.notes h.known }
-    one (Some from) (Some a) is = record {
-      config_is = same-config (Some from) (Some a);
-      known = each-append (IsKnown config.sources) w.notes (note_of a (told_by x)) h.known
-          (x.job.no, ap (λ (c : Config). key_at c.sources x.job.no) (sym h.config_is) ∙ (asker-asks w.board x.job.no a is).key_is);
-    }
-
-settle-known : (config : Config) (w : World) → AllKnown config w → AllKnown config (happens w Settle)
-settle-known config w h = one (first_ready w.board.slots)
-  where
-    two : (n : ℕ) (settled : Option Settled) → AllKnown config (settle_as w n settled)
-    two n None = h
-    two n (Some settled) = record { config_is = h.config_is; known = h.known }
-
-    one : (first : Option ℕ) → AllKnown config (settle_first w first)
-    one None = h
-    one (Some n) = two n (settled_of w.board n)
-
-answered-known : (config : Config) (w : World) (method : ℕ) (closed : Answer_of) (job : Option Job) → AllKnown config w → AllKnown config (answered w method closed job)
-answered-known config w method closed None h = h
-answered-known config w method closed (Some job) h = one (list_any (λ (a : Answered). nat_eq a.job.no job.no) w.queue)
-  where
-    one : (c : Bool) → AllKnown config (if c then w else record w { queue = w.queue ++ (record { job = job; lane = method; closed = closed }) ∷ [] })
-    one true = h
-    one false = record { config_is = h.config_is; known = h.known }
-
-event-known : (config : Config) (w : World) (event : Event) → AllKnown config w → AllKnown config (happens w event)
-event-known config w (Issue lane) h = record { config_is = h.config_is; known = h.known }
-event-known config w (Answer lane method closed) h = answered-known config w method closed (joined (slice_get w.jobs lane)) h
-event-known config w Absorb h = take-known config w w.queue h
-event-known config w Settle h = settle-known config w h
-
-run-known : (config : Config) (events : List Event) (w : World) → AllKnown config w → AllKnown config (run events w)
-run-known config [] w h = h
-run-known config (event ∷ events) w h = run-known config events (happens w event) (event-known config w event h)
-
 -- ---- as many notes as the items have
-
-heard_by_keys : List Key → List Note → ℕ
-heard_by_keys [] notes = 0
-heard_by_keys (key ∷ keys) notes = length (of_key key notes) + heard_by_keys keys notes
-
-times_key : Key → List Key → ℕ
-times_key key [] = 0
-times_key key (k ∷ keys) = one_if (same_key key k) + times_key key keys
 
 none-heard : (keys : List Key) → heard_by_keys keys [] ≡ 0
 unfolding heard_by_keys
 none-heard [] = refl
 none-heard (key ∷ keys) = let rest = none-heard keys in omega (arith, rest)
-
-one-more : (keys : List Key) (note : Note) (notes : List Note) → heard_by_keys keys (note ∷ notes) ≡ times_key note.key keys + heard_by_keys keys notes
-unfolding heard_by_keys times_key
-one-more [] note notes = omega arith
-one-more (key ∷ keys) note notes =
-    let rest = one-more keys note notes in
-    let here : length (of_key key (note ∷ notes)) ≡ one_if (same_key note.key key) + length (of_key key notes) = one (same_key note.key key) in
-    omega (arith, rest, here)
-  where
-    one : (c : Bool) → length (if c then note ∷ of_key key notes else of_key key notes) ≡ one_if c + length (of_key key notes)
-    one true = omega arith
-    one false = omega arith
-
-key-there : (keys : List Key) (number : ℕ) (key : Key) → slice_get keys number ≡ Some key → 1 ≤ times_key key keys
-unfolding times_key
-key-there [] number key e = absurd (cc)
-key-there (k ∷ keys) zero key e =
-    let same : k ≡ key = cc in
-    let itself : same_key key key ≡ true = grind (arith, nat_tests) in
-    let own : one_if (same_key key key) ≡ 1 = ap one_if itself in
-    let here : one_if (same_key key k) ≡ 1 = ap (λ (x : Key). one_if (same_key key x)) same ∙ own in
-    omega (arith, here)
-key-there (k ∷ keys) (suc number) key e = let rest = key-there keys number key e in omega (arith, rest)
 
 all-heard : (sources : List Source) (notes : List Note) → Each (IsKnown sources) notes → length notes ≤ heard_by_keys (keys_from 0 sources) notes
 all-heard sources [] h = omega arith
@@ -154,10 +54,6 @@ all-heard sources (note ∷ notes) h =
 
 -- ---- one item
 
-length-entries : (notes : List Note) → length (entries_of notes) ≡ length notes
-length-entries [] = refl
-length-entries (note ∷ notes) = ap suc (length-entries notes)
-
 -- what was heard is the front of a route
 heard-few : (retries n : ℕ) (path : List ℕ) (walk : Walk) (heard : List Note) (most : ℕ) → RunsStandInRoutes → entries_of heard ≡ ran retries n path (start retries walk) (tolds heard)
     → ((trails : List Trail) (end : End) → IsRoute retries walk trails end → length (entries n path trails) ≤ most) → length heard ≤ most
@@ -168,10 +64,6 @@ heard-few retries n path walk heard most law logged few =
     ap length found.4 ∙ length-append (ran retries n path (start retries walk) (tolds heard)) found.2 in
     let own : length heard ≡ length (ran retries n path (start retries walk) (tolds heard)) = sym (length-entries heard) ∙ ap length logged in
     omega (arith, bound, whole, own)
-
-both : (a b : Bool) → (a && b) ≡ true → (a ≡ true) × (b ≡ true)
-both true b e = (refl, e)
-both false b e = absurd (cc)
 
 -- an Index that is listed leads by few patches
 few-links : ChainsAreShort → (installed : Option (List ℕ)) (w : Wanted) (trails : List Trail) → ((sum : Sum) → w.index ≡ Some sum → sum.size < 2 ^ 64) → links_in installed w trails ≤ 2 ^ 64
@@ -190,7 +82,7 @@ few-links short (Some file) w (t ∷ trails) fits = one w.index refl
         two : (c : Bool) → same_sum (sum_of bytes) sum ≡ c → option_map_or length (option_and_then (chain w file) (if c then Some bytes else None)) 0 ≤ 2 ^ 64
         two false is = omega arith
         two true is =
-            let size : nat_eq (length bytes) sum.size ≡ true = (both (nat_eq (length bytes) sum.size) (bytes_eq (sum_of bytes).sha.0 sum.sha.0) is).0 in
+            let size : nat_eq (length bytes) sum.size ≡ true = (and_parts (nat_eq (length bytes) sum.size) (bytes_eq (sum_of bytes).sha.0 sum.sha.0) is).0 in
             let same : length bytes ≡ sum.size = grind (arith, nat_tests, size) in
             three (chain w file bytes) refl (subst (λ (k : ℕ). k < 2 ^ 64) (sym same) small)
 
@@ -225,11 +117,6 @@ none-few notes most none = let zero_is : length notes ≡ 0 = ap length none in 
 mul-mono : (c a b : ℕ) → a ≤ b → c * a ≤ c * b
 mul-mono zero a b h = omega arith
 mul-mono (suc c) a b h = let rest = mul-mono c a b h in grind (arith, rest, h)
-
-read-of : SetsAreAdmissible → (config : Config) (n : ℕ) (source : Source) (old : Old) (heard : List Note) (set : Admitted) → HasCome config n source old heard (Ok set) → release_of set.bytes ≡ Ok set.release
-read-of law config n source old heard set h =
-    let made : outcome h.end [] old.release config.settings config.change config.now ≡ Ok set = rw h.came_to refl in
-    ((law h.end [] old.release config.settings config.change config.now set).0 made).1
 
 index-fits : ListedSizesFit → (source : Source) (release : Release) (target : Target) (bytes : List ℕ) → release_of bytes ≡ Ok release → (sum : Sum)
     → (if source.pdiffs then listed_sum release (index_path target.path) else None) ≡ Some sum → sum.size < 2 ^ 64

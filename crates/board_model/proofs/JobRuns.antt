@@ -5,6 +5,7 @@ use Rattle.std.proofs.lemmas.Bool.{cases_Bool}
 use Rattle.std.proofs.lemmas.Bool.Decides.{nat_tests}
 use Rattle.host_queues.specs.Lanes.{Queue, Lanes, changed_at, first, first_of, freed, freed_at, lane_of, sent, taken_from, with_last, without_first}
 use Rattle.host_queues.specs.Laws.{HostsKeepLanes, Done, Next}
+use Rattle.host_queues.proofs.Changes.{get-changed, get-other}
 use Rattle.uri_names.specs.Names.{host_key_of}
 use Rattle.update_model.specs.Trails.{Told}
 use Rattle.update_model.specs.declared.ask.Ask.{Ask}
@@ -14,7 +15,6 @@ use Rattle.board_model.specs.Slots.{Slot, Standing, ask_of, item_in, items_in}
 use Rattle.board_model.proofs.Askers.{Asks, IsAsBefore, IsOfSource, added, after-answer, asker-asks, heard-count, put-added, slot_after}
 use Rattle.board_model.proofs.Counting.{freed-count, items-length, ask-length, length-changed, out-cleared, out-put, out-there, taken-count, waits-there}
 use Rattle.board_model.proofs.Lanes.{IsPutFor, WaitsIn, heard-keeps, heard-waits}
-use Rattle.board_model.proofs.Places.{get-changed, get-other}
 
 -- each item that asks waits or is out, once, in the lane of its host
 pub record LanesStand (b : Board) : Type 0 where

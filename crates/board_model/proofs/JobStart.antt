@@ -1,14 +1,15 @@
 -- The jobs of a new board stand, and settling leaves them.
 use Rattle.std.proofs.Common.{◌≡◌, ◌≤◌, ◌<◌, ◌∙◌, ◌⊎◌, inl, inr, ℕ, zero, suc, ◌+◌, ◌-◌, nat_eq, nat_lt, Bool, true, false, List, [], ◌∷◌, length, map, Option, Some, None, refl, sym, ap, subst, arith}
-use Rattle.std.specs.Prelude.{◌&&◌, is_none, is_some, option_map, option_and_then, replicate, slice_get}
+use Rattle.std.specs.Prelude.{is_none, is_some, option_map, option_and_then, replicate, slice_get}
 use Rattle.std.specs.List.{list_all}
-use Rattle.std.proofs.lemmas.Bool.{cases_Bool}
+use Rattle.std.proofs.lemmas.Bool.{cases_Bool, and_parts}
 use Rattle.std.proofs.lemmas.Bool.Decides.{nat_tests}
 use Rattle.std.proofs.Math.ListN.{length-replicate}
 use Rattle.acq_base.specs.declared.installed.Old.{Old}
 use Rattle.acq_base.specs.declared.plan.Source.{Source}
 use Rattle.host_queues.specs.Lanes.{Queue, Lanes, changed_at, empty_queue, lane_of, no_hosts}
 use Rattle.host_queues.specs.Laws.{HostsKeepLanes}
+use Rattle.host_queues.proofs.Changes.{get-changed, get-other}
 use Rattle.uri_names.specs.Names.{host_key_of}
 use Rattle.update_model.specs.Releases.{in_release_uri, release_limit}
 use Rattle.update_model.specs.Walks.{whole_ask}
@@ -25,7 +26,6 @@ use Rattle.board_model.proofs.Events.{first-slot, ready-slot}
 use Rattle.board_model.proofs.JobRuns.{LanesStand, ask-flags, flags}
 use Rattle.board_model.proofs.Lanes.{WaitsIn, ask-keeps, ask-waits}
 use Rattle.board_model.proofs.Numbers.{base, get-behind, get-front, key-in, key-there, length-places, numbered}
-use Rattle.board_model.proofs.Places.{get-changed, get-other}
 
 -- ---- which Releases are put
 
@@ -246,18 +246,14 @@ first-stands kept config olds lanes each some = record {
 
 -- ---- a source is settled
 
-and-both : (a b : Bool) → (a && b) ≡ true → (a ≡ true) × (b ≡ true)
-and-both true b e = (refl, e)
-and-both false b e = absurd (cc)
-
 ended-none : (o : Option Ask) → is_none o ≡ true → o ≡ None
 ended-none None e = refl
 ended-none (Some ask) e = absurd (cc)
 
 all-ended : (lists : List (Option Standing)) (p : ℕ) → list_all has_ended lists ≡ true → ask_of (joined (slice_get lists p)) ≡ None
 all-ended [] p e = refl
-all-ended (list ∷ lists) zero e = ended-none (ask_of list) (and-both (has_ended list) (list_all has_ended lists) e).0
-all-ended (list ∷ lists) (suc p) e = all-ended lists p (and-both (has_ended list) (list_all has_ended lists) e).1
+all-ended (list ∷ lists) zero e = ended-none (ask_of list) (and_parts (has_ended list) (list_all has_ended lists) e).0
+all-ended (list ∷ lists) (suc p) e = all-ended lists p (and_parts (has_ended list) (list_all has_ended lists) e).1
 
 -- no item of a source that is ready asks
 pub ready-asks : (slot : Slot) (place : ℕ) → is_ready slot ≡ true → ask_of (item_in slot place) ≡ None

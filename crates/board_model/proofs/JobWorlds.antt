@@ -8,6 +8,7 @@ use Rattle.acq_base.specs.declared.fetch.Job.{Job}
 use Rattle.acq_base.specs.declared.installed.Old.{Old}
 use Rattle.host_queues.specs.Lanes.{changed_at, first_of}
 use Rattle.host_queues.specs.Laws.{HostsKeepLanes}
+use Rattle.host_queues.proofs.Changes.{get-changed}
 use Rattle.update_model.specs.declared.ask.Closed.{Closed}
 use Rattle.update_model.specs.declared.settled.Settled.{Settled}
 use Rattle.board_model.specs.Boards.{Asker, Board, asker_of, first_ready, is_out, issued, issued_job, job_for, lane_with, put_out, settled_as, settled_of, took, took_from}
@@ -19,7 +20,6 @@ use Rattle.board_model.proofs.Counting.{out-cleared, out-lane, out-put, out-ther
 use Rattle.board_model.proofs.JobRuns.{LanesStand, first-asks, free-lane, issued-stands, out-alone, took-same, took-stands}
 use Rattle.board_model.proofs.JobStart.{first-stands, settled-asks, settled-stands}
 use Rattle.board_model.proofs.Askers.{asker-asks}
-use Rattle.board_model.proofs.Places.{get-changed}
 use Rattle.board_model.proofs.Reaching.{AreNumbers, event-numbers, lane-out, numbers-changed, numbers_of, start-numbers}
 
 -- what is out, and what was answered, is what its item asks

@@ -1,29 +1,24 @@
 -- In which lane a number waits.
-use Rattle.std.proofs.Common.{◌≡◌, ◌≤◌, ◌∙◌, ◌⊎◌, inl, inr, ℕ, zero, suc, ◌+◌, ◌%◌, nat_eq, true, List, [], ◌∷◌, length, Option, Some, None, refl, sym, ap, arith}
-use Rattle.std.specs.Prelude.{bytes_eq, option_map, slice_get}
+use Rattle.std.proofs.Common.{◌≡◌, ◌≤◌, ◌∙◌, ◌⊎◌, inl, inr, ℕ, zero, suc, ◌+◌, ◌%◌, nat_eq, List, [], ◌∷◌, length, Option, Some, None, refl, sym, ap, arith}
+use Rattle.std.specs.Prelude.{option_map, slice_get}
 use Rattle.std.proofs.lemmas.Bool.{cases_Bool}
 use Rattle.std.proofs.lemmas.Bool.Decides.{nat_tests}
-use Rattle.std.proofs.lemmas.Slice.Eq.{bytes_eq-Decides}
 use Rattle.host_queues.specs.Lanes.{Queue, Lanes, changed_at, lane_of, place_for, put_for, with_last}
 use Rattle.host_queues.specs.Laws.{HostsKeepLanes, Put}
+use Rattle.host_queues.proofs.Changes.{get-changed, get-other}
+use Rattle.host_queues.proofs.Orders.{lane-put}
 use Rattle.uri_names.specs.Names.{host_key_of}
 use Rattle.update_model.specs.declared.ask.Ask.{Ask}
 use Rattle.board_model.specs.Boards.{put_ask, put_heard, put_items}
 use Rattle.board_model.specs.Jobs.{one_if, times_in}
 use Rattle.board_model.specs.Slots.{Slot, Standing, ask_of, item_in, items_in, joined}
-use Rattle.board_model.proofs.Counting.{in-last, length-changed}
-use Rattle.board_model.proofs.Places.{get-changed, get-other}
+use Rattle.board_model.proofs.Counting.{in-last}
 
 -- a number waits in a lane
 abbrev pub WaitsIn : Lanes → ℕ → ℕ → Type 0
 WaitsIn lanes number lane = (queue : Queue) × (slice_get lanes.queues lane ≡ Some queue) × (1 ≤ times_in number queue.waiting)
 
 -- ---- one number is put
-
-lane-put : (lanes : Lanes) (host : List ℕ) (number : ℕ) → lane_of (put_for host number lanes) host ≡ Some (place_for lanes host % length lanes.queues)
-lane-put lanes host number =
-    let own : bytes_eq host host ≡ true = (bytes_eq-Decides host host).1 refl in
-    rw own (ap (λ (n : ℕ). Some (place_for lanes host % n)) (length-changed (with_last number) (place_for lanes host % length lanes.queues) lanes.queues))
 
 queue-there : (o : Option Queue) (f : Queue → Queue) (queue : Queue) → option_map f o ≡ Some queue → (q : Queue) × (o ≡ Some q) × (f q ≡ queue)
 queue-there None f queue e = absurd (cc)

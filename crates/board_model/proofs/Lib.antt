@@ -20,5 +20,6 @@ pub mod Making
 pub mod Touching
 pub mod Agreement
 pub mod Naming
+pub mod Notes
 pub mod Few
 pub mod Showing

@@ -1,8 +1,8 @@
 -- What the changes of a settled source leave under its names.
-use Rattle.std.proofs.Common.{◌≡◌, ◌≢◌, ◌<◌, ◌∙◌, ◌⊎◌, inl, inr, ℕ, zero, suc, ◌+◌, nat_lt, Bool, true, false, List, [], ◌∷◌, ◌++◌, Contains, AllPairs, length, map, Option, Some, None, refl, sym, ap, subst, arith}
-use Rattle.std.specs.Prelude.{◌&&◌, is_none, option_map, slice_get, Result, Ok, Err}
+use Rattle.std.proofs.Common.{◌≡◌, ◌≢◌, ◌<◌, ◌∙◌, inl, inr, ℕ, zero, suc, ◌+◌, nat_lt, Bool, true, false, List, [], ◌∷◌, ◌++◌, Contains, AllPairs, length, map, Option, Some, None, refl, sym, ap, subst, arith}
+use Rattle.std.specs.Prelude.{is_none, option_map, slice_get, Result, Ok, Err}
 use Rattle.std.specs.List.{list_all, slice_index_or, cons_option, AllByRecursion as Each}
-use Rattle.std.proofs.lemmas.Bool.{cases_Bool}
+use Rattle.std.proofs.lemmas.Bool.{cases_Bool, and_parts}
 use Rattle.std.proofs.lemmas.Bool.Decides.{nat_tests}
 use Rattle.std.proofs.lemmas.List.Elements.{Contains-append_cases}
 use Rattle.acq_base.specs.Plan.{IsPlanned, names_of}
@@ -12,6 +12,7 @@ use Rattle.acq_base.specs.declared.plan.Source.{Source}
 use Rattle.acq_base.specs.declared.plan.Target.{Target}
 use Rattle.acq_base.specs.declared.sum.Sum.{Sum}
 use Rattle.acq_base.specs.declared.uri.ListName.{ListName}
+use Rattle.acq_base.proofs.Lists.{first-or-rest}
 use Rattle.item_graph.specs.Items.{asked}
 use Rattle.item_graph.specs.Laws.{IsToldRoute, PointsEndInRoutes}
 use Rattle.release_file.specs.Release.{listed_sum}
@@ -95,20 +96,16 @@ list-at config n source old release place (t ∷ targets) (list ∷ lists) histo
     let here : suc place + k ≡ place + suc k = omega arith in
     (rest.0, rest.1, subst (λ (p : ℕ). ListStands config n source old release target (history p) rest.0) here rest.2)
 
-and-both : (a b : Bool) → (a && b) ≡ true → (a ≡ true) × (b ≡ true)
-and-both true b e = (refl, e)
-and-both false b e = absurd (cc)
-
 ended-at : (lists : List (Option Standing)) (k : ℕ) (item : Standing) → list_all has_ended lists ≡ true → slice_get lists k ≡ Some (Some item) → (end : End) × (item.point ≡ Over end)
 ended-at [] k item h e = absurd (cc)
 ended-at (list ∷ lists) zero item h e =
     let same : list ≡ Some item = cc in
-    over item.point (ap has_ended (sym same) ∙ (and-both (has_ended list) (list_all has_ended lists) h).0)
+    over item.point (ap has_ended (sym same) ∙ (and_parts (has_ended list) (list_all has_ended lists) h).0)
   where
     over : (p : Point) → is_none (asked p) ≡ true → (end : End) × (p ≡ Over end)
     over (Over end) e = (end, refl)
     over (At ask left faults next) e = absurd (cc)
-ended-at (list ∷ lists) (suc k) item h e = ended-at lists k item (and-both (has_ended list) (list_all has_ended lists) h).1 e
+ended-at (list ∷ lists) (suc k) item h e = ended-at lists k item (and_parts (has_ended list) (list_all has_ended lists) h).1 e
 
 end-at : (item : Standing) (end : End) → item.point ≡ Over end → end_in (Some item) ≡ Some end
 end-at item end is = ap end_of is
@@ -179,13 +176,6 @@ pub record IsDropOf (release : Release) (targets : List Target) (name : List ℕ
   pub there : slice_get targets k ≡ Some target
   pub none : listed_sum release target.path ≡ None
   pub named_so : target.name.0 ≡ name
-
-pub first-or-rest : {X : Type 0} (y : X) (xs : List X) (x : X) → Contains (y ∷ xs) x → (y ≡ x) ⊎ Contains xs x
-first-or-rest {X} y xs x c = at c.0 c.1 c.2
-  where
-    at : (k : ℕ) → k < length (y ∷ xs) → slice_index_or (y ∷ xs) k x ≡ x → (y ≡ x) ⊎ Contains xs x
-    at zero below is = inl is
-    at (suc k) below is = inr (k, omega (arith, below), is)
 
 pub none-in : {X : Type 0} (x : X) → Contains [] x → ⊥
 none-in x c = omega (arith, c.1)

@@ -8,6 +8,7 @@ use Rattle.acq_base.specs.declared.plan.Source.{Source}
 use Rattle.acq_base.specs.declared.plan.Target.{Target}
 use Rattle.acq_base.specs.declared.uri.ListName.{ListName}
 use Rattle.host_queues.specs.Lanes.{changed_at}
+use Rattle.host_queues.proofs.Changes.{get-changed}
 use Rattle.item_graph.specs.Items.{asked}
 use Rattle.update_model.specs.Outcomes.{Admitted, Staying, all_had}
 use Rattle.update_model.specs.Points.{Point, Over, At}
@@ -17,6 +18,8 @@ use Rattle.update_model.specs.declared.ask.Body.TheVariants.{Bytes, Staged}
 use Rattle.update_model.specs.declared.end.End.{End}
 use Rattle.update_model.specs.declared.end.End.TheVariants.{Got, Stands, Ended}
 use Rattle.update_model.specs.declared.settled.Settled.{Settled}
+use Rattle.update_model.proofs.Carried.{behind-distinct}
+use Rattle.update_model.proofs.Existence.{front-distinct}
 use Rattle.board_model.specs.Keys.{name_at}
 use Rattle.board_model.specs.NameLaws.{RestsOn, SettledPutsRest, SettledSourcesFree, StagedAsksRest}
 use Rattle.board_model.specs.Settling.{end_in, end_of, ends_in, put_of, puts_of, settled_in, settled_lists}
@@ -24,7 +27,7 @@ use Rattle.board_model.specs.Slots.{Standing, Slot, Asking, Listing, Refused, Cl
 use Rattle.board_model.specs.Uses.{PartUse, Whole, or_use, rests, use_among, use_at, use_by, use_from, use_in, use_under, use_while}
 use Rattle.board_model.proofs.Askers.{Asks, asker-asks}
 use Rattle.board_model.proofs.Making.{get-name}
-use Rattle.board_model.proofs.Places.{bound, get-changed}
+use Rattle.board_model.proofs.Places.{bound}
 
 -- ---- names apart
 
@@ -42,17 +45,6 @@ at-back (x ∷ xs) ys j d =
 both-length : (xs ys : List (List ℕ)) → length (xs ++ ys) ≡ length xs + length ys
 both-length [] ys = omega arith
 both-length (x ∷ xs) ys = let rest = both-length xs ys in omega (arith, rest)
-
-apart-back : (xs ys : List (List ℕ)) → AllPairs (λ a b. a ≢ b) (xs ++ ys) → AllPairs (λ a b. a ≢ b) ys
-apart-back xs ys h i j d less below same =
-    let many = both-length xs ys in
-    h (length xs + i) (length xs + j) d (omega (arith, less)) (omega (arith, many, below)) (at-back xs ys i d ∙ same ∙ sym (at-back xs ys j d))
-
-apart-front : (xs ys : List (List ℕ)) → AllPairs (λ a b. a ≢ b) (xs ++ ys) → AllPairs (λ a b. a ≢ b) xs
-apart-front xs ys h i j d less below same =
-    let many = both-length xs ys in
-    let first : i < length xs = omega (arith, less, below) in
-    h i j d less (omega (arith, many, below)) (at-front xs ys i d first ∙ same ∙ sym (at-front xs ys j d below))
 
 apart-across : (xs ys : List (List ℕ)) (i j : ℕ) (d : List ℕ) → AllPairs (λ a b. a ≢ b) (xs ++ ys) → i < length xs → j < length ys → slice_index_or xs i d ≢ slice_index_or ys j d
 apart-across xs ys i j d h below there same =
@@ -96,7 +88,7 @@ among-at sizes slot place (t ∷ targets) name zero target apart there is =
     let found : bytes_eq t.name.0 name ≡ true = (bytes_eq-Decides t.name.0 name).1 (ap (λ (x : Target). x.name.0) same ∙ is) in
     rw found (ap (λ (p : ℕ). Some (use_in (sizes name) p slot)) (omega arith))
 among-at sizes slot place (t ∷ targets) name (suc k) target apart there is =
-    one (bytes_eq t.name.0 name) refl (among-at sizes slot (suc place) targets name k target (apart-back (t.name.0 ∷ []) (map (λ (x : Target). x.name.0) targets) apart) there is)
+    one (bytes_eq t.name.0 name) refl (among-at sizes slot (suc place) targets name k target (behind-distinct (t.name.0 ∷ []) (map (λ (x : Target). x.name.0) targets) apart) there is)
   where
     one : (c : Bool) → bytes_eq t.name.0 name ≡ c → use_among sizes slot (suc place) targets name ≡ Some (use_in (sizes name) (suc place + k) slot)
         → (if c then Some (use_in (sizes name) place slot) else use_among sizes slot (suc place) targets name) ≡ Some (use_in (sizes name) (place + suc k) slot)
@@ -116,9 +108,9 @@ under-at sizes (x ∷ sources) [] name n k source slot target apart s l t is = a
 under-at sizes (x ∷ sources) (y ∷ slots) name zero k source slot target apart s l t is =
     let source_same : x ≡ source = cc in
     let slot_same : y ≡ slot = cc in
-    let own : AllPairs (λ a b. a ≢ b) (names_of x) = apart-front (names_of x) (flat_map names_of sources) apart in
+    let own : AllPairs (λ a b. a ≢ b) (names_of x) = front-distinct (names_of x) (flat_map names_of sources) apart in
     let there : slice_get x.targets k ≡ Some target = subst (λ (z : Source). slice_get z.targets k ≡ Some target) (sym source_same) t in
-    let found = among-at sizes y 0 x.targets name k target (apart-back (x.release_name.0 ∷ []) (map (λ (z : Target). z.name.0) x.targets) own) there is in
+    let found = among-at sizes y 0 x.targets name k target (behind-distinct (x.release_name.0 ∷ []) (map (λ (z : Target). z.name.0) x.targets) own) there is in
     ap (λ (o : Option PartUse). or_use o (use_under sizes sources slots name)) found
     ∙ ap (λ (p : ℕ). use_in (sizes name) p y) (omega arith) ∙ ap (use_in (sizes name) k) slot_same
 under-at sizes (x ∷ sources) (y ∷ slots) name (suc n) k source slot target apart s l t is =
@@ -128,7 +120,7 @@ under-at sizes (x ∷ sources) (y ∷ slots) name (suc n) k source slot target a
     let fits = at.0 in
     apart-across (names_of x) (flat_map names_of sources) (suc i) among.0 [] apart (omega (arith, fits)) among.1 (at.1 ∙ same ∙ sym is ∙ sym among.2)) in
     ap (λ (o : Option PartUse). or_use o (use_under sizes sources slots name)) none
-    ∙ under-at sizes sources slots name n k source slot target (apart-back (names_of x) (flat_map names_of sources) apart) s l t is
+    ∙ under-at sizes sources slots name n k source slot target (behind-distinct (names_of x) (flat_map names_of sources) apart) s l t is
 
 -- ---- what a staged ask goes on behind
 

@@ -9,6 +9,7 @@ use Rattle.acq_base.specs.declared.fetch.Job.{Job}
 use Rattle.acq_base.specs.declared.installed.Old.{Old}
 use Rattle.acq_base.specs.declared.plan.Source.{Source}
 use Rattle.host_queues.specs.Lanes.{changed_at}
+use Rattle.host_queues.proofs.Changes.{get-changed, get-other}
 use Rattle.update_model.specs.Outcomes.{Admitted, Staying, admitted}
 use Rattle.update_model.specs.Points.{Point, Over, At}
 use Rattle.update_model.specs.Trails.{Told}
@@ -20,7 +21,6 @@ use Rattle.board_model.specs.CallLaws.{AreOnce, SourcesAreSettledOnce}
 use Rattle.board_model.specs.Runs.{Answered, Event, Issue, Answer, Absorb, Settle, World, answered, happens, run, settle_as, settle_first, start, take_first, told_by}
 use Rattle.board_model.specs.Slots.{Config, Standing, Slot, Asking, Listing, Refused, Closed, after_release, ask_of, heard_at, is_ready, joined, listed, stepped}
 use Rattle.board_model.proofs.Events.{ready-slot}
-use Rattle.board_model.proofs.Places.{get-changed, get-other}
 
 -- a Release that is asked for asks
 abbrev pub KeepsAsking : Slot → Type 0

@@ -9,6 +9,7 @@ use Rattle.acq_base.specs.declared.plan.Source.{Source}
 use Rattle.acq_base.specs.declared.plan.Target.{Target}
 use Rattle.acq_base.specs.declared.sum.Sum.{Sum}
 use Rattle.acq_base.specs.declared.uri.ListName.{ListName}
+use Rattle.acq_base.proofs.Lists.{first-or-rest}
 use Rattle.release_file.specs.Release.{listed_sum}
 use Rattle.release_file.specs.declared.release.Release.{Release}
 use Rattle.update_model.specs.Outcomes.{Admitted, Staying, all_had}
@@ -22,7 +23,7 @@ use Rattle.board_model.specs.SetLaws.{TouchedAreApart, TouchedAreOwn}
 use Rattle.board_model.specs.Settling.{drop_of, drops_of, end_in, ends_in, put_of, puts_of, set_there, settled_in, settled_lists, staying_verdict, unchanged}
 use Rattle.board_model.specs.Slots.{Config, Standing, Slot, Asking, Listing, Refused, Closed}
 use Rattle.board_model.specs.Stands.{History, IsOpen, ListStands, ListsStand}
-use Rattle.board_model.proofs.Making.{IsDropOf, IsPutOf, drop-of, first-or-rest, get-name, list-at, none-in, not-release, put-of, same-place}
+use Rattle.board_model.proofs.Making.{IsDropOf, IsPutOf, drop-of, get-name, list-at, none-in, not-release, put-of, same-place}
 
 -- ---- the touched names
 

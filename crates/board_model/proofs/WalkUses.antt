@@ -1,7 +1,8 @@
 -- In which order the asks for a list use its partial file.
 use Rattle.std.proofs.Common.{◌≡◌, ◌∙◌, ◌⊎◌, inl, inr, ℕ, zero, suc, nat_lt, Bool, true, false, List, [], ◌∷◌, Option, Some, None, refl, ap, arith, codes}
-use Rattle.std.specs.Prelude.{◌&&◌, if◌then◌else◌, option_and_then}
+use Rattle.std.specs.Prelude.{if◌then◌else◌, option_and_then}
 use Rattle.std.proofs.lemmas.Bool.Decides.{nat_tests}
+use Rattle.std.proofs.lemmas.Bool.{and_parts}
 use Rattle.acq_base.specs.declared.plan.Source.{Source}
 use Rattle.acq_base.specs.declared.sum.Sum.{Sum}
 use Rattle.acq_base.specs.declared.uri.Uri.{Uri}
@@ -69,10 +70,6 @@ candidates-last : (e : Ending) (w : Wanted) (o : Option Uri) → IsLastFile e (c
 candidates-last e w None = tt
 candidates-last e w (Some uri) = tt
 
-both : (a b : Bool) → (a && b) ≡ true → (a ≡ true) × (b ≡ true)
-both true b e = (refl, e)
-both false b e = absurd (cc)
-
 resume-uses : (part : ℕ) (w : Wanted) (e : Ending) → IsLastFile e (resume_walk w part) × UsesWell part (use_from part) (resume_walk w part)
 resume-uses part w e = one (is_resumed part w) refl
   where
@@ -81,7 +78,7 @@ resume-uses part w e = one (is_resumed part w) refl
         × UsesWell part (use_from part) (if c then Try (list_ask (first_uri w w.hashed) w part) (λ e. got_else w e (candidates_walk w w.hashed)) else candidates_walk w w.hashed)
     one false is = (candidates-last e w w.hashed, candidates-use part (use_from part) w w.hashed)
     one true is =
-        let fits = (both (nat_lt 0 part) (nat_lt part w.sum.size) is).1 in (
+        let fits = (and_parts (nat_lt 0 part) (nat_lt part w.sum.size) is).1 in (
           tt,
           (
             record { falls = inl refl; below = inr (grind (arith, nat_tests, fits)); staged = λ e. absurd (cc) },

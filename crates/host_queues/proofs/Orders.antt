@@ -21,7 +21,7 @@ handed-first false [] = refl
 handed-first false (number ∷ more) = refl
 
 -- the lane of a host is the one into which its number was put
-lane-put : (lanes : Lanes) (host : List ℕ) (number : ℕ) → lane_of (put_for host number lanes) host ≡ Some (place_for lanes host % length lanes.queues)
+pub lane-put : (lanes : Lanes) (host : List ℕ) (number : ℕ) → lane_of (put_for host number lanes) host ≡ Some (place_for lanes host % length lanes.queues)
 lane-put lanes host number =
     let own : bytes_eq host host ≡ true = (bytes_eq-Decides host host).1 refl in
     rw own (ap (λ (n : ℕ). Some (place_for lanes host % n)) (length-changed (with_last number) lanes.queues (place_for lanes host % length lanes.queues)))

@@ -1,8 +1,9 @@
 -- Lists of names, never two of which are one.
 use Rattle.std.proofs.Common.{◌≡◌, ◌≢◌, ◌⊎◌, ⊎_elim, refl, sym, arith, ℕ, suc, List, [], ◌∷◌, ◌++◌, Contains, AllPairs}
 use Rattle.std.proofs.lemmas.List.Elements.{Contains-append_right}
-use Rattle.board_model.proofs.Making.{none-in, first-or-rest}
+use Rattle.board_model.proofs.Making.{none-in}
 use Rattle.commit_journal.specs.Changes.{IsNone, AreApart}
+use Rattle.acq_base.proofs.Lists.{first-or-rest}
 
 pub here : {X : Type 0} (x : X) (xs : List X) (y : X) → x ≡ y → Contains (x ∷ xs) y
 here x xs y same = (0, omega arith, same)

@@ -6,6 +6,7 @@ use Rattle.std.proofs.lemmas.List.Elements.{Contains-append_left, Contains-appen
 use Rattle.acq_base.specs.Plan.{names_of, plan_names}
 use Rattle.acq_base.specs.declared.plan.Plan.{Plan}
 use Rattle.acq_base.specs.declared.plan.Source.{Source}
+use Rattle.acq_base.proofs.Lists.{first-or-rest}
 use Rattle.acq_outside.specs.Disk.{Files, same_name, with_file}
 use Rattle.journal_model.specs.Names.{journal, lock, partial, is_aside, is_list}
 use Rattle.journal_model.specs.Reopen.{lists}
@@ -13,7 +14,7 @@ use Rattle.journal_model.proofs.Twice.{with_same}
 use Rattle.journal_model.proofs.Views.{list_not_aside, partial_aside}
 use Rattle.update_model.specs.Carried.{AreLoose, Does}
 use Rattle.update_model.specs.Next.{CleansUp}
-use Rattle.board_model.proofs.Making.{none-in, first-or-rest}
+use Rattle.board_model.proofs.Making.{none-in}
 use Rattle.commit_journal.specs.Changes.{DropFile, filled, folder_step, folder_steps}
 use Rattle.list_commits.specs.Changes.{drops_for}
 use Rattle.list_commits.specs.Loose.{AreLooseNames, kept_names, kept_of, with_parts}

@@ -10,7 +10,8 @@ use Rattle.std.proofs.lemmas.Map.Keys.{Less-from_sorted}
 use Rattle.std.proofs.lemmas.Map.Views.{btree_set_contains_from_list, btree_set_contains_iff, btree_set_len-le_from_list}
 use Rattle.std.proofs.lemmas.List.Elements.{Contains-get_or}
 use Rattle.acq_base.specs.declared.plan.Source.{Source}
-use Rattle.board_model.proofs.Making.{none-in, first-or-rest}
+use Rattle.acq_base.proofs.Lists.{first-or-rest}
+use Rattle.board_model.proofs.Making.{none-in}
 use Rattle.acq_outside.specs.Disk.{Files, IsNames}
 use Rattle.list_commits.specs.Loose.{AreLooseNames, AreSorted, IsLoose, kept_names}
 use Rattle.list_commits.proofs.Apart.{here, there}

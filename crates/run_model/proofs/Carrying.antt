@@ -7,6 +7,7 @@ use Rattle.std.proofs.lemmas.List.Elements.{All-contains}
 use Rattle.acq_base.specs.Plan.{IsPlanned, names_of}
 use Rattle.acq_base.specs.declared.installed.Old.{Old}
 use Rattle.acq_base.specs.declared.plan.Source.{Source}
+use Rattle.acq_base.proofs.Lists.{first-or-rest}
 use Rattle.update_model.proofs.Carried.{each-at}
 use Rattle.acq_outside.specs.Disk.{Files, with_file}
 use Rattle.board_model.specs.CallLaws.{AreOnce}
@@ -14,7 +15,7 @@ use Rattle.board_model.specs.Changes.{AreMade}
 use Rattle.board_model.specs.Reached.{Reached}
 use Rattle.board_model.specs.RunLaws.{IsSourceAt}
 use Rattle.board_model.specs.Runs.{Note}
-use Rattle.board_model.proofs.Making.{none-in, first-or-rest}
+use Rattle.board_model.proofs.Making.{none-in}
 use Rattle.board_model.proofs.Resting.{olds-there}
 use Rattle.commit_journal.specs.Changes.{AreApart, Filled, DropFile, folder_step, folder_steps, stepped_all}
 use Rattle.journal_model.specs.Names.{is_list}

@@ -3,13 +3,14 @@ use Rattle.std.proofs.Common.{◌≡◌, ◌∙◌, ⊎_elim, refl, sym, ap, sub
 use Rattle.std.specs.Prelude.{if◌then◌else◌, is_some}
 use Rattle.std.specs.List.{flat_map}
 use Rattle.acq_base.specs.Plan.{IsPlanned, names_of}
+use Rattle.acq_base.proofs.Lists.{first-or-rest}
 use Rattle.acq_outside.specs.Disk.{Files, same_name, with_file}
 use Rattle.board_model.specs.Runs.{Note}
 use Rattle.commit_journal.specs.Changes.{DropFile, folder_step, folder_steps}
 use Rattle.journal_model.specs.Names.{is_list}
 use Rattle.journal_model.proofs.Twice.{with_same}
 use Rattle.update_model.specs.declared.log.RunLog.{RunLog}
-use Rattle.board_model.proofs.Making.{none-in, first-or-rest}
+use Rattle.board_model.proofs.Making.{none-in}
 use Rattle.run_model.specs.Begun.{Begun}
 use Rattle.run_model.specs.Groups.{Group, OfSource, OfNone, AreGroups, IsNewSet, all_groups, removed_in}
 use Rattle.run_model.specs.Laws.{RunsCleanUp}

@@ -6,6 +6,7 @@ use Rattle.std.proofs.lemmas.List.{append-nil}
 use Rattle.acq_base.specs.Plan.{names_of}
 use Rattle.acq_base.specs.declared.installed.Old.{Old}
 use Rattle.acq_base.specs.declared.plan.Source.{Source}
+use Rattle.acq_base.proofs.Lists.{first-or-rest}
 use Rattle.acq_outside.specs.Disk.{Files}
 use Rattle.board_model.specs.Boards.{Board, is_finished}
 use Rattle.board_model.specs.CallLaws.{AreOnce, SourcesAreSettledOnce}
@@ -28,7 +29,7 @@ use Rattle.update_model.specs.declared.settled.Held.{Held}
 use Rattle.update_model.specs.declared.settled.Verdict2.{Verdict2}
 use Rattle.update_model.specs.declared.settled.Verdict2.TheVariants.{Installed, Hit, Older, Kept}
 use Rattle.update_model.proofs.Carried.{each-at}
-use Rattle.board_model.proofs.Making.{none-in, first-or-rest}
+use Rattle.board_model.proofs.Making.{none-in}
 use Rattle.board_model.proofs.Resting.{olds-there}
 use Rattle.board_bounds.proofs.Asking.{reached-stands}
 use Rattle.list_commits.proofs.Apart.{here, there, apart_of}

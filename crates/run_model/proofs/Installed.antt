@@ -5,12 +5,13 @@ use Rattle.std.proofs.lemmas.Slice.Eq.{bytes_eq-Decides}
 use Rattle.acq_base.specs.declared.installed.Old.{Old}
 use Rattle.acq_base.specs.declared.plan.Source.{Source}
 use Rattle.acq_base.specs.declared.plan.Target.{Target}
+use Rattle.acq_base.proofs.Lists.{first-or-rest}
 use Rattle.update_model.proofs.Carried.{each-from}
 use Rattle.acq_outside.specs.Crash.{reads}
 use Rattle.acq_outside.specs.Disk.{Files}
 use Rattle.board_model.specs.Changes.{IsInstalled}
 use Rattle.board_model.specs.Keys.{named}
-use Rattle.board_model.proofs.Making.{none-in, first-or-rest}
+use Rattle.board_model.proofs.Making.{none-in}
 use Rattle.journal_model.specs.Names.{journal}
 use Rattle.journal_model.specs.Reading.{gate_in}
 use Rattle.journal_model.specs.Reopen.{opened}

@@ -5,12 +5,13 @@ use Rattle.std.specs.List.{flat_map}
 use Rattle.std.proofs.lemmas.Slice.Eq.{bytes_eq-Decides}
 use Rattle.acq_base.specs.Plan.{names_of}
 use Rattle.acq_base.specs.declared.plan.Source.{Source}
+use Rattle.acq_base.proofs.Lists.{first-or-rest}
 use Rattle.acq_outside.specs.Disk.{Files, same_name}
 use Rattle.journal_model.specs.Names.{is_list, is_partial, journal, lock}
 use Rattle.list_commits.specs.Loose.{kept_of}
 use Rattle.list_commits.specs.SetLaws.{HasListsAlone, LooseNamesAreLoose}
 use Rattle.update_model.specs.Carried.{AreLoose}
-use Rattle.board_model.proofs.Making.{none-in, first-or-rest}
+use Rattle.board_model.proofs.Making.{none-in}
 use Rattle.journal_model.specs.Reopen.{lists as folder_lists}
 use Rattle.list_commits.proofs.Apart.{here, there}
 use Rattle.run_model.specs.Runs.{AreLooseLists}

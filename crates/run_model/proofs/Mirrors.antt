@@ -6,6 +6,7 @@ use Rattle.acq_base.specs.Mirror.{World as Mirror}
 use Rattle.acq_base.specs.Plan.{names_of}
 use Rattle.acq_base.specs.declared.installed.Old.{Old}
 use Rattle.acq_base.specs.declared.plan.Source.{Source}
+use Rattle.acq_base.proofs.Lists.{first-or-rest}
 use Rattle.acq_outside.specs.Disk.{Files}
 use Rattle.board_model.specs.Agreeing.{Agrees}
 use Rattle.board_model.specs.Ends.{ListEnd, verdict_for}
@@ -25,7 +26,7 @@ use Rattle.update_model.specs.declared.settled.Verdict2.{Verdict2}
 use Rattle.update_model.specs.declared.settled.Verdict2.TheVariants as verdicts
 use Rattle.update_model.specs.declared.settled.Verdict2.TheVariants.{Installed, Hit}
 use Rattle.update_model.proofs.Carried.{each-from}
-use Rattle.board_model.proofs.Making.{none-in, first-or-rest}
+use Rattle.board_model.proofs.Making.{none-in}
 use Rattle.run_model.specs.Begun.{Begun, BeginsOver}
 use Rattle.run_model.specs.Coming.{CameTo, LeavesMirrored, mirrored}
 use Rattle.run_model.specs.Groups.{commits_of}

@@ -8,6 +8,7 @@ use Rattle.acq_base.specs.Sum.{sum_of}
 use Rattle.acq_base.specs.declared.installed.Old.{Old}
 use Rattle.acq_base.specs.declared.plan.Source.{Source}
 use Rattle.acq_base.specs.declared.plan.Target.{Target}
+use Rattle.acq_base.proofs.Lists.{first-or-rest}
 use Rattle.acq_outside.specs.Disk.{Files}
 use Rattle.board_model.specs.Changes.{IsInstalled}
 use Rattle.board_model.specs.Keys.{named}
@@ -16,7 +17,7 @@ use Rattle.release_file.specs.Release.{listed_sum}
 use Rattle.update_model.specs.Next.{Holds, Keeps}
 use Rattle.update_model.specs.Outcomes.{Admitted}
 use Rattle.update_model.proofs.Carried.{each-from, each-at}
-use Rattle.board_model.proofs.Making.{none-in, first-or-rest}
+use Rattle.board_model.proofs.Making.{none-in}
 use Rattle.list_commits.proofs.Apart.{here, there}
 use Rattle.list_commits.proofs.Recording.{both_apart, right_apart}
 

@@ -5,6 +5,7 @@ use Rattle.std.specs.List.{flat_map, AllByRecursion as Each}
 use Rattle.std.proofs.lemmas.Bool.{cases_eq}
 use Rattle.acq_base.specs.Plan.{names_of}
 use Rattle.acq_base.specs.declared.plan.Source.{Source}
+use Rattle.acq_base.proofs.Lists.{first-or-rest}
 use Rattle.acq_outside.specs.Crash.{State}
 use Rattle.acq_outside.specs.Disk.{Files}
 use Rattle.board_model.specs.Boards.{log_of}
@@ -14,7 +15,7 @@ use Rattle.commit_journal.specs.Changes.{Filled, folder_steps, stepped_all}
 use Rattle.commit_journal.specs.Runs.{Commit, LeavesFirst, IsWholeNow, IsWholeSince, Moment, after_first}
 use Rattle.update_model.specs.Next.{Keeps}
 use Rattle.update_model.proofs.Carried.{each-at}
-use Rattle.board_model.proofs.Making.{none-in, first-or-rest}
+use Rattle.board_model.proofs.Making.{none-in}
 use Rattle.acq_outside.proofs.Going.{since_map}
 use Rattle.commit_journal.proofs.Running.{stands_as}
 use Rattle.list_commits.proofs.Apart.{here, there, apart_of}

@@ -7,13 +7,14 @@ use Rattle.std.proofs.lemmas.List.Elements.{All-cons, All-nil, Contains-append_l
 use Rattle.std.proofs.lemmas.List.Kept.{AllPairs-cons}
 use Rattle.acq_base.specs.Plan.{names_of}
 use Rattle.acq_base.specs.declared.plan.Source.{Source}
+use Rattle.acq_base.proofs.Lists.{first-or-rest}
 use Rattle.acq_outside.specs.Crash.{State}
 use Rattle.board_model.specs.Runs.{Note}
 use Rattle.commit_journal.specs.Changes.{AreApart, IsNone}
 use Rattle.list_commits.specs.RecordLaws.{AllLast, AreGathered, names_gathered}
 use Rattle.run_jobs.specs.Running.{Begun as Start, IsSoundBegun}
 use Rattle.update_model.specs.declared.settled.Settled.{Settled}
-use Rattle.board_model.proofs.Making.{none-in, first-or-rest}
+use Rattle.board_model.proofs.Making.{none-in}
 use Rattle.list_commits.proofs.Apart.{there, apart_of, none_if, not_in}
 use Rattle.list_commits.proofs.Recording.{right_apart}
 use Rattle.run_model.specs.Runs.{AreRising}

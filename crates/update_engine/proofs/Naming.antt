@@ -7,11 +7,12 @@ use Rattle.std.proofs.lemmas.Slice.Eq.{bytes_eq-Decides}
 use Rattle.acq_base.specs.Plan.{names_of}
 use Rattle.acq_base.specs.declared.plan.Source.{Source}
 use Rattle.acq_base.specs.declared.plan.Target.{Target}
+use Rattle.acq_base.proofs.Lists.{first-or-rest}
 use Rattle.board_model.specs.Boards.{Board}
 use Rattle.board_model.specs.NameLaws.{AreNamedApart}
 use Rattle.board_model.specs.Slots.{Slot}
 use Rattle.board_model.specs.Uses.{Free, PartUse, or_use, rests, use_among, use_in, use_under}
-use Rattle.board_model.proofs.Making.{none-in, first-or-rest}
+use Rattle.board_model.proofs.Making.{none-in}
 use Rattle.commit_journal.specs.Changes.{AreApart, IsNone}
 use Rattle.list_commits.proofs.Apart.{here, there, apart_of, not_in}
 use Rattle.list_commits.proofs.Recording.{both_apart, right_apart}

@@ -13,6 +13,7 @@ use Rattle.acq_base.specs.declared.plan.Source.{Source}
 use Rattle.acq_base.specs.declared.plan.Target.{Target}
 use Rattle.acq_base.specs.declared.settings.Settings.{Settings}
 use Rattle.acq_base.specs.declared.uri.ListName.{ListName}
+use Rattle.acq_base.proofs.Lists.{first-or-rest}
 use Rattle.acq_outside.specs.Crash.{IsShown, State, reads}
 use Rattle.acq_outside.specs.Disk.{Files}
 use Rattle.acq_outside.specs.Moments.{IsTold, ToldAs}
@@ -29,7 +30,7 @@ use Rattle.run_jobs.specs.Coupling.{HoldsUse, UsesHold}
 use Rattle.update_core.specs.Standing.{config_for}
 use Rattle.update_model.specs.Next.{Keeps}
 use Rattle.update_model.specs.Outcomes.{Parts}
-use Rattle.board_model.proofs.Making.{none-in, first-or-rest}
+use Rattle.board_model.proofs.Making.{none-in}
 use Rattle.list_commits.proofs.Apart.{here, there}
 use Rattle.run_model.proofs.Loose.{among}
 use Rattle.run_jobs.proofs.Keeping.{falls_holds}
