@@ -1,6 +1,6 @@
 -- What an item of a board asks, over a sound plan.
 use Rattle.std.proofs.Common.{◌≡◌, ◌<◌, ◌∙◌, ◌⊎◌, inl, inr, ℕ, zero, suc, ◌+◌, Bool, true, false, List, [], ◌∷◌, Option, Some, None, refl, sym, ap, subst, arith}
-use Rattle.std.specs.Prelude.{if◌then◌else◌, option_map, option_and_then, slice_get, Ok}
+use Rattle.std.specs.Prelude.{if◌then◌else◌, option_map, option_and_then, slice_get}
 use Rattle.acq_base.specs.Plan.{IsPlanned}
 use Rattle.acq_base.specs.Uri.{IsSound}
 use Rattle.acq_base.specs.declared.fetch.Job.{Job}
@@ -11,10 +11,8 @@ use Rattle.acq_base.specs.declared.sum.Sum.{Sum}
 use Rattle.host_queues.specs.Lanes.{first_of}
 use Rattle.item_graph.specs.Items.{asked}
 use Rattle.item_graph.specs.Sound.{AsksSoundly, ListsAskSoundly}
-use Rattle.release_file.specs.Release.{release_of}
 use Rattle.release_file.specs.declared.release.Release.{Release}
 use Rattle.update_model.specs.Laws.{SetsAreAdmissible}
-use Rattle.update_model.specs.Outcomes.{Admitted, outcome}
 use Rattle.update_model.specs.Releases.{release_text}
 use Rattle.update_model.specs.Walks.{Walk, release_walk}
 use Rattle.update_model.specs.declared.ask.Ask.{Ask}
@@ -26,10 +24,11 @@ use Rattle.board_model.specs.Laws.{BoardsStand}
 use Rattle.board_model.specs.Reached.{Reached}
 use Rattle.board_model.specs.Runs.{Note}
 use Rattle.board_model.specs.Slots.{Config, Standing, Slot, Asking, Listing, Refused, Closed, ask_of, item_in, joined}
-use Rattle.board_model.specs.Stands.{AllStand, HasCome, HasHeard, History, IsOpen, ListStands, ListsStand, SourceStands, StandsAt, history_of, of_key, tolds, walk_of}
+use Rattle.board_model.specs.Stands.{AllStand, HasHeard, History, IsOpen, ListStands, ListsStand, SourceStands, StandsAt, history_of, of_key, tolds, walk_of}
 use Rattle.board_model.specs.declared.key.Key.{Key}
 use Rattle.board_model.proofs.Askers.{asker-asks}
 use Rattle.board_model.proofs.Resting.{olds-there}
+use Rattle.board_model.proofs.Notes.{read-of}
 use Rattle.board_bounds.proofs.Listed.{listed-written}
 use Rattle.board_bounds.proofs.Walking.{AreSound, list-walks, release-walks, walk-sound, at_all}
 use Rattle.board_bounds.specs.Fetching.{AsksMayBeFetched, IssuedJobsMayBeHanded, JobsOutMayBeHanded, LeadSoundly, MayBeFetched, MayBeHanded}
@@ -49,12 +48,6 @@ told-sound [] h = tt
 told-sound (note ∷ notes) h = (h.0, told-sound notes h.1)
 
 -- ---- an item that asks, with its source as it stands
-
--- what a source came to is a Release that was read
-pub read-of : SetsAreAdmissible → (config : Config) (n : ℕ) (source : Source) (old : Old) (heard : List Note) (set : Admitted) → HasCome config n source old heard (Ok set) → release_of set.bytes ≡ Ok set.release
-read-of law config n source old heard set h =
-    let made : outcome h.end [] old.release config.settings config.change config.now ≡ Ok set = rw h.came_to refl in
-    ((law h.end [] old.release config.settings config.change config.now set).0 made).1
 
 list-of : (config : Config) (n : ℕ) (source : Source) (old : Old) (release : Release) (place : ℕ) (targets : List Target) (lists : List (Option Standing)) (history : History) (k : ℕ) (item : Standing)
     → ListsStand config n source old release place targets lists history → slice_get lists k ≡ Some (Some item)

@@ -1,13 +1,14 @@
 -- The lines of fields are no more than the lines of their text, which has few beside its bytes.
-use Rattle.std.proofs.Common.{◌≡◌, ◌≤◌, ℕ, suc, ◌+◌, ◌==◌, cond, Bool, true, false, List, [], ◌∷◌, length, filter, Option, Some, None, Ok, refl, ap, subst, arith}
+use Rattle.std.proofs.Common.{◌≡◌, ◌≤◌, ℕ, suc, ◌==◌, cond, Bool, true, false, List, [], ◌∷◌, length, filter, Option, Some, None, Ok, subst, arith}
 use Rattle.std.specs.Prelude.{if◌then◌else◌}
 use Rattle.std.specs.List.{slice_split, onto_first, AllByRecursion as Each}
 use Rattle.std.specs.Str.{str_eq_ignore_ascii_case}
 use Rattle.std.specs.Str.Lines.{lines as text_lines, lines_of_parts}
-use Rattle.deb822_text.specs.Control.{Line, Separator, Comment, Continuation, Named, Unknown, continued, field_named, fields_of, first_fault, groups_of, is_counted, is_separator, lines_from, lines_of, paragraphs_in, paragraphs_of, reading_of, refused_or}
+use Rattle.deb822_text.specs.Control.{Line, Separator, Comment, Continuation, Named, Unknown, field_named, fields_of, first_fault, groups_of, is_counted, is_separator, lines_of, paragraphs_in, paragraphs_of, reading_of, refused_or}
 use Rattle.deb822_text.specs.declared.error.TextError.{TextError}
 use Rattle.deb822_text.specs.declared.paragraph.Field.{Field}
 use Rattle.deb822_text.specs.declared.paragraph.Paragraph.{Paragraph}
+use Rattle.release_file.proofs.Places.{length-lines_from, few_continued}
 
 -- ---- parts of a list
 
@@ -67,19 +68,7 @@ text-few bytes =
     let split = split-few (λ b. b == 10) bytes in
     omega (arith, parts, split)
 
-numbered-few : (comments : Bool) (at : ℕ) (lines : List (List ℕ)) → length (lines_from comments at lines) ≡ length lines
-numbered-few comments at [] = refl
-numbered-few comments at (line ∷ lines) = ap suc (numbered-few comments (at + 1) lines)
-
 -- ---- the fields of a group
-
-continued-few : (lines : List Line) → length (continued lines) ≤ length lines
-continued-few [] = omega arith
-continued-few (Separator ∷ lines) = omega arith
-continued-few (Comment ∷ lines) = omega arith
-continued-few (Continuation at text ∷ lines) = let rest = continued-few lines in omega (arith, rest)
-continued-few (Named at name text ∷ lines) = omega arith
-continued-few (Unknown at ∷ lines) = omega arith
 
 abbrev AreShortFields : ℕ → List Field → Type 0
 AreShortFields n fields = Each (λ (field : Field). length field.lines ≤ n) fields
@@ -89,7 +78,7 @@ fields-short n [] h = tt
 fields-short n (Separator ∷ lines) h = fields-short n lines (omega (arith, h))
 fields-short n (Comment ∷ lines) h = fields-short n lines (omega (arith, h))
 fields-short n (Continuation at text ∷ lines) h = fields-short n lines (omega (arith, h))
-fields-short n (Named at name text ∷ lines) h = let rest = continued-few lines in (omega (arith, rest, h), fields-short n lines (omega (arith, h)))
+fields-short n (Named at name text ∷ lines) h = let rest = few_continued lines in (omega (arith, rest, h), fields-short n lines (omega (arith, h)))
 fields-short n (Unknown at ∷ lines) h = fields-short n lines (omega (arith, h))
 
 abbrev AreShortParagraphs : ℕ → List Paragraph → Type 0
@@ -125,7 +114,7 @@ pub text-short : (bytes : List ℕ) (paragraphs : List Paragraph) → paragraphs
 unfolding paragraphs_of lines_of
 text-short bytes paragraphs is =
     let lines = text-few bytes in
-    let numbered = numbered-few false 1 (text_lines bytes) in
+    let numbered = length-lines_from false 1 (text_lines bytes) in
     read-short (suc (length bytes)) (lines_of false bytes) paragraphs (omega (arith, lines, numbered)) is
 
 -- of short fields the one that is found is short

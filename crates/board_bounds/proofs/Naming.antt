@@ -3,7 +3,7 @@ use Rattle.std.proofs.Common.{◌≡◌, ◌≢◌, ◌≤◌, ◌∙◌, ℕ, z
 use Rattle.std.specs.Prelude.{if◌then◌else◌, slice_get}
 use Rattle.std.specs.Fmt.{digit_glyph}
 use Rattle.std.specs.List.{flat_map, list_any}
-use Rattle.std.proofs.lemmas.Bool.{false≢true, ne_eqb}
+use Rattle.std.proofs.lemmas.Bool.{false≢true, ne_eqb, or_right}
 use Rattle.std.proofs.lemmas.List.Elements.{All-cons, All-map}
 use Rattle.std.proofs.lemmas.List.Folds.{list_any-append}
 use Rattle.std.proofs.lemmas.Option.{same_Some}
@@ -57,17 +57,13 @@ parts-flat File host port path = text-flat path
 
 -- ---- a bar
 
-or-true : (b : Bool) → (b || true) ≡ true
-or-true true = refl
-or-true false = refl
-
 text-barred : (front path : List ℕ) → slice_get path 0 ≡ Some 47 → has_bar (flat_map name_byte (front ++ path)) ≡ true
 unfolding has_bar
 text-barred [] [] rooted = absurd (cc)
 text-barred [] (c ∷ path) rooted = let slash : c ≡ 47 = same_Some c 47 rooted in subst (λ d. list_any (λ c. c == 95) (flat_map name_byte (d ∷ path)) ≡ true) (sym slash) refl
 text-barred (c ∷ front) path rooted =
     list_any-append (λ d. d == 95) (name_byte c) (flat_map name_byte (front ++ path))
-    ∙ ap (λ (b : Bool). list_any (λ d. d == 95) (name_byte c) || b) (text-barred front path rooted) ∙ or-true (list_any (λ d. d == 95) (name_byte c))
+    ∙ ap (λ (b : Bool). list_any (λ d. d == 95) (name_byte c) || b) (text-barred front path rooted) ∙ or_right (list_any (λ d. d == 95) (name_byte c)) true refl
 
 parts-barred : (scheme : Scheme) (host : List ℕ) (port : ℕ) (path : List ℕ) → slice_get path 0 ≡ Some 47 → has_bar (name_of_parts scheme host port path) ≡ true
 unfolding name_of_parts
