@@ -17,20 +17,10 @@ set-changed view f [] n d y within is e = absurd (grind (arith, within))
 set-changed view f (x ∷ xs) zero d y within is e = ap (λ z. z ∷ map view xs) (e ∙ ap (λ z. f (view z)) is)
 set-changed view f (x ∷ xs) (suc n) d y within is e = ap (λ zs. view x ∷ zs) (set-changed view f xs n d y (omega (arith, within)) is e)
 
-pub past-changed : {A : Type 0} (f : A → A) (xs : List A) (n : ℕ) → length xs ≤ n → changed_at n f xs ≡ xs
-past-changed f [] n past = refl
-past-changed f (x ∷ xs) zero past = absurd (grind (arith, past))
-past-changed f (x ∷ xs) (suc n) past = ap (λ zs. x ∷ zs) (past-changed f xs n (omega (arith, past)))
-
 pub changed-twice : {A : Type 0} (f g : A → A) (xs : List A) (n : ℕ) → changed_at n g (changed_at n f xs) ≡ changed_at n (λ x. g (f x)) xs
 changed-twice f g [] n = refl
 changed-twice f g (x ∷ xs) zero = refl
 changed-twice f g (x ∷ xs) (suc n) = ap (λ zs. x ∷ zs) (changed-twice f g xs n)
-
-pub length-changed : {A : Type 0} (f : A → A) (xs : List A) (n : ℕ) → length (changed_at n f xs) ≡ length xs
-length-changed f [] n = refl
-length-changed f (x ∷ xs) zero = refl
-length-changed f (x ∷ xs) (suc n) = ap suc (length-changed f xs n)
 
 pub count-set : (items : List (Option Item)) (n : ℕ) (d y : Option Item) → n < length items → d ≡ get_or items n d
     → count_asking (set items n y) + one_if (is_asking d) ≡ count_asking items + one_if (is_asking y)

@@ -6,10 +6,7 @@ use Rattle.update_model.specs.declared.ask.Closed.{Closed}
 use Rattle.board_model.specs.Boards.{Asker, Board, absorbed, asker_of, lane_with, took, took_from}
 use Rattle.board_model.specs.Keys.{key_at}
 use Rattle.board_model.specs.Slots.{ask_of, item_at}
-
-bound : {A B : Type 0} (o : Option A) (f : A → Option B) (b : B) → (o >>= f) ≡ Some b → (a : A) × (o ≡ Some a) × (f a ≡ Some b)
-bound None f b e = absurd (cc)
-bound (Some a) f b e = (a, refl, e)
+use Rattle.board_model.proofs.Places.{bound}
 
 -- what an item that asks is
 pub record Asks (b : Board) (number : ℕ) (a : Asker) : Type 0 where

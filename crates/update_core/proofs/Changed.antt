@@ -1,16 +1,11 @@
 -- Lists with one element changed, as another list sees them.
-use Rattle.std.proofs.Common.{◌≡◌, ◌∙◌, ℕ, zero, suc, ◌<◌, ◌≤◌, nat_eq, false, List, [], ◌∷◌, length, map, get_or, refl, sym, ap, subst, arith}
-use Rattle.std.specs.Prelude.{option_map, slice_get}
+use Rattle.std.proofs.Common.{◌≡◌, ◌∙◌, ℕ, zero, suc, ◌<◌, nat_eq, false, List, [], ◌∷◌, length, map, get_or, refl, ap, arith}
+use Rattle.std.specs.Prelude.{slice_get}
 use Rattle.std.proofs.Math.ListN.{set}
 use Rattle.std.proofs.lemmas.List.{set-set}
 use Rattle.std.proofs.lemmas.Bool.Decides.{nat_tests}
 use Rattle.host_queues.specs.Lanes.{changed_at}
-
-pub set-changed : {A B : Type 0} (view : A → B) (f : B → B) (xs : List A) (n : ℕ) (d y : A) → n < length xs → d ≡ get_or xs n d → view y ≡ f (view d)
-    → map view (set xs n y) ≡ changed_at n f (map view xs)
-set-changed view f [] n d y within is e = absurd (grind (arith, within))
-set-changed view f (x ∷ xs) zero d y within is e = ap (λ z. z ∷ map view xs) (e ∙ ap (λ z. f (view z)) is)
-set-changed view f (x ∷ xs) (suc n) d y within is e = ap (λ zs. view x ∷ zs) (set-changed view f xs n d y (omega (arith, within)) is e)
+use Rattle.board_source.proofs.Changes.{set-changed}
 
 -- where what is put there doesn't depend on what was
 pub set-constant : {A B : Type 0} (view : A → B) (xs : List A) (n : ℕ) (y : A) (z : B) → view y ≡ z → map view (set xs n y) ≡ changed_at n (λ old. z) (map view xs)
@@ -23,30 +18,12 @@ set-plain [] n y = refl
 set-plain (x ∷ xs) zero y = refl
 set-plain (x ∷ xs) (suc n) y = ap (λ ys. x ∷ ys) (set-plain xs n y)
 
-pub past-changed : {A : Type 0} (f : A → A) (xs : List A) (n : ℕ) → length xs ≤ n → changed_at n f xs ≡ xs
-past-changed f [] n past = refl
-past-changed f (x ∷ xs) zero past = absurd (grind (arith, past))
-past-changed f (x ∷ xs) (suc n) past = ap (λ zs. x ∷ zs) (past-changed f xs n (omega (arith, past)))
-
-pub length-changed : {A : Type 0} (f : A → A) (xs : List A) (n : ℕ) → length (changed_at n f xs) ≡ length xs
-length-changed f [] n = refl
-length-changed f (x ∷ xs) zero = refl
-length-changed f (x ∷ xs) (suc n) = ap suc (length-changed f xs n)
-
-pub get-changed : {A : Type 0} (f : A → A) (xs : List A) (n : ℕ) → slice_get (changed_at n f xs) n ≡ option_map f (slice_get xs n)
-get-changed f [] n = refl
-get-changed f (x ∷ xs) zero = refl
-get-changed f (x ∷ xs) (suc n) = get-changed f xs n
-
 pub get-other : {A : Type 0} (f : A → A) (xs : List A) (n m : ℕ) → nat_eq n m ≡ false → slice_get (changed_at n f xs) m ≡ slice_get xs m
 get-other f [] n m apart = refl
 get-other f (x ∷ xs) zero zero apart = absurd (grind (arith, nat_tests, apart))
 get-other f (x ∷ xs) zero (suc m) apart = refl
 get-other f (x ∷ xs) (suc n) zero apart = refl
 get-other f (x ∷ xs) (suc n) (suc m) apart = get-other f xs n m (grind (arith, nat_tests, apart))
-
-pub read-there : {A : Type 0} (xs : List A) (n : ℕ) (d m : A) → d ≡ m → m ≡ get_or xs n m → d ≡ get_or xs n d
-read-there xs n d m e is = subst (λ (z : _). z ≡ get_or xs n z) (sym e) is
 
 -- taken out, changed and put back
 pub put-changed : {A B : Type 0} (view : A → B) (f : B → B) (xs : List A) (n : ℕ) (d hole new dest : A) → n < length xs → d ≡ get_or xs n d → dest ≡ new

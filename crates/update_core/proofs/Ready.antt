@@ -11,6 +11,7 @@ use Rattle.std.proofs.lemmas.List.{length-map, set-set}
 use Rattle.std.proofs.lemmas.Bool.{cases_Bool}
 use Rattle.std.proofs.lemmas.Bool.Decides.{nat_tests}
 use Rattle.host_queues.specs.Lanes.{changed_at}
+use Rattle.host_queues.proofs.Changes.{get-some}
 use Rattle.acq_base.specs.declared.installed.Old.{Old}
 use Rattle.acq_base.specs.declared.plan.Source.{Source}
 use Rattle.update_model.specs.declared.ask.Ask.{Ask}
@@ -196,9 +197,6 @@ empty-ready config sources olds slots places e none = λ m.
     ap (λ (ks : List ℕ). list_any (is_at (nat_cmp m)) ks) none
     ∙ sym (ap (λ (s : List Slot). ready_at s m) e ∙ first-unready config sources olds m)
 
-pub impossible : false ≡ true → ⊥
-impossible e = absurd (cc)
-
 pub there-is : {A : Type 0} (xs : List A) (n : ℕ) (x : A) → n < length xs → x ≡ get_or xs n x → slice_get xs n ≡ Some x
 there-is xs n x within is = slice_get-get_or xs n x within ∙ ap (λ (y : _). Some y) (sym is)
 
@@ -213,11 +211,6 @@ settled-same sources slots n source found slot kept settled f k e s l =
     let same : found ≡ source = same-there (slice_get sources n) found source f s in
     let alike : kept ≡ slot = same-there (slice_get slots n) kept slot k l in
     sym (ap (λ (x : Source). settled_in x kept) same ∙ ap (λ (x : Slot). settled_in source x) alike) ∙ e
-
-get-some : {A : Type 0} (xs : List A) (n : ℕ) → n < length xs → (x : A) × (slice_get xs n ≡ Some x)
-get-some [] n within = absurd (grind (arith, within))
-get-some (x ∷ xs) zero within = (x, refl)
-get-some (x ∷ xs) (suc n) within = get-some xs n (omega (arith, within))
 
 pub settled-by : (b : Board) (n : ℕ) (settled : Settled) → n < length b.config.sources → n < length b.slots
     → ((source : Source) (slot : Slot) → slice_get b.config.sources n ≡ Some source → slice_get b.slots n ≡ Some slot → settled_in source slot ≡ Some settled)

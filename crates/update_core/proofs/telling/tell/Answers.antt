@@ -1,5 +1,5 @@
 use Rattle.std.proofs.Common.{◌∙◌, length, ap}
-use Rattle.update_core.proofs.Changed.{length-changed}
+use Rattle.host_queues.proofs.Changes.{length-changed}
 use Rattle.update_core.proofs.telling.tell.Goals as goal
 
 pub returns-clause-count : goal.returns-clause-count

@@ -1,5 +1,5 @@
 use Rattle.std.proofs.Common.{◌∙◌, ◌≤◌, ℕ, length, sym, ap, subst}
-use Rattle.update_core.proofs.Changed.{length-changed}
+use Rattle.host_queues.proofs.Changes.{length-changed}
 use Rattle.update_core.proofs.board.Board.issue.Goals as goal
 
 pub invariant_of-self-2-clause-few : goal.invariant_of-self-2-clause-few

@@ -3,7 +3,7 @@ use Rattle.std.proofs.lemmas.List.{length-map}
 use Rattle.board_slot.specs.Parts.{slot_of}
 use Rattle.update_core.specs.Parts.{slots_of}
 use Rattle.update_core.specs.Standing.{board_of}
-use Rattle.update_core.proofs.Changed.{length-changed}
+use Rattle.host_queues.proofs.Changes.{length-changed}
 use Rattle.update_core.proofs.Ready.{busy-by}
 use Rattle.update_core.proofs.board.Board.take_in.Goals as goal
 

@@ -1,7 +1,8 @@
 use Rattle.std.proofs.Common.{◌∙◌, sym}
 use Rattle.std.proofs.lemmas.Map.Keys.{le_from_not_gt}
+use Rattle.std.proofs.lemmas.Bool.{false≢true}
 use Rattle.update_core.specs.Parts.{slots_of}
-use Rattle.update_core.proofs.Ready.{empty-contains, first-is, impossible, none-is}
+use Rattle.update_core.proofs.Ready.{empty-contains, first-is, none-is}
 use Rattle.update_core.proofs.sources.Sources.first_ready.Goals as goal
 
 pub returns-in-Some : goal.returns-in-Some
@@ -13,4 +14,4 @@ returns-in-Some c =
 
 pub returns-in-None : goal.returns-in-None
 returns-in-None c =
-    sym (none-is (slots_of c.args.self.now.slots.items) (λ m. sym (c.args.self.now.told m) ∙ empty-contains c.args.self.now.ready (λ some. impossible (c.in-None.ensures.variant.1 some)) m))
+    sym (none-is (slots_of c.args.self.now.slots.items) (λ m. sym (c.args.self.now.told m) ∙ empty-contains c.args.self.now.ready (λ some. false≢true (c.in-None.ensures.variant.1 some)) m))

@@ -6,7 +6,8 @@ use Rattle.board_model.specs.Slots.{heard_at, is_ready}
 use Rattle.board_slot.specs.Parts.{slot_of}
 use Rattle.board_slot.specs.declared.slot.Slot.{Slot}
 use Rattle.board_source.specs.Parts.{config_of}
-use Rattle.update_core.proofs.Changed.{put-changed, read-there}
+use Rattle.board_source.proofs.Changes.{read-there}
+use Rattle.update_core.proofs.Changed.{put-changed}
 use Rattle.update_core.proofs.Ready.{ready-put, ready-taken, same-there, there-is}
 use Rattle.update_core.proofs.sources.Sources.hear.Goals as goal
 

@@ -4,8 +4,9 @@ use Rattle.acq_base.specs.declared.plan.Source.{Source}
 use Rattle.board_model.specs.Slots.{Closed}
 use Rattle.board_slot.specs.Parts.{slot_of}
 use Rattle.board_slot.specs.declared.slot.Slot.{Slot}
+use Rattle.board_source.proofs.Changes.{read-there}
 use Rattle.update_core.specs.Parts.{slots_of}
-use Rattle.update_core.proofs.Changed.{read-there, set-constant}
+use Rattle.update_core.proofs.Changed.{set-constant}
 use Rattle.update_core.proofs.Ready.{get-of, ready-settled, ready-slot, settled-same, there-is}
 use Rattle.update_core.proofs.sources.Sources.settle.Goals as goal
 
