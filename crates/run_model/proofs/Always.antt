@@ -1,5 +1,5 @@
 -- What a run tells of a source, and what lies under the names of the source.
-use Rattle.std.proofs.Common.{◌≡◌, ◌∙◌, inl, inr, refl, sym, ap, subst, ℕ, Bool, true, false, List, map, Option, Some, Ok, Err}
+use Rattle.std.proofs.Common.{◌≡◌, ◌∙◌, inl, inr, refl, sym, ap, subst, ℕ, Bool, true, false, List, map, Option, Ok, Err}
 use Rattle.std.specs.Prelude.{if◌then◌else◌, slice_get}
 use Rattle.acq_base.specs.declared.installed.Old.{Old}
 use Rattle.acq_base.specs.declared.plan.Source.{Source}
@@ -7,6 +7,7 @@ use Rattle.board_model.specs.Ends.{ListEnd, verdict_for}
 use Rattle.board_model.specs.RunLaws.{HasSet}
 use Rattle.board_model.specs.Settling.{held_of}
 use Rattle.board_model.specs.Slots.{is_there}
+use Rattle.board_model.proofs.Agreement.{same-verdict}
 use Rattle.list_commits.specs.Made.{after_all}
 use Rattle.update_model.specs.Laws.{SetsAreAdmissible}
 use Rattle.update_model.specs.Next.{Keeps, Leaves}
@@ -44,14 +45,11 @@ has_set source old set verdict is = one (is_there source old set) is
     one true is = inr is
     one false is = inl is
 
-pub same_verdict : (o : Option Verdict2) (a b : Verdict2) → o ≡ Some a → o ≡ Some b → a ≡ b
-same_verdict o a b is is' = let both : Some a ≡ Some b = sym is ∙ is' in cc
-
 pub runs_hold_as_told : Finished → SetsAreAdmissible → RunsHoldAsTold
 runs_hold_as_told laws sets together begun lists log commits n source verdict held begins run is told has =
     let left = runs_leave_outcomes laws together begun lists log commits run n source begins is in
     let came : CameTo begun run.heard n source left.came_to = left.came in
-    let same : verdict ≡ came.verdict = same_verdict (slice_get log.verdicts n) verdict came.verdict told left.told in
+    let same : verdict ≡ came.verdict = same-verdict (slice_get log.verdicts n) verdict came.verdict told left.told in
     let set = set_of source came.former (outcome_at begun.config came.former came.comes.end came.comes.lists) verdict held (same ∙ came.comes.is) has in
     let from = (sets came.comes.end (map (λ (l : ListEnd). l.end) came.comes.lists) came.former.release begun.config.settings begun.config.change begun.config.now set.0).0 set.2 in
     record {
@@ -67,7 +65,7 @@ pub runs_keep_others : Finished → RunsKeepOthers
 runs_keep_others laws together begun lists log commits n source verdict begins run is told never =
     let left = runs_leave_outcomes laws together begun lists log commits run n source begins is in
     let came : CameTo begun run.heard n source left.came_to = left.came in
-    let same : verdict ≡ came.verdict = same_verdict (slice_get log.verdicts n) verdict came.verdict told left.told in
+    let same : verdict ≡ came.verdict = same-verdict (slice_get log.verdicts n) verdict came.verdict told left.told in
     one left.came_to left.leaves came.former (same ∙ came.comes.is ∙ ap (verdict_for source came.former) came.is)
   where
     one : (o : Outcome) → Leaves o source lists (after_all (commits_of commits) lists) → (old : Old) → verdict ≡ verdict_for source old o → Keeps source lists (after_all (commits_of commits) lists)

@@ -5,7 +5,7 @@ use Rattle.std.proofs.lemmas.Slice.Eq.{bytes_eq-Decides}
 use Rattle.acq_base.specs.declared.installed.Old.{Old}
 use Rattle.acq_base.specs.declared.plan.Source.{Source}
 use Rattle.acq_base.specs.declared.plan.Target.{Target}
-use Rattle.acq_base.proofs.Lists.{first-or-rest}
+use Rattle.acq_base.proofs.Lists.{first-or-rest, map_in}
 use Rattle.update_model.proofs.Carried.{each-from}
 use Rattle.acq_outside.specs.Crash.{reads}
 use Rattle.acq_outside.specs.Disk.{Files}
@@ -19,7 +19,6 @@ use Rattle.journal_model.specs.declared.step.Gate.{Gate}
 use Rattle.journal_model.specs.declared.step.Gate.TheVariants.{Open, Damaged, Shut}
 use Rattle.lists_dir.specs.Installed.{installed_of, listed, lists_of}
 use Rattle.run_model.specs.Beginnings.{InstalledListsBegin, OpenedListsAreAlone}
-use Rattle.run_model.proofs.Names.{map_in}
 
 -- ---- names of rows
 

@@ -27,12 +27,13 @@ use Rattle.update_model.specs.declared.settled.Verdict2.TheVariants as verdicts
 use Rattle.update_model.specs.declared.settled.Verdict2.TheVariants.{Installed, Hit}
 use Rattle.update_model.proofs.Carried.{each-from}
 use Rattle.board_model.proofs.Making.{none-in}
+use Rattle.board_model.proofs.Agreement.{same-verdict}
 use Rattle.run_model.specs.Begun.{Begun, BeginsOver}
 use Rattle.run_model.specs.Coming.{CameTo, LeavesMirrored, mirrored}
 use Rattle.run_model.specs.Groups.{commits_of}
 use Rattle.run_model.specs.Laws.{RunsAreComplete, RunsHoldMirrored, RunsLeadToNext, RunsLeaveAlike, RunsLeaveMirrored, RunsTellTheSame}
 use Rattle.run_model.specs.Runs.{cleans_up, is_kept}
-use Rattle.run_model.proofs.Always.{has_set, same_verdict, set_of}
+use Rattle.run_model.proofs.Always.{has_set, set_of}
 use Rattle.run_model.proofs.Cleaning.{runs_clean_up}
 use Rattle.run_model.proofs.Counting.{there_too, verdicts_count}
 use Rattle.run_model.proofs.Ends.{outcome_admitted, set_admitted, ok_once}
@@ -90,7 +91,7 @@ runs_leave_mirrored laws together begun lists log commits run mirror n source be
     let came : CameTo begun run.heard n source left.came_to = left.came in
     let tells = laws.told begun.config begun.olds run.heard run.board mirror lists begun.parts n source came.former run.reached run.all.finished came.stands begins.over heard.agrees heard.lives in
     let told : slice_get log.verdicts n ≡ Some (verdict_for source came.former (mirrored mirror begun lists source)) = ap (λ (l : RunLog). slice_get l.verdicts n) run.told ∙ tells in
-    let verdict : came.verdict ≡ verdict_for source came.former (mirrored mirror begun lists source) = same_verdict (slice_get log.verdicts n) came.verdict _ left.told told in
+    let verdict : came.verdict ≡ verdict_for source came.former (mirrored mirror begun lists source) = same-verdict (slice_get log.verdicts n) came.verdict _ left.told told in
     let same : left.came_to ≡ mirrored mirror begun lists source =
     same_outcome source came.former left.came_to (mirrored mirror begun lists source) came.verdict (came.comes.is ∙ ap (verdict_for source came.former) came.is) verdict
     (λ x y e e'. same_as_mirrors laws begun lists mirror run.heard n source left.came_to x y begins is heard.agrees came left.all e e') in
@@ -107,7 +108,7 @@ runs_hold_mirrored laws together begun lists log commits run mirror n source ver
     let came : CameTo begun run.heard n source left.came_to = left.came in
     let board_told : slice_get run.board.verdicts n ≡ Some verdict = sym (ap (λ (l : RunLog). slice_get l.verdicts n) run.told) ∙ told in
     let mirrors = laws.sets begun.config begun.olds run.heard run.board mirror lists begun.parts n source came.former verdict held run.reached run.all.finished came.stands begins.over agrees board_told has in
-    let same : verdict ≡ came.verdict = same_verdict (slice_get log.verdicts n) verdict came.verdict told left.told in
+    let same : verdict ≡ came.verdict = same-verdict (slice_get log.verdicts n) verdict came.verdict told left.told in
     let set = set_of source came.former left.came_to verdict held (same ∙ came.comes.is ∙ ap (verdict_for source came.former) came.is) has in
     let one : set.0 ≡ mirrors.0 = same_as_mirrors laws begun lists mirror run.heard n source left.came_to set.0 mirrors.0 begins is agrees came left.all set.2 mirrors.2 in
     record {
@@ -170,7 +171,7 @@ runs_lead_to_next laws together begun lists log commits run mirror plan begins h
     clean : cleans_up begun.config.settings log.verdicts ≡ cleans begun.config.settings (map (mirrored mirror begun lists) plan.sources)
     clean =
         ap (λ (b : Bool). begun.config.settings.cleanup && b) (all_well (mirrored mirror begun lists) begun.config.sources log.verdicts counted
-        (λ n source verdict is told. let l = left n source is in well source l.former (mirrored mirror begun lists source) verdict (same_verdict (slice_get log.verdicts n) verdict _ told l.told)))
+        (λ n source verdict is told. let l = left n source is in well source l.former (mirrored mirror begun lists source) verdict (same-verdict (slice_get log.verdicts n) verdict _ told l.told)))
         ∙ ap (λ (ss : List Source). begun.config.settings.cleanup && list_all is_settled_well (map (mirrored mirror begun lists) ss)) (sym same)
 
 -- ---- two runs

@@ -1,5 +1,5 @@
 -- Names of a plan's sources, no two of which are one.
-use Rattle.std.proofs.Common.{◌≡◌, ◌≢◌, ◌⊎◌, ⊎_elim, refl, sym, ap, ◌∙◌, subst, ℕ, zero, suc, List, [], ◌∷◌, map, Contains, Some, option_map}
+use Rattle.std.proofs.Common.{◌≡◌, ◌≢◌, ◌⊎◌, refl, sym, ap, ◌∙◌, subst, ℕ, zero, suc, List, [], ◌∷◌, map, Contains, Some, option_map}
 use Rattle.std.specs.Prelude.{slice_get}
 use Rattle.std.specs.List.{flat_map}
 use Rattle.std.proofs.lemmas.List.Elements.{Contains-append_left, Contains-append_right}
@@ -8,7 +8,7 @@ use Rattle.acq_base.specs.Sum.{sum_of}
 use Rattle.acq_base.specs.declared.installed.Old.{Old}
 use Rattle.acq_base.specs.declared.plan.Source.{Source}
 use Rattle.acq_base.specs.declared.plan.Target.{Target}
-use Rattle.acq_base.proofs.Lists.{first-or-rest}
+use Rattle.acq_base.proofs.Lists.{map_in}
 use Rattle.acq_outside.specs.Disk.{Files}
 use Rattle.board_model.specs.Changes.{IsInstalled}
 use Rattle.board_model.specs.Keys.{named}
@@ -17,15 +17,10 @@ use Rattle.release_file.specs.Release.{listed_sum}
 use Rattle.update_model.specs.Next.{Holds, Keeps}
 use Rattle.update_model.specs.Outcomes.{Admitted}
 use Rattle.update_model.proofs.Carried.{each-from, each-at}
-use Rattle.board_model.proofs.Making.{none-in}
 use Rattle.list_commits.proofs.Apart.{here, there}
 use Rattle.list_commits.proofs.Recording.{both_apart, right_apart}
 
 -- ---- elements of lists
-
-pub map_in : {X Y : Type 0} (f : X → Y) (xs : List X) (x : X) → Contains xs x → Contains (map f xs) (f x)
-map_in f [] x is = absurd (none-in x is)
-map_in f (y ∷ ys) x is = ⊎_elim (λ same. here (f y) (map f ys) (f x) (ap f same)) (λ later. there (f y) (map f ys) (f x) (map_in f ys x later)) (first-or-rest y ys x is)
 
 pub get_in : {X : Type 0} (xs : List X) (n : ℕ) (x : X) → slice_get xs n ≡ Some x → Contains xs x
 get_in [] n x is = absurd (cc)

@@ -1,5 +1,5 @@
 -- A source as it is settled: its changes, and the outcome that they leave.
-use Rattle.std.proofs.Common.{◌≡◌, inl, inr, refl, sym, ap, ◌∙◌, subst, ℕ, Bool, true, false, List, [], Some, Ok, Err}
+use Rattle.std.proofs.Common.{◌≡◌, refl, sym, ap, ◌∙◌, subst, ℕ, Bool, true, false, List, [], Some, Ok, Err}
 use Rattle.std.specs.Prelude.{if◌then◌else◌, slice_get}
 use Rattle.acq_base.specs.Plan.{IsPlanned}
 use Rattle.acq_base.specs.declared.installed.Old.{Old}
@@ -14,7 +14,7 @@ use Rattle.board_model.specs.Runs.{Note}
 use Rattle.board_model.specs.SetLaws.{ChangesLeaveOutcomes, TouchedAreApart, TouchedAreOwn}
 use Rattle.board_model.specs.Settling.{held_of, settled_in}
 use Rattle.board_model.specs.Slots.{Config, Slot, is_ready, is_there}
-use Rattle.board_model.specs.Stands.{History, IsOpen, SourceStands, StandsAt, history_of}
+use Rattle.board_model.specs.Stands.{IsOpen, StandsAt, history_of}
 use Rattle.list_commits.specs.SetLaws.{ChangesMakeSets, HasPutNames, LooseNamesAreLoose, OwnsChanges}
 use Rattle.update_model.specs.Outcomes.{Admitted, Outcome, Older, Kept}
 use Rattle.update_model.specs.declared.settled.Held.{Held}
@@ -23,6 +23,7 @@ use Rattle.update_model.specs.declared.settled.Verdict2.{Verdict2}
 use Rattle.update_model.specs.declared.settled.Verdict2.TheVariants.{Installed, Hit}
 use Rattle.board_model.proofs.Places.{bound}
 use Rattle.board_model.proofs.Events.{ready-slot}
+use Rattle.board_model.proofs.Agreement.{come-open}
 use Rattle.board_bounds.proofs.Asking.{reached-stands}
 
 -- what the crates below say of a source that is settled
@@ -39,11 +40,6 @@ pub record Below : Type 0 where
   pub loose : LooseNamesAreLoose
 
 -- ---- a source that is ready
-
-pub still_open : (config : Config) (n : ℕ) (source : Source) (old : Old) (slot : Slot) (verdict : Verdict2) (history : History) → SourceStands config n source old slot verdict history → is_ready slot ≡ true
-    → IsOpen config n source old slot history
-still_open config n source old slot verdict history (inl h) ready = h
-still_open config n source old slot verdict history (inr h) ready = let none : false ≡ true = subst (λ (s : Slot). is_ready s ≡ true) h.0 ready in absurd (cc)
 
 pub record WasReady (config : Config) (n : ℕ) (source : Source) (old : Old) (notes : List Note) (settled : Settled) : Type 0 where
   pub slot : Slot
@@ -68,7 +64,7 @@ was_ready law config olds notes b n source old settled r ready is at =
     let q_same : q.0 ≡ s.slot = cc in
     record {
       slot = s.slot;
-      open_slot = still_open config n source old s.slot s.verdict (history_of n notes) s.stands is_ready_slot;
+      open_slot = come-open config n source old s.slot s.verdict (history_of n notes) s.stands is_ready_slot;
       ready = is_ready_slot;
       comes_to = subst (λ (z : Slot). settled_in source z ≡ Some settled) q_same (subst (λ (z : Source). settled_in z q.0 ≡ Some settled) source_same q.2);
     }

@@ -1,20 +1,18 @@
 -- The routes of a source's lists, beside what a run begins with.
-use Rattle.std.proofs.Common.{◌≡◌, ◌∙◌, refl, sym, ap, subst, ℕ, zero, suc, List, [], ◌∷◌, ◌++◌, length, map, Option, Some, None}
-use Rattle.std.specs.Prelude.{option_and_then, option_map, slice_get}
+use Rattle.std.proofs.Common.{◌≡◌, ◌∙◌, refl, sym, ap, subst, ℕ, List, [], ◌∷◌, ◌++◌, length, map, Option, Some}
+use Rattle.std.specs.Prelude.{option_and_then, slice_get}
 use Rattle.std.specs.List.{AllByRecursion as Each}
 use Rattle.acq_base.specs.Mirror.{World as Mirror}
 use Rattle.acq_base.specs.declared.installed.Old.{Old}
 use Rattle.acq_base.specs.declared.plan.Source.{Source}
-use Rattle.acq_base.specs.declared.plan.Target.{Target}
-use Rattle.acq_base.specs.declared.uri.ListName.{ListName}
 use Rattle.board_model.specs.Agreeing.{Agrees, IsMirrors, part_at, part_of}
-use Rattle.board_model.specs.Changes.{IsInstalled}
 use Rattle.board_model.specs.Ends.{ListEnd, ListEndsInRoute, walk_for}
-use Rattle.board_model.specs.Keys.{name_at, named}
+use Rattle.board_model.specs.Keys.{name_at}
 use Rattle.board_model.specs.RunLaws.{IsSourceAt}
 use Rattle.board_model.specs.Runs.{Note}
 use Rattle.board_model.specs.Slots.{Config}
 use Rattle.board_model.specs.Stands.{history_of}
+use Rattle.board_model.proofs.Agreement.{LiesBeside, lists-lie}
 use Rattle.update_model.specs.Faults.{AreAgreeing, SetsMadeAreNew}
 use Rattle.update_model.specs.Laws.{ListEnd as RouteEnd, SetsAreAdmissible}
 use Rattle.update_model.specs.Outcomes.{Directory, Parts, admitted, outcome, wanted_by}
@@ -22,33 +20,10 @@ use Rattle.update_model.specs.Points.{start}
 use Rattle.update_model.specs.Releases.{IsAdmissible, installed_release}
 use Rattle.update_model.specs.Walks.{Walk, IsRoute, release_walk, target_walk}
 use Rattle.update_model.specs.declared.end.End.{End}
-use Rattle.update_model.proofs.Carried.{each-at}
 use Rattle.run_model.specs.Laws.{NewSetsAreAdmissible, NewSetsAreMirrors}
 use Rattle.run_model.proofs.Hearing.{agrees_along, said_by}
-use Rattle.run_model.proofs.Names.{get_in}
 
 -- ---- beside what a run begins with
-
-target_of : (source : Source) (place : ℕ) (name : ListName) → name_at source place ≡ Some name → (k : ℕ) × ((target : Target) × (slice_get source.targets k ≡ Some target) × (target.name ≡ name))
-target_of source zero name e = absurd (cc)
-target_of source (suc k) name e = one (slice_get source.targets k) refl e
-  where
-    one : (o : Option Target) → slice_get source.targets k ≡ o → option_map (λ (target : Target). target.name) o ≡ Some name
-        → (k : ℕ) × ((target : Target) × (slice_get source.targets k ≡ Some target) × (target.name ≡ name))
-    one None is e = absurd (cc)
-    one (Some target) is e = (k, (target, is, cc))
-
-abbrev LiesBeside : Directory → Parts → Config → Old → ListEnd → Type 0
-LiesBeside dir parts config old l = (named old.lists l.wanted.name.0 ≡ dir l.wanted.name.0) × (config.sizes l.wanted.name.0 ≡ length (parts l.wanted.name.0))
-
-lists_lie : (dir : Directory) (parts : Parts) (config : Config) (source : Source) (old : Old) → IsInstalled source old dir → ((name : List ℕ) → config.sizes name ≡ length (parts name))
-    → (lists : List ListEnd) → Each (λ l. name_at source l.place ≡ Some l.wanted.name) lists → Each (LiesBeside dir parts config old) lists
-lists_lie dir parts config source old installed sizes [] places = tt
-lists_lie dir parts config source old installed sizes (l ∷ lists) places =
-    let target = target_of source l.place l.wanted.name places.0 in
-    let lies : named old.lists ((target.1).0).name.0 ≡ dir ((target.1).0).name.0 =
-    each-at (λ (t : Target). named old.lists t.name.0 ≡ dir t.name.0) source.targets (target.1).0 installed.lists (get_in source.targets target.0 (target.1).0 (target.1).1) in
-    ((subst (λ (x : ListName). named old.lists x.0 ≡ dir x.0) (target.1).2 lies, sizes l.wanted.name.0), lists_lie dir parts config source old installed sizes lists places.1)
 
 -- ---- routes that agree with a mirror
 
@@ -109,7 +84,7 @@ new_sets_are_mirrors law begun lists heard n source set mirror begins agrees cam
     let heard_first : Agrees mirror begun.parts config.sources came.notes =
     each_front (IsMirrors mirror begun.parts config.sources) came.notes came.later (subst (λ (ns : List Note). Agrees mirror begun.parts config.sources ns) came.so_far agrees) in
     let over = routes_over mirror lists begun.parts config n source came.former came.notes at.source_is heard_first comes.lists comes.routes
-    (lists_lie lists begun.parts config source came.former installed begins.over.sizes comes.lists comes.places) comes.places in
+    (lists-lie lists begun.parts config source came.former installed begins.over.sizes comes.lists comes.places) comes.places in
     let none : part_at begun.parts config.sources (record { source = n; place = 0 }) ≡ [] = ap (λ (s : Option Source). part_of begun.parts (option_and_then (λ source. name_at source 0) s)) at.source_is in
     let release = comes.release.told.agrees mirror []
     (agrees_along mirror [] config.settings.retries (start config.settings.retries (release_walk source)) (history_of n came.notes 0) comes.release.asks

@@ -30,7 +30,7 @@ use Rattle.update_model.specs.declared.settled.Verdict2.{Verdict2}
 use Rattle.board_model.proofs.Places.{bound}
 use Rattle.board_model.proofs.Resting.{olds-there}
 use Rattle.board_model.proofs.Events.{ready-slot}
-use Rattle.run_model.proofs.Ready.{still_open}
+use Rattle.board_model.proofs.Agreement.{come-open}
 use Rattle.run_jobs.proofs.Keeping.{falls_holds}
 use Rattle.update_engine.specs.Known.{Settling as Below}
 use Rattle.update_engine.specs.Session.{HasSettled, OnlySettles, installed_in}
@@ -72,7 +72,7 @@ as_open below config olds notes b n source slot r ready source_is slot_is =
     let same : at.slot ≡ slot = cc in
     record {
       old = old.0;
-      open_slot = still_open config n source old.0 slot at.verdict (history_of n notes) (subst (λ (s : Slot). SourceStands config n source old.0 s at.verdict (history_of n notes)) same at.stands)
+      open_slot = come-open config n source old.0 slot at.verdict (history_of n notes) (subst (λ (s : Slot). SourceStands config n source old.0 s at.verdict (history_of n notes)) same at.stands)
           (subst (λ (y : Slot). is_ready y ≡ true) x_same x.2);
       verdict = at.verdict;
       verdict_is = at.verdict_is;
