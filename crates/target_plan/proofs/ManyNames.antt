@@ -2,7 +2,7 @@
 use Rattle.std.proofs.Common.{◌≡◌, ◌≢◌, ℕ, ◌<◌, ◌≤◌, ◌==◌, ◌&&◌, ◌+◌, nat_lt, Bool, true, false, cond, List, [], ◌∷◌, ◌++◌, map, take, get_or, length, Some, None, refl, sym, ap, ◌∙◌, subst, codes, append_assoc, arith}
 use Rattle.std.specs.Prelude.{bytes_eq}
 use Rattle.std.specs.List.{All, AllPairs, flat_map}
-use Rattle.std.proofs.lemmas.Bool.{eqb-true}
+use Rattle.std.proofs.lemmas.Bool.{eqb-true, and_parts}
 use Rattle.std.proofs.lemmas.Bool.Decides.{nat_tests}
 use Rattle.std.proofs.lemmas.List.{map-append, length-map, take_more}
 use Rattle.std.proofs.lemmas.List.Elements.{All-head, All-tail}
@@ -13,10 +13,9 @@ use Rattle.source_lists.specs.declared.entry.Entry.{Entry}
 use Rattle.target_plan.specs.declared.checks.File.{File}
 use Rattle.target_plan.specs.declared.draft.Planned.{Planned}
 use Rattle.target_plan.specs.declared.error.PlanError.TheVariants.{LongName, TooMany}
-use Rattle.acq_base.specs.declared.uri.Scheme.{Scheme}
-use Rattle.acq_base.specs.declared.uri.Scheme.TheVariants.{Http, File as FileScheme}
 use Rattle.acq_base.specs.declared.uri.Uri.{Uri}
 use Rattle.acq_base.specs.Uri.{list_name, same_uri, scheme_index}
+use Rattle.acq_base.proofs.Uris.{scheme_is}
 use Rattle.uri_names.specs.Folder.{below_of}
 use Rattle.target_plan.specs.Drafts.{is_same_source, folder_of, file_uri, name_of, is_same_name, picked_of, lists_of, source_of, draft_of, file_of, files_of, files_in}
 use Rattle.target_plan.specs.Groups.{together}
@@ -112,27 +111,17 @@ module _ (pick : Pick) (settings : Settings) where
 abbrev pub folder_digest : Entry → ℕ
 folder_digest entry = digest_of (list_name (file_uri entry []))
 
-and-parts : (a b : Bool) → (a && b) ≡ true → (a ≡ true) × (b ≡ true)
-and-parts true b e = (refl, e)
-and-parts false b e = absurd cc
-
-schemes : (a b : Scheme) → (scheme_index a == scheme_index b) ≡ true → a ≡ b
-schemes Http Http e = refl
-schemes Http FileScheme e = absurd cc
-schemes FileScheme Http e = absurd cc
-schemes FileScheme FileScheme e = refl
-
 uris : (a b : Uri) → same_uri a b ≡ true → a ≡ b
 uris a b e =
     let s = scheme_index a.scheme == scheme_index b.scheme in
     let h = bytes_eq a.host b.host in
     let p = a.port == b.port in
     let q = bytes_eq a.path b.path in
-    let path = and-parts (s && h && p) q e in
-    let port = and-parts (s && h) p path.0 in
-    let host = and-parts s h port.0 in
+    let path = and_parts (s && h && p) q e in
+    let port = and_parts (s && h) p path.0 in
+    let host = and_parts s h port.0 in
     λ i. record {
-      scheme = schemes a.scheme b.scheme host.0 i;
+      scheme = scheme_is a.scheme b.scheme host.0 i;
       host = (bytes_eq-Decides a.host b.host).0 host.1 i;
       port = eqb-true a.port b.port port.1 i;
       path = (bytes_eq-Decides a.path b.path).0 path.1 i;
@@ -141,7 +130,7 @@ uris a b e =
 same-folder : (a b : Entry) → is_same_source a b ≡ true → folder_digest a ≡ folder_digest b
 unfolding is_same_source
 same-folder a b e =
-    let both = and-parts (same_uri a.uri b.uri) (bytes_eq a.suite b.suite) e in
+    let both = and_parts (same_uri a.uri b.uri) (bytes_eq a.suite b.suite) e in
     λ i. digest_of (list_name (below_of (uris a.uri b.uri both.0 i) (folder_of ((bytes_eq-Decides a.suite b.suite).0 both.1 i) ++ [])))
 
 pub folders_more : (entries : List Entry) (i : ℕ) (x : Entry) (mark : Mark) (old new : List ℕ) → i < length entries → x ≡ get_or entries i x → IsFolderMark x mark

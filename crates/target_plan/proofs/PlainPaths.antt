@@ -2,7 +2,7 @@
 use Rattle.std.proofs.Common.{◌≡◌, ℕ, ◌-◌, ◌==◌, Bool, true, false, not, ◌&&◌, ◌||◌, cond, List, [], ◌∷◌, ◌++◌, drop, length, slice_index_or, zero, suc, refl, sym, ap, ◌∙◌, codes, eq-eqb, eqb-true, append_assoc}
 use Rattle.std.specs.Prelude.{fold, if◌then◌else◌, bytes_eq}
 use Rattle.std.specs.List.{flat_map, slice_split, onto_first}
-use Rattle.std.proofs.lemmas.Bool.{and_parts, true≢false}
+use Rattle.std.proofs.lemmas.Bool.{and_parts, not-true}
 use Rattle.std.proofs.lemmas.List.{append-nil}
 use Rattle.std.proofs.lemmas.List.Concat.{flat_map-append}
 use Rattle.std.proofs.lemmas.Slice.Eq.{bytes_eq-Decides}
@@ -38,13 +38,9 @@ Lead true segments = AllLead segments
 Lead false [] = Unit {0}
 Lead false (segment ∷ segments) = AllLead segments
 
-not-false : (b : Bool) → not b ≡ true → b ≡ false
-not-false true e = absurd (true≢false (sym e))
-not-false false e = refl
-
 lead-onto : (x : Bool) (c : ℕ) (segments : List (List ℕ)) → not (x && (c == 46)) ≡ true → Lead false segments → Lead x (onto_first c segments)
-lead-onto true c [] e lead = (not-false (c == 46) e, tt)
-lead-onto true c (s ∷ segments) e lead = (not-false (c == 46) e, lead)
+lead-onto true c [] e lead = (not-true (c == 46) e, tt)
+lead-onto true c (s ∷ segments) e lead = (not-true (c == 46) e, lead)
 lead-onto false c [] e lead = tt
 lead-onto false c (s ∷ segments) e lead = lead
 

@@ -4,13 +4,14 @@ use Rattle.std.specs.Prelude.{◌&&◌, ◌||◌, not, if◌then◌else◌, byte
 use Rattle.std.specs.List.{All, filter, flat_map, list_any}
 use Rattle.std.proofs.lemmas.Bool.{or_left, or_right}
 use Rattle.std.proofs.lemmas.List.Folds.{list_any-append}
-use Rattle.std.proofs.lemmas.Slice.Eq.{bytes_eq-Decides}
 use Rattle.acq_base.specs.declared.plan.Kind.{Kind}
 use Rattle.acq_base.specs.declared.plan.Kind.TheVariants.{Packages, Sources, Translation}
 use Rattle.acq_base.specs.declared.plan.Source.{Source}
 use Rattle.acq_base.specs.declared.settings.Pick.{Pick}
 use Rattle.acq_base.specs.declared.settings.Settings.{Settings}
 use Rattle.acq_base.specs.Uri.{list_name}
+use Rattle.acq_base.proofs.Lists.{map_in}
+use Rattle.acq_base.proofs.Texts.{bytes_eq-true, bytes_eq-refl}
 use Rattle.uri_names.specs.Folder.{below_of}
 use Rattle.kept_hooks.specs.Picking.{is_switched_on, is_picked}
 use Rattle.source_lists.specs.declared.entry.Entry.{Entry}
@@ -63,12 +64,6 @@ module _ {X : Type 0} (u : X → Bool) where
       by true e rest left = rw e refl
       by false e rest left = ap (λ b. u x || b) (left e (first_of_each same xs) ∙ rest)
 
-same_bytes : (a b : List ℕ) → bytes_eq a b ≡ true → a ≡ b
-same_bytes a b = (bytes_eq-Decides a b).0
-
-bytes_same : (a : List ℕ) → bytes_eq a a ≡ true
-bytes_same a = (bytes_eq-Decides a a).1 refl
-
 -- ---- offers
 
 abbrev pair_with : Entry → List ℕ → Asked
@@ -90,7 +85,7 @@ module _ (settings : Settings) (t : List ℕ → Kind → Bool) where
         ap (λ (b : Bool). list_any asked_passes (if b then map (pair_with entry) (architectures settings entry) else [])) binary
         ∙ any_map asked_passes (pair_with entry) (architectures settings entry) ∙ any_there (λ (a : List ℕ). asked_passes (pair_with entry a)) (architectures settings entry) arch named e in
         any_map passes (λ (a : Asked). packages_of component a.1 a.0) (first_of_each is_same_arch asked)
-        ∙ any_first asked_passes is_same_arch (λ a b s. ap (λ (arch : List ℕ). t (component ++ codes "/binary-" ++ arch ++ codes "/Packages") (Packages arch)) (same_bytes a.0 b.0 s)) asked
+        ∙ any_first asked_passes is_same_arch (λ a b s. ap (λ (arch : List ℕ). t (component ++ codes "/binary-" ++ arch ++ codes "/Packages") (Packages arch)) (bytes_eq-true a.0 b.0 s)) asked
         ∙ any_flat asked_passes (asked_by settings) mentions
         ∙ any_there (λ (m : Mention). list_any asked_passes (asked_by settings m)) mentions (shown, entry) there own
 
@@ -155,11 +150,6 @@ module _ {X : Type 0} where
     by true s at = rw s (contains_behind y (filter p ys) x at)
     by false s at = rw s at
 
-contains_map : {X Y : Type 0} (f : X → Y) (xs : List X) (x : X) → Contains xs x → Contains (map f xs) (f x)
-contains_map f [] x at = absurd (let below = at.1 in omega (arith, below))
-contains_map f (y ∷ ys) x (zero, below, is) = (zero, omega arith, ap f is)
-contains_map f (y ∷ ys) x (suc k, below, is) = contains_behind (f y) (map f ys) (f x) (contains_map f ys x (k, omega (arith, below), is))
-
 contains_flat : {X Y : Type 0} (f : X → List Y) (xs : List X) (x : X) (y : Y) → Contains xs x → Contains (f x) y → Contains (flat_map f xs) y
 contains_flat f [] x y at of = absurd (let below = at.1 in omega (arith, below))
 contains_flat f (z ∷ zs) x y (zero, below, is) of = contains_left (f z) (flat_map f zs) y (subst (λ w. Contains (f w) y) (sym is) of)
@@ -179,12 +169,12 @@ module _ (settings : Settings) (t : List ℕ → Kind → Bool) where
       let mentions = flat_map mentions_of entries in
       let group : Mention → Mention × List Mention = λ first. (first, filter (is_same_component first) mentions) in
       let firsts = first_of_each is_same_component mentions in
-      let mention : Contains mentions (component, entry) = contains_flat mentions_of entries entry (component, entry) there (contains_map (λ (c : List ℕ). (c, entry)) entry.components component part) in
+      let mention : Contains mentions (component, entry) = contains_flat mentions_of entries entry (component, entry) there (map_in (λ (c : List ℕ). (c, entry)) entry.components component part) in
       any_flat (passes settings t) (component_offers settings) (map group firsts)
       ∙ any_map (λ g. list_any (passes settings t) (component_offers settings g)) group firsts
-      ∙ any_first (λ (m : Mention). of_component mentions m.0) is_same_component (λ a b s. ap (of_component mentions) (same_bytes a.0 b.0 s)) mentions
+      ∙ any_first (λ (m : Mention). of_component mentions m.0) is_same_component (λ a b s. ap (of_component mentions) (bytes_eq-true a.0 b.0 s)) mentions
       ∙ any_there (λ (m : Mention). of_component mentions m.0) mentions (component, entry) mention
-      (component_any settings t component (filter (λ (m : Mention). bytes_eq component m.0) mentions) entry component path kind (contains_filter (λ (m : Mention). bytes_eq component m.0) mentions (component, entry) mention (bytes_same component)) asks e)
+      (component_any settings t component (filter (λ (m : Mention). bytes_eq component m.0) mentions) entry component path kind (contains_filter (λ (m : Mention). bytes_eq component m.0) mentions (component, entry) mention (bytes_eq-refl component)) asks e)
 
   exact_any : (entries : List Entry) (entry : Entry) (path : List ℕ) (kind : Kind) → Contains entries entry → AsksExact settings entry path kind → t path kind ≡ true → list_any (passes settings t) (exact_offers settings entries) ≡ true
   unfolding exact_offers
@@ -216,7 +206,7 @@ module _ (pick : Pick) (first : Entry) (name : List ℕ) where
   lists_any : (settings : Settings) (offers : List Offer) → list_any (passes settings is_wanted) offers ≡ true → list_any has_name (lists_of pick first offers) ≡ true
   unfolding lists_of
   lists_any settings offers e =
-      any_first has_name is_same_name (λ a b s. ap (λ (n : List ℕ). bytes_eq n name) (same_bytes a.target.name.0 b.target.name.0 s)) (picked_of pick first offers)
+      any_first has_name is_same_name (λ a b s. ap (λ (n : List ℕ). bytes_eq n name) (bytes_eq-true a.target.name.0 b.target.name.0 s)) (picked_of pick first offers)
       ∙ any_filter has_name (λ (planned : Planned). is_picked pick planned.target) (map (planned_of first) offers)
       ∙ any_map (λ (planned : Planned). is_picked pick planned.target && has_name planned) (planned_of first) offers
       ∙ e
@@ -229,7 +219,7 @@ source_all pick settings entries first entry path kind stands named asks on =
     let name = list_name (below_of first.uri (folder_of first.suite ++ path)) in
     any_map (λ target. bytes_eq target.name.0 name) target_in (lists_of pick first offers)
     ∙ lists_any pick first name settings offers
-    (offers_any settings (is_wanted pick first name) first.suite members entry path kind (contains_filter (is_same_source first) entries entry stands named) asks (λ i. on i && bytes_same name i))
+    (offers_any settings (is_wanted pick first name) first.suite members entry path kind (contains_filter (is_same_source first) entries entry stands named) asks (λ i. on i && bytes_eq-refl name i))
 
 pub all_planned : (pick : Pick) (settings : Settings) (entries : List Entry) (sources : List Source) → sources ≡ map finished (map (draft_of pick settings) (together is_same_source entries)) → All (PlansAll pick settings entries) sources
 unfolding together

@@ -1,7 +1,8 @@
 -- A source is planned exactly where some entry names it.
-use Rattle.std.proofs.Common.{◌≡◌, ℕ, ◌<◌, zero, suc, length, map, get_or, Bool, true, false, ◌||◌, List, [], ◌∷◌, refl, sym, ap, ◌∙◌, subst, arith}
+use Rattle.std.proofs.Common.{◌≡◌, ℕ, ◌<◌, zero, suc, length, map, get_or, Bool, true, ◌||◌, List, [], ◌∷◌, refl, sym, ap, ◌∙◌, subst, arith}
 use Rattle.std.specs.List.{All, list_any, filter}
 use Rattle.std.specs.Cmp.{IsEquivalence}
+use Rattle.std.proofs.lemmas.Bool.{or_right}
 use Rattle.acq_base.specs.declared.plan.Source.{Source}
 use Rattle.acq_base.specs.declared.settings.Pick.{Pick}
 use Rattle.acq_base.specs.declared.settings.Settings.{Settings}
@@ -14,19 +15,15 @@ use Rattle.target_plan.proofs.Grouping.{has, has-first, laws_of_keys}
 use Rattle.target_plan.proofs.GroupLemmas.{key_total, same_key}
 use Rattle.target_plan.proofs.PlanTargets.{all-first, all-map-from}
 
-or-true : (b : Bool) → (b || true) ≡ true
-or-true true = refl
-or-true false = refl
-
 has-there : {T : Type 0} (same : T → T → Bool) (xs : List T) (y : T) (k : ℕ) (d : T) → k < length xs → same (get_or xs k d) y ≡ true → has same xs y ≡ true
 has-there same [] y k d within e = absurd (omega (arith, within))
 has-there same (x ∷ xs) y zero d within e = ap (λ (b : Bool). b || has same xs y) e
-has-there same (x ∷ xs) y (suc k) d within e = ap (λ (b : Bool). same x y || b) (has-there same xs y k d (omega (arith, within)) e) ∙ or-true (same x y)
+has-there same (x ∷ xs) y (suc k) d within e = ap (λ (b : Bool). same x y || b) (has-there same xs y k d (omega (arith, within)) e) ∙ or_right (same x y) true refl
 
 any-there : {T : Type 0} (test : T → Bool) (xs : List T) (k : ℕ) (d : T) → k < length xs → test (get_or xs k d) ≡ true → list_any test xs ≡ true
 any-there test [] k d within e = absurd (omega (arith, within))
 any-there test (x ∷ xs) zero d within e = ap (λ (b : Bool). b || list_any test xs) e
-any-there test (x ∷ xs) (suc k) d within e = ap (λ (b : Bool). test x || b) (any-there test xs k d (omega (arith, within)) e) ∙ or-true (test x)
+any-there test (x ∷ xs) (suc k) d within e = ap (λ (b : Bool). test x || b) (any-there test xs k d (omega (arith, within)) e) ∙ or_right (test x) true refl
 
 laws : IsEquivalence is_same_source
 laws = laws_of_keys is_same_source key_cmp key_total key_of same_key
