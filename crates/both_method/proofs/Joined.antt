@@ -7,6 +7,7 @@ use Rattle.acq_base.specs.declared.uri.Scheme.{Scheme}
 use Rattle.acq_base.specs.declared.uri.Scheme.TheVariants.{Http, File}
 use Rattle.acq_base.specs.Mirror.{World, answer_at}
 use Rattle.acq_base.specs.Uri.{same_uri, scheme_index}
+use Rattle.acq_base.proofs.Uris.{scheme_is}
 use Rattle.both_method.specs.BothMethod.{entries_of, joined}
 
 -- a URI of another scheme is another one
@@ -22,12 +23,6 @@ own_entries scheme uri rest is none (entry ∷ world) = by (own_entries scheme u
     by less true same = ap (λ a. if same_uri entry.0 uri then entry.1 else a) less
     by less false other = less ∙ ap (λ b. if b then entry.1 else answer_at world uri) (sym (other_uri entry.0 uri scheme is other))
 
-index_is : (a b : Scheme) → (scheme_index a == scheme_index b) ≡ true → a ≡ b
-index_is Http Http same = refl
-index_is Http File same = absurd cc
-index_is File Http same = absurd cc
-index_is File File same = refl
-
 -- those of another scheme don't
 other_entries : (scheme : Scheme) (uri : Uri) (rest : World) → (scheme_index scheme == scheme_index uri.scheme) ≡ false → (world : World) → answer_at (entries_of scheme world ++ rest) uri ≡ answer_at rest uri
 other_entries scheme uri rest other [] = refl
@@ -35,7 +30,7 @@ other_entries scheme uri rest other (entry ∷ world) = by (other_entries scheme
   where
     by : answer_at (entries_of scheme world ++ rest) uri ≡ answer_at rest uri → (b : Bool) → (scheme_index entry.0.scheme == scheme_index scheme) ≡ b → answer_at ((if b then entry ∷ entries_of scheme world else entries_of scheme world) ++ rest) uri ≡ answer_at rest uri
     by less true same =
-        let e : entry.0.scheme ≡ scheme = index_is entry.0.scheme scheme same in
+        let e : entry.0.scheme ≡ scheme = scheme_is entry.0.scheme scheme same in
         ap (λ b. if b then entry.1 else answer_at (entries_of scheme world ++ rest) uri) (other_uri entry.0 uri uri.scheme refl (ap (λ s. scheme_index s == scheme_index uri.scheme) e ∙ other))
         ∙ less
     by less false not_same = less

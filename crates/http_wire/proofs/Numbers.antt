@@ -1,29 +1,15 @@
 -- That digits are what std's `parse` reads.
-use Rattle.std.proofs.Common.{◌≡◌, ℕ, ◌<◌, ◌^◌, true, List, [], ◌∷◌, length, Result, Ok, Err, arith, rules}
-use Rattle.std.proofs.lemmas.Bool.{and_parts}
+use Rattle.std.proofs.Common.{◌≡◌, ℕ, ◌<◌, ◌^◌, true, List, length, Result, Ok, Err, arith}
 use Rattle.std.proofs.lemmas.Str.{IsUtf8-from_ascii}
-use Rattle.std.proofs.lemmas.Str.Ascii.{IsAscii-nil, IsAscii-cons}
-use Rattle.std.proofs.lemmas.Str.Parse.{IsNumeralModel, IsDigitsTest, numerals_by_value, parse_digits}
+use Rattle.std.proofs.lemmas.Str.Parse.{parse_digits}
 use Rattle.std.specs.Char.{is_ascii_digit}
 use Rattle.std.specs.List.{list_all}
 use Rattle.std.specs.Result.{result_ok, OkIff}
-use Rattle.std.specs.Str.{IsAscii, IsUtf8}
+use Rattle.std.specs.Str.{IsUtf8}
 use Rattle.std.specs.Str.Parse.{digits_value, ParsesUnsigned}
 use Rattle.std.proofs.lemmas.Bool.Decides.{nat_tests}
+use Rattle.acq_base.proofs.Numbers.{digits_ascii, numerals}
 use Rattle.http_wire.specs.Fields.{is_digits, number}
-
-digits_test : IsDigitsTest (λ ds. list_all is_ascii_digit ds ≡ true)
-digits_test = search rules
-
-own : IsNumeralModel (λ ds. list_all is_ascii_digit ds ≡ true) (digits_value 10)
-own = numerals_by_value _ digits_test
-
--- digits are ASCII, and so UTF-8
-digits_ascii : (text : List ℕ) → list_all is_ascii_digit text ≡ true → IsAscii text
-digits_ascii [] h = IsAscii-nil
-digits_ascii (c ∷ rest) h =
-    let p = and_parts (is_ascii_digit c) (list_all is_ascii_digit rest) h in
-    IsAscii-cons c rest (grind (arith, nat_tests)) (digits_ascii rest p.1)
 
 all_of : (text : List ℕ) → is_digits text ≡ true → list_all is_ascii_digit text ≡ true
 all_of text h = grind (arith, nat_tests)
@@ -37,4 +23,4 @@ number_from_ok_iff text (Ok x) h digits some = grind (arith, nat_tests)
 number_from_ok_iff text (Err e) h digits some = grind (arith, nat_tests)
 
 pub parsed_number : {E : Type 0} (text : List ℕ) (r : Result ℕ E) → ParsesUnsigned 64 10 text r → is_digits text ≡ true → result_ok r ≡ number text
-parsed_number text r h some = number_from_ok_iff text r (parse_digits own 64 text r h (all_of text some)) (all_of text some) some
+parsed_number text r h some = number_from_ok_iff text r (parse_digits numerals 64 text r h (all_of text some)) (all_of text some) some

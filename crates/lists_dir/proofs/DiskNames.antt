@@ -17,11 +17,10 @@ use Rattle.acq_base.specs.declared.plan.Target.{Target}
 use Rattle.acq_base.specs.declared.uri.Scheme.{Scheme}
 use Rattle.acq_base.specs.declared.uri.Scheme.TheVariants.{Http, File}
 use Rattle.acq_base.specs.declared.uri.Uri.{Uri}
+use Rattle.acq_base.proofs.Uris.{alphanumeric_small, length-name_byte}
 use Rattle.acq_outside.specs.Disk.{IsName}
 
 -- one character
-alphanumeric_small : (c : ℕ) → is_alphanumeric c ≡ true → c < 128
-alphanumeric_small c is = grind (arith, nat_tests)
 
 one_of_small : (c : ℕ) (marks : List ℕ) → list_all (λ d. nat_lt d 128) marks ≡ true → list_any (λ d. c == d) marks ≡ true → c < 128
 one_of_small c [] small is = absurd cc
@@ -69,14 +68,6 @@ byte_small c small = by (c == 47) (is_alphanumeric c || list_any (λ d. c == d) 
         IsAscii-cons 37 (digit_glyph false (c / 16) ∷ digit_glyph false (c % 16) ∷ []) (omega arith)
         (IsAscii-cons (digit_glyph false (c / 16)) (digit_glyph false (c % 16) ∷ []) (glyph_small (c / 16) high) (IsAscii-cons (digit_glyph false (c % 16)) [] (glyph_small (c % 16) low) IsAscii-nil))
 
-byte_some : (c : ℕ) → 1 ≤ length (name_byte c)
-byte_some c = by (c == 47) (is_alphanumeric c || list_any (λ d. c == d) (codes ".-+:"))
-  where
-    by : (t u : Bool) → 1 ≤ length (if t then 95 ∷ [] else if u then c ∷ [] else 37 ∷ digit_glyph false (c / 16) ∷ digit_glyph false (c % 16) ∷ [])
-    by true u = omega arith
-    by false true = omega arith
-    by false false = omega arith
-
 -- a text
 ascii_all : {P : ℕ → Type 0} (text : List ℕ) → ((c : ℕ) → P c → c < 128) → All P text → IsAscii text
 ascii_all [] small all = IsAscii-nil
@@ -95,7 +86,7 @@ name_ascii (c ∷ text) ascii = IsAscii-append (name_byte c) (flat_map name_byte
 
 name_some : (text : List ℕ) → 1 ≤ length text → 1 ≤ length (flat_map name_byte text)
 name_some [] some = absurd (omega arith)
-name_some (c ∷ text) some = omega (arith, byte_some c, length-append (name_byte c) (flat_map name_byte text))
+name_some (c ∷ text) some = omega (arith, length-name_byte c, length-append (name_byte c) (flat_map name_byte text))
 
 rooted_some : (path : List ℕ) → slice_get path 0 ≡ Some 47 → 1 ≤ length path
 rooted_some [] rooted = absurd cc

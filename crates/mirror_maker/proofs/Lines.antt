@@ -4,7 +4,7 @@ use Rattle.std.specs.Int.{IsInRange}
 use Rattle.std.specs.List.{AllByRecursion as Each, list_all, list_any}
 use Rattle.std.specs.Str.Parse.{AllDigits}
 use Rattle.std.proofs.Math.Seq.{get_or-append_seam, take-append_seam}
-use Rattle.std.proofs.lemmas.Bool.{and_parts, ne_eqb}
+use Rattle.std.proofs.lemmas.Bool.{and_parts, ne_eqb, not-true}
 use Rattle.std.proofs.lemmas.Fmt.{decimal_is_IsNumeral}
 use Rattle.std.proofs.lemmas.List.Folds.{list_all-append}
 use Rattle.std.proofs.lemmas.Str.Parse.{tells_digits}
@@ -49,15 +49,11 @@ digit_inside c digit =
 pub number_line : (n : ℕ) → n < 2 ^ 64 → IsLine (decimal n)
 number_line n fits = digits_pass is_inside digit_inside (decimal n) (decimal_is_IsNumeral n fits).0.1
 
-is_off : (b : Bool) → not b ≡ true → b ≡ false
-is_off true h = absurd (cc)
-is_off false h = refl
-
 first_line : (line rest : List ℕ) → IsLine line → file_lines (line ++ 10 ∷ rest) ≡ ended line ∷ file_lines rest
 first_line [] rest plain = refl
 first_line (c ∷ line) rest plain =
     let parts = and_parts (is_inside c) (list_all is_inside line) plain in
-    let other : (c == 10) ≡ false = is_off (c == 10) parts.0 in
+    let other : (c == 10) ≡ false = not-true (c == 10) parts.0 in
     rw other (ap (in_front c) (first_line line rest parts.1))
 
 pub lines_of : (lines : List (List ℕ)) → Each IsLine lines → file_lines (with_feeds lines) ≡ map ended lines

@@ -4,7 +4,7 @@ use Rattle.std.specs.List.{AllByRecursion as Each, AllPairs, list_all, slice_get
 use Rattle.std.specs.Int.{byte_at, bytes_high_first, to_be_bytes, w32}
 use Rattle.std.proofs.lemmas.Bool.{and_parts, cases_Bool, eqb-false}
 use Rattle.std.proofs.lemmas.Bool.Decides.{nat_tests}
-use Rattle.std.proofs.lemmas.List.Elements.{All-nil, All-cons, All-head, All-tail, All-append, All-get_or, All-weaker, All-from_recursion}
+use Rattle.std.proofs.lemmas.List.Elements.{All-nil, All-cons, All-head, All-tail, All-append, All-weaker, All-from_recursion}
 use Rattle.std.proofs.lemmas.List.Kept.{AllPairs-cons}
 use Rattle.std.proofs.lemmas.List.Sums.{AllPass-from_list_all}
 use Rattle.std.proofs.lemmas.Option.{same_Some}
@@ -19,6 +19,7 @@ use Rattle.acq_base.specs.declared.fetch.Answer.{Answer}
 use Rattle.acq_base.specs.declared.fetch.Answer.TheVariants.{Served, Moved}
 use Rattle.acq_base.specs.declared.fetch.Mirror.{Mirror}
 use Rattle.acq_base.specs.declared.uri.Uri.{Uri}
+use Rattle.acq_base.proofs.Uris.{digit_fits}
 use Rattle.mirror_maker.specs.Made.{first_before, first_mirror, lists_in, second_before, second_mirror}
 use Rattle.mirror_maker.specs.Rows.{first_rows, hash_path, list_rows, patch_rows, release_rows, second_rows, uri_of}
 
@@ -69,9 +70,6 @@ sha_bytes : (file : List ℕ) → All IsByte (sha256 file)
 unfolding sha256
 sha_bytes file = digest_is_bytes (final_hash initial_hash_256 file) 8
 
-digit : (k : ℕ) → k < 16 → IsUriCharacter (slice_index lower_digits k)
-digit k below = All-get_or IsUriCharacter lower_digits k 0 below (AllPass-from_list_all is_uri_character lower_digits refl)
-
 digits : (bytes : List ℕ) → All IsByte bytes → All IsUriCharacter (encode_lower bytes)
 unfolding encode_with
 digits [] all = All-nil IsUriCharacter
@@ -79,8 +77,8 @@ digits (b ∷ bytes) all =
     let byte : b < 256 = All-head IsByte b bytes all in
     let high : b / 16 < 16 = omega (arith, byte) in
     let low : b % 16 < 16 = omega arith in
-    All-cons IsUriCharacter (slice_index lower_digits (b / 16)) (slice_index lower_digits (b % 16) ∷ encode_lower bytes) (digit (b / 16) high)
-    (All-cons IsUriCharacter (slice_index lower_digits (b % 16)) (encode_lower bytes) (digit (b % 16) low) (digits bytes (All-tail IsByte b bytes all)))
+    All-cons IsUriCharacter (slice_index lower_digits (b / 16)) (slice_index lower_digits (b % 16) ∷ encode_lower bytes) (digit_fits (b / 16) high)
+    (All-cons IsUriCharacter (slice_index lower_digits (b % 16)) (encode_lower bytes) (digit_fits (b % 16) low) (digits bytes (All-tail IsByte b bytes all)))
 
 length-hash : (list : List ℕ) → length (hash_path list) ≡ 108
 unfolding hash_path
