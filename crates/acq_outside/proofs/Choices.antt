@@ -3,6 +3,7 @@ use Rattle.std.proofs.Common.{◌≡◌, refl, sym, ap, ◌∙◌, arith, ℕ, z
 use Rattle.std.proofs.Math.Path.{fun_ext}
 use Rattle.std.proofs.lemmas.List.{append-nil}
 use Rattle.std.proofs.lemmas.Bool.Decides.{nat_tests}
+use Rattle.std.proofs.lemmas.Bool.{and_parts}
 use Rattle.acq_outside.specs.Disk.{Files}
 use Rattle.acq_outside.specs.Crash.{State, Fits, FitsAll, IsOutcome, IsPart, none, left_out, taken, IsImage, IsSound, file_at, all_renamed}
 use Rattle.acq_outside.specs.Choice.{next_byte, next_rest, Drawn, put_first, drawn_part, cell_byte, drawn_bytes, drawn_files, image_of, AreBytes, HasBytes}
@@ -27,12 +28,8 @@ fits_case : (t : Bool) (cells : List (Option ℕ)) (ended further : Drawn (List 
 fits_case true cells ended further a b = a
 fits_case false cells ended further a b = b
 
-second_holds : (a b : Bool) → (a && b) ≡ true → b ≡ true
-second_holds true b is = is
-second_holds false b is = absurd cc
-
 may_end : (a : Bool) (least : ℕ) → (a && nat_eq least 0) ≡ true → least ≡ 0
-may_end a least is = let zero_is : nat_eq least 0 ≡ true = second_holds a (nat_eq least 0) is in grind (arith, nat_tests)
+may_end a least is = let zero_is : nat_eq least 0 ≡ true = (and_parts a (nat_eq least 0) is).1 in grind (arith, nat_tests)
 
 drawn_long : (whole : List ℕ) (least : ℕ) (cells : List (Option ℕ)) (rest : List ℕ) → least ≤ length cells → least ≤ length (drawn_bytes whole least cells rest).value
 drawn_long whole least [] rest within = within

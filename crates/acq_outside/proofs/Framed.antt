@@ -1,8 +1,9 @@
 -- The frame over calls one after another.
-use Rattle.std.proofs.Common.{◌∙◌, arith, ℕ, Bool, List, Ok}
+use Rattle.std.proofs.Common.{◌≡◌, ◌∙◌, arith, ℕ, Bool, List, Ok}
 use Rattle.acq_outside.specs.Crash.{State}
 use Rattle.acq_outside.specs.Disk.{Files}
 use Rattle.acq_outside.specs.Frame.{StaysBy, StaysCountingBy, ReadsBy, ReadsCountingBy}
+use Rattle.acq_outside.specs.Count.{Rose, one_more}
 
 -- one more call that told no fault
 pub stayed_on : {D T E : Type 0} {faults holds : D → ℕ} {tells : D → Bool} {a b c : D} {x : T} → StaysBy {T = Unit {0}} {E = Unit {0}} faults holds tells a b (Ok tt) → StaysBy {T = T} {E = E} faults holds tells b c (Ok x)
@@ -36,3 +37,7 @@ read_on_counting so_far now = record {
   same = now.same ∙ so_far.same;
   still = now.still ∙ so_far.still;
 }
+
+-- one more fault is counted
+pub rises : (n m : ℕ) → m ≡ one_more n → Rose n m
+rises n m is = grind arith

@@ -4,7 +4,7 @@ use Rattle.acq_outside.specs.Crash.{State, IsSound, AllSound, IsTorn, Goes, afte
 use Rattle.acq_outside.specs.Moments.{Stands, Each, Since, From}
 use Rattle.acq_outside.specs.declared.change.Change.{Change}
 
-each_append : (P : State → Type 0) (a b : List State) → Each P a → Each P b → Each P (a ++ b)
+pub each_append : (P : State → Type 0) (a b : List State) → Each P a → Each P b → Each P (a ++ b)
 each_append P [] b in_a in_b = in_b
 each_append P (s ∷ a) b in_a in_b = (in_a.0, each_append P a b in_a.1 in_b)
 
@@ -51,7 +51,7 @@ onward R steps old (s ∷ past) new first later = record {
   each = each_append (From R old) later.states first.states (each_map (R s) (From R old) later.states (λ t now. from_earlier R steps old first.states s t past first.joined first.each now) later.each) first.each;
 }
 
-newest_of : (P : State → Type 0) (old states new : List State) → new ≡ states ++ old → Each P states → Stands P old → Stands P new
+pub newest_of : (P : State → Type 0) (old states new : List State) → new ≡ states ++ old → Each P states → Stands P old → Stands P new
 newest_of P old [] new is each stands = subst (λ (l : List State). Stands P l) (sym is) stands
 newest_of P old (s ∷ states) new is each stands = subst (λ (l : List State). Stands P l) (sym is) each.0
 

@@ -1,13 +1,13 @@
 -- A method's word is said under one's own count.
-use Rattle.std.proofs.Common.{◌≡◌, ◌∙◌, ℕ, Option, Some, None, IfSome, refl, sym, ap, subst, arith}
+use Rattle.std.proofs.Common.{◌≡◌, ◌∙◌, ℕ, Option, Some, None, IfSome, refl, sym, ap, subst}
 use Rattle.acq_base.specs.declared.fetch.Answer.{Answer}
 use Rattle.acq_base.specs.declared.fetch.Reply.TheVariants as replies
 use Rattle.acq_base.specs.Mirror.{World, answer_at}
-use Rattle.acq_outside.specs.Count.{Rose, one_more}
 use Rattle.acq_outside.specs.declared.word.Fetch.{Fetch}
 use Rattle.acq_outside.specs.declared.word.Word.{Word}
 use Rattle.acq_outside.specs.declared.word.Word.TheVariants.{Piece, Done, Other}
 use Rattle.acq_outside.specs.Word.{HasSize, IsPieceOf, IsWord, Tells}
+use Rattle.acq_outside.proofs.Framed.{rises}
 use Rattle.acq_base.specs.declared.uri.Scheme.{Scheme}
 use Rattle.acq_base.specs.declared.uri.Scheme.TheVariants.{Http, File}
 use Rattle.both_method.specs.BothMethod.{BothState, IsTurn, joined, own_count, own_word, under_of}
@@ -16,9 +16,6 @@ use Rattle.both_method.proofs.Joined.{told_file, told_http}
 -- what is told of one mirror is told of another
 abbrev pub Carries : Option World → Option World → Fetch → Type 1
 Carries world all fetch = (P : Answer → Type 0) → IfSome world (λ entries. P (answer_at entries fetch.job.uri)) → IfSome all (λ entries. P (answer_at entries fetch.job.uri))
-
-rises : (n m : ℕ) → m ≡ one_more n → Rose n m
-rises n m is = grind arith
 
 own_quiet : (n m : ℕ) (all : Option World) (fetch : Fetch) (under : Option Fetch) (word : Word) → m ≡ n → IsWord n n all fetch under word → IsWord n m all fetch under word
 own_quiet n m all fetch under word same is = subst (λ k. IsWord n k all fetch under word) (sym same) is

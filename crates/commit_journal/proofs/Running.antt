@@ -3,7 +3,7 @@ use Rattle.std.proofs.Common.{◌≡◌, ⊎_elim, refl, arith, ℕ, suc, ◌≤
 use Rattle.acq_outside.specs.Disk.{Files}
 use Rattle.acq_outside.specs.Crash.{State}
 use Rattle.acq_outside.specs.Moments.{Stands, Since}
-use Rattle.acq_outside.proofs.Going.{no_time, since_map}
+use Rattle.acq_outside.proofs.Going.{no_time, since_map, newest_of}
 use Rattle.journal_model.specs.Names.{journal}
 use Rattle.journal_model.specs.Reading.{gate_in}
 use Rattle.journal_model.specs.Reopen.{opened, reopened, Leaves, LeavesEither}
@@ -15,7 +15,7 @@ use Rattle.commit_journal.specs.Commits.{IsReadyOver, KeepsLists, ReadyAfter, Ke
 use Rattle.commit_journal.specs.Opening.{damage_at, damage_of}
 use Rattle.commit_journal.specs.Runs.{Commit, HasBegun, HasCommitted, Moment, rests, waits, prepares, begins, acknowledges, LeavesFirst}
 use Rattle.commit_journal.proofs.Prepares.{rest_on, keeps_lists}
-use Rattle.commit_journal.proofs.Turned.{since_more, newest_of}
+use Rattle.commit_journal.proofs.Turned.{since_more}
 
 pub stands_as : (P Q : State → Type 0) (now : List State) → ((s : State) → P s → Q s) → Stands P now → Stands Q now
 stands_as P Q [] change stands = tt

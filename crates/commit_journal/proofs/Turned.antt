@@ -2,8 +2,8 @@
 use Rattle.std.proofs.Common.{◌≡◌, ◌⊎◌, inl, inr, refl, sym, ap, ◌∙◌, subst, arith, ℕ, ◌+◌, ◌≤◌, List, [], ◌∷◌, ◌++◌, length, Option, Some, None, Result, Ok, Err, OnOk, append_assoc, length-append}
 use Rattle.acq_outside.specs.Disk.{Files}
 use Rattle.acq_outside.specs.Crash.{State, IsSound, AllSound, reads}
-use Rattle.acq_outside.specs.Moments.{Stands, Since, From, Each}
-use Rattle.acq_outside.proofs.Going.{no_time, since_map, handed_on}
+use Rattle.acq_outside.specs.Moments.{Stands, Since, From}
+use Rattle.acq_outside.proofs.Going.{no_time, since_map, handed_on, each_append, newest_of}
 use Rattle.acq_outside.proofs.Crashes.{reads_left}
 use Rattle.journal_model.specs.Names.{partial}
 use Rattle.journal_model.specs.Spelling.{all_steps}
@@ -22,10 +22,6 @@ use Rattle.commit_journal.specs.Turning.{IsOpeningTo, OpensAt, WritesOver, Opens
 use Rattle.commit_journal.proofs.Recordable.{all_in}
 use Rattle.commit_journal.proofs.Lists.{idle_rests, reads_stand}
 use Rattle.commit_journal.proofs.Opens.{since_first, KeepsSettled}
-
-each_append : (P : State → Type 0) (a b : List State) → Each P a → Each P b → Each P (a ++ b)
-each_append P [] b in_a in_b = in_b
-each_append P (s ∷ a) b in_a in_b = (in_a.0, each_append P a b in_a.1 in_b)
 
 pub since_more : (P : State → Type 0) (old mid new : List State) → Since old mid P → Since mid new P → Since old new P
 since_more P old mid new first later = record {
@@ -91,11 +87,6 @@ pub keeps_third : (groups : List (List Change)) (steps : List (List Filled)) (ol
 keeps_third groups steps old mid new keeps over since =
     since_more (KeepsOrSteps groups steps old) old mid new keeps
     (since_map (OpensOver groups steps old) (KeepsOrSteps groups steps old) mid new (λ s over_s folder ready image is. inr (over_s folder ready image is)) (over_on groups steps old mid new over since))
-
--- at the end
-pub newest_of : (P : State → Type 0) (old states new : List State) → new ≡ states ++ old → Each P states → Stands P old → Stands P new
-newest_of P old [] new is each stands = subst (λ (l : List State). Stands P l) (sym is) stands
-newest_of P old (s ∷ states) new is each stands = subst (λ (l : List State). Stands P l) (sym is) each.0
 
 rest_at : (to : Files) (t : State) → IsSound t → IsIdle t → IsSettled t → Leaves to t → IsAtRest to t
 rest_at to t sound idle settled leaves =

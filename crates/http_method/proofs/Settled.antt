@@ -16,6 +16,7 @@ use Rattle.acq_base.specs.declared.fetch.Answer.TheVariants as answers
 use Rattle.acq_base.specs.Mirror.{World, answer_at}
 use Rattle.acq_base.specs.Uri.{same_uri, scheme_index}
 use Rattle.acq_outside.specs.Word.{IsWord, Tells, begun}
+use Rattle.acq_outside.proofs.Framed.{rises}
 use Rattle.http_method.specs.Line.{Line}
 use Rattle.http_method.specs.declared.reading.Place.{Place}
 use Rattle.http_method.specs.declared.reading.Reading.{Reading}
@@ -23,9 +24,6 @@ use Rattle.http_method.specs.declared.reading.Said.{Said}
 use Rattle.http_method.specs.HttpMethod.{HttpState, CountsFault}
 use Rattle.http_method.specs.Reading.{Hears, IsTold, SaysOn, has_no_file, is_http, under_of, world_of}
 use Rattle.http_method.proofs.Mirrors.{means_fault, told_word, untold_word}
-
-rises : (n m : ℕ) → m ≡ one_more n → Rose n m
-rises n m is = grind arith
 
 fault_word : (world : Option World) (n k m : ℕ) (fetch : Fetch) → k ≡ n → m ≡ one_more n → IsWord n m world fetch None (Other (replies.Fault k m))
 fault_word world n k m fetch same rose =
