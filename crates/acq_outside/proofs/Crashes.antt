@@ -1,18 +1,18 @@
 -- What a crash leaves after each call, and within one.
-use Rattle.std.proofs.Common.{◌≡◌, ◌≢◌, ◌⊎◌, inl, inr, refl, sym, ap, subst, ◌∙◌, ⊎_elim, arith, ℕ, zero, suc, ◌+◌, ◌-◌, ◌<◌, ◌≤◌, min, List, [], ◌∷◌, ◌++◌, length, get_or, set, drop, Option, Some, None, option_map}
+use Rattle.std.proofs.Common.{◌≡◌, ◌≢◌, inl, inr, refl, sym, ap, subst, ◌∙◌, ⊎_elim, arith, ℕ, zero, suc, ◌-◌, ◌<◌, ◌≤◌, min, List, [], ◌∷◌, ◌++◌, length, get_or, set, drop, Option, Some, None, option_map}
 use Rattle.std.proofs.lemmas.Bool.{cases_lt, cases_eq}
 use Rattle.std.proofs.lemmas.List.{get_or-set_same, get_or-set_other, set_past, get_or_append_left, get_or-append_right, get_or_past}
 use Rattle.acq_outside.specs.Disk.{Files}
-use Rattle.acq_outside.specs.Crash.{State, IsOutcome, FitsAll, IsPart, none, left_out, taken, IsImage, IsSound, IsTorn, Names, renamed, all_renamed, names_of, file_at, no_file, on_file, with_change, cut_or_made, after, changed_file, synced, all_any, file_written, file_cut, reads, seen_at}
-use Rattle.acq_outside.specs.Moments.{SyncLasts, NamesLast, SyncsShrink, LeavesApart, LeavesAsDone, IsSync, MayBeLost, IsLeftWithin, LeavesWithin}
+use Rattle.acq_outside.specs.Crash.{State, IsOutcome, FitsAll, IsPart, none, left_out, taken, IsImage, IsSound, Names, all_renamed, names_of, file_at, no_file, on_file, with_change, cut_or_made, after, changed_file, synced, all_any, file_written, file_cut, reads, seen_at}
+use Rattle.acq_outside.specs.Moments.{SyncLasts, NamesLast, SyncsShrink, LeavesApart, LeavesAsDone, IsSync, MayBeLost, LeavesWithin}
 use Rattle.acq_outside.specs.declared.change.Change.{Change}
 use Rattle.acq_outside.specs.declared.change.Change.TheVariants.{Write, Cut, Sync, Rename, Remove, SyncNames}
 use Rattle.acq_outside.specs.declared.state.FileState.{FileState}
 use Rattle.acq_outside.specs.declared.state.NameChange.{NameChange}
 use Rattle.acq_outside.specs.declared.state.NameChange.TheVariants.{Made, Moved, Removed}
-use Rattle.acq_outside.specs.Outcomes.{only_synced, over, lay, over_is}
-use Rattle.acq_outside.specs.NamesApart.{part_apart, part_all}
-use Rattle.acq_outside.specs.Traces.{apart_now}
+use Rattle.acq_outside.proofs.Outcomes.{only_synced, over, lay, over_is}
+use Rattle.acq_outside.proofs.NamesApart.{part_apart, part_all}
+use Rattle.acq_outside.proofs.Traces.{apart_now}
 
 pub none_of_none : (some all : List NameChange) → IsPart some all → all ≡ [] → some ≡ []
 none_of_none some all none is = refl

@@ -3,19 +3,13 @@
 pub mod Crashes
 pub mod Going
 pub mod Framed
--- Of this crate's own functions.
+-- And the laws of a disk that keeps its changes: each state that it has had is sound, and the newest is what reads give.
+pub mod Outcomes
+pub mod NamesApart
+pub mod Traces
+-- And what a finite map of files is after a change, and how a choice is read.
 pub mod Files
-pub mod WholeFiles
-pub mod HeldFiles
-pub mod Torn
-pub mod Worlds
-pub mod SampleUri
-pub mod Named
-pub mod Trace
 pub mod Choices
-pub mod Cells
-pub mod NameMap
-pub mod Replaying
-pub mod Images
-pub mod MapWords
-pub mod Joining
+-- Of this crate's own functions.
+mod WholeFiles
+mod Joining

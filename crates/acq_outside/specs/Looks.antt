@@ -1,5 +1,5 @@
 -- The frame of a call, for any configuration folder.
-use Rattle.std.specs.Prelude.{Result, Ok}
+use Rattle.std.specs.Prelude.{Result}
 use Rattle.acq_outside.specs.Frame.{LooksCountingBy}
 use Rattle.acq_outside.specs.declared.etc.Etc.{Ghosts}
 

@@ -6,8 +6,8 @@ use Rattle.std.proofs.lemmas.List.{get_or-set_same, get_or_past, append-nil}
 use Rattle.acq_outside.specs.Disk.{Files, spliced}
 use Rattle.acq_outside.specs.Crash.{State, Names, IsOutcome, IsPart, none, left_out, taken, IsImage, IsSound, AllSound, Goes, after, changed_file, on_file, with_change, cut_or_made, file_at, no_file, names_of, reads, seen_at, synced, file_written, file_cut, all_renamed, with_name, moved_name}
 use Rattle.acq_outside.specs.Moments.{Stands, Since, From}
-use Rattle.acq_outside.specs.Outcomes.{only_synced}
-use Rattle.acq_outside.specs.Traces.{apart_now, all_push}
+use Rattle.acq_outside.proofs.Outcomes.{only_synced}
+use Rattle.acq_outside.proofs.Traces.{apart_now, all_push}
 use Rattle.acq_outside.proofs.Crashes.{made_files, none_of_none}
 use Rattle.acq_outside.proofs.Going.{goes}
 use Rattle.acq_outside.specs.declared.change.Change.{Change}

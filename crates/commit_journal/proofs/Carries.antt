@@ -7,8 +7,8 @@ use Rattle.std.proofs.lemmas.List.{get_or-set_same, get_or-set_other}
 use Rattle.acq_outside.specs.Disk.{Files, same_name}
 use Rattle.acq_outside.specs.Crash.{State, Names, IsOutcome, FitsAll, IsImage, IsSound, AllSound, IsTorn, Goes, after, changed_file, on_file, with_change, file_at, no_file, names_of, all_renamed, reads, synced, all_kept, file_written}
 use Rattle.acq_outside.specs.Moments.{Stands, Since, From}
-use Rattle.acq_outside.specs.Outcomes.{only_kept, only_synced, synced_outcome}
-use Rattle.acq_outside.specs.Traces.{apart_now, all_push}
+use Rattle.acq_outside.proofs.Outcomes.{only_kept, only_synced, synced_outcome}
+use Rattle.acq_outside.proofs.Traces.{apart_now, all_push}
 use Rattle.acq_outside.proofs.Crashes.{reads_left, none_of_none}
 use Rattle.acq_outside.proofs.Going.{goes}
 use Rattle.acq_outside.specs.declared.change.Change.TheVariants.{Write, Sync, SyncNames}

@@ -3,7 +3,7 @@ use Rattle.std.proofs.Common.{◌≡◌, ◌≢◌, inl, refl, sym, ap, ◌∙�
 use Rattle.acq_outside.specs.Disk.{Files, with_file, spliced, moved_file, after_write, after_cut, after_rename, after_remove}
 use Rattle.acq_outside.specs.Crash.{State, IsOutcome, IsSound, AllSound, IsShown, names_of, reads, file_at}
 use Rattle.acq_outside.specs.Moments.{Stands, Since, From}
-use Rattle.acq_outside.specs.Outcomes.{only_synced}
+use Rattle.acq_outside.proofs.Outcomes.{only_synced}
 use Rattle.acq_outside.proofs.Crashes.{reads_left}
 use Rattle.acq_outside.proofs.Going.{handed_on}
 use Rattle.acq_outside.specs.declared.state.FileState.{FileState}

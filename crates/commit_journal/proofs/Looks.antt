@@ -4,8 +4,8 @@ use Rattle.std.proofs.lemmas.List.{get_or-set_same}
 use Rattle.acq_outside.specs.Disk.{Files}
 use Rattle.acq_outside.specs.Crash.{State, Names, IsOutcome, IsSound, AllSound, IsShown, Goes, on_file, file_at, no_file, reads, seen_at, synced}
 use Rattle.acq_outside.specs.Moments.{Stands, Since, From}
-use Rattle.acq_outside.specs.Outcomes.{only_synced}
-use Rattle.acq_outside.specs.Traces.{apart_now}
+use Rattle.acq_outside.proofs.Outcomes.{only_synced}
+use Rattle.acq_outside.proofs.Traces.{apart_now}
 use Rattle.acq_outside.specs.declared.change.Change.TheVariants.{Sync, SyncNames}
 use Rattle.acq_outside.specs.declared.state.FileState.{FileState}
 use Rattle.acq_outside.specs.declared.state.NameChange.{NameChange}

@@ -5,7 +5,7 @@ use Rattle.std.proofs.lemmas.Option.{same_Some}
 use Rattle.acq_outside.specs.Disk.{Files, spliced}
 use Rattle.acq_outside.specs.Crash.{State, Names, IsSound, AllSound, IsShown, IsTorn, Goes, after, changed_file, on_file, cut_or_made, file_at, no_file, names_of, all_renamed, reads, seen_at, synced, all_any, file_written, file_cut}
 use Rattle.acq_outside.specs.Moments.{Stands, Since}
-use Rattle.acq_outside.specs.Traces.{apart_now}
+use Rattle.acq_outside.proofs.Traces.{apart_now}
 use Rattle.acq_outside.proofs.Crashes.{names_back, leaves_as_done}
 use Rattle.acq_outside.proofs.Going.{goes}
 use Rattle.acq_outside.specs.declared.change.Change.TheVariants.{Write, Cut, Sync, SyncNames}

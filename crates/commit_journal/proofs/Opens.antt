@@ -7,8 +7,8 @@ use Rattle.std.proofs.lemmas.List.{get_or-set_same, get_or-set_other}
 use Rattle.acq_outside.specs.Disk.{Files}
 use Rattle.acq_outside.specs.Crash.{State, Names, IsOutcome, FitsAll, IsImage, IsSound, AllSound, IsTorn, Goes, after, on_file, file_at, no_file, names_of, all_renamed, reads, seen_at, synced, all_kept, file_written}
 use Rattle.acq_outside.specs.Moments.{Stands, Since, From}
-use Rattle.acq_outside.specs.Outcomes.{only_kept, only_synced, synced_outcome}
-use Rattle.acq_outside.specs.Traces.{apart_now}
+use Rattle.acq_outside.proofs.Outcomes.{only_kept, only_synced, synced_outcome}
+use Rattle.acq_outside.proofs.Traces.{apart_now}
 use Rattle.acq_outside.proofs.Crashes.{file_back, leaves_as_done}
 use Rattle.acq_outside.proofs.Going.{goes, no_time, since_map}
 use Rattle.acq_outside.specs.declared.change.Change as DiskChange

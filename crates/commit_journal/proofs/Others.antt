@@ -1,7 +1,7 @@
 -- A call leaves the files of all names but its own as they are.
 use Rattle.std.proofs.Common.{◌≡◌, ◌≢◌, inl, inr, refl, sym, ap, ◌∙◌, subst, ℕ, List, [], ◌∷◌, Option, Some, None, option_map, Result, Ok, Err}
 use Rattle.acq_outside.specs.Crash.{State, Names, IsSound, AllSound, IsTorn, Goes, after, changed_file, with_change, file_at, names_of, all_renamed, renamed, with_name, moved_name}
-use Rattle.acq_outside.specs.Traces.{all_push}
+use Rattle.acq_outside.proofs.Traces.{all_push}
 use Rattle.acq_outside.specs.declared.change.Change.{Change}
 use Rattle.acq_outside.specs.declared.change.Change.TheVariants.{Write, Cut, Sync, Rename, Remove, SyncNames}
 use Rattle.acq_outside.specs.declared.state.FileState.{FileState}

@@ -4,7 +4,7 @@ use Rattle.std.proofs.Math.Path.{fun_ext}
 use Rattle.std.proofs.lemmas.Slice.Eq.{bytes_eq-Decides}
 use Rattle.acq_outside.specs.Disk.{Files, same_name, with_file}
 use Rattle.acq_outside.specs.Crash.{State, Names, IsOutcome, IsImage, file_at, all_renamed, synced}
-use Rattle.acq_outside.specs.Outcomes.{only_synced}
+use Rattle.acq_outside.proofs.Outcomes.{only_synced}
 use Rattle.acq_outside.proofs.Crashes.{none_of_none}
 use Rattle.acq_outside.specs.declared.state.FileState.{FileState}
 use Rattle.acq_outside.specs.declared.state.NameChange.{NameChange}

@@ -5,10 +5,10 @@ use Rattle.std.proofs.lemmas.Bool.Decides.{nat_tests}
 use Rattle.acq_base.specs.Mirror.{World}
 use Rattle.acq_outside.specs.Crash.{AllSound, IsShown, State}
 use Rattle.acq_outside.specs.Disk.{Files}
-use Rattle.acq_outside.specs.Failing.{fresh}
-use Rattle.acq_outside.specs.MapMethod.{MapState, all_faults, faults_of}
+use Rattle.acq_memory.specs.Failing.{fresh}
+use Rattle.acq_memory.specs.MapMethod.{MapState, all_faults, faults_of}
 use Rattle.acq_outside.specs.Moments.{IsTold, ToldAs}
-use Rattle.acq_outside.specs.declared.failing.Failing.{Failing}
+use Rattle.acq_memory.specs.declared.failing.Failing.{Failing}
 use Rattle.journal_model.specs.Reopen.{lists_now}
 use Rattle.journal_model.specs.Rest.{IsAtRest, IsSettled}
 use Rattle.update_engine.specs.Run.{Engine, KeepsMethods, Logged, NoneFell, Run}

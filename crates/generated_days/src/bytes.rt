@@ -5,7 +5,7 @@ ghost use Rattle.std.specs.List.{sum_by};
 ghost use Rattle.acq_outside.specs.Crash.{trace_of};
 ghost use Rattle.acq_outside.specs.Disk.{IsName};
 ghost use Rattle.acq_outside.specs.History.{files_of};
-ghost use Rattle.acq_outside.specs.MemDisk.{past_of};
+ghost use Rattle.acq_memory.specs.MemDisk.{past_of};
 ghost use Rattle.acq_outside.specs.Moments.{ToldAs};
 ghost use Rattle.generated_days.specs.Days.{HasBytes};
 ghost use Rattle.generated_days.specs.Sizes.{size_in};

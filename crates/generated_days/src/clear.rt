@@ -3,7 +3,7 @@
 ghost use Rattle.std.specs.Prelude.{◌≡◌, OnOk};
 ghost use Rattle.std.specs.List.{list_any};
 ghost use Rattle.acq_outside.specs.History.{files_of};
-ghost use Rattle.acq_outside.specs.MemDisk.{past_of};
+ghost use Rattle.acq_memory.specs.MemDisk.{past_of};
 ghost use Rattle.generated_days.specs.Clear.{IsClear};
 ghost use Rattle.journal_model.specs.Names as names;
 ghost use Rattle.journal_model.specs.Reading.{gate_in};

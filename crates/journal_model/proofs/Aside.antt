@@ -5,7 +5,7 @@ use Rattle.std.proofs.lemmas.List.{get_or-set_other}
 use Rattle.acq_outside.specs.Disk.{Files}
 use Rattle.acq_outside.specs.Crash.{State, Names, IsOutcome, FitsAll, IsImage, IsSound, AllSound, IsTorn, Goes, after, changed_file, on_file, cut_or_made, file_at, no_file, names_of, synced, file_written, file_cut, all_renamed, reads, seen_at}
 use Rattle.acq_outside.specs.Moments.{Stands, Since, From}
-use Rattle.acq_outside.specs.Traces.{apart_now, all_push}
+use Rattle.acq_outside.proofs.Traces.{apart_now, all_push}
 use Rattle.acq_outside.proofs.Crashes.{made_files}
 use Rattle.acq_outside.proofs.Going.{goes}
 use Rattle.acq_outside.specs.declared.change.Change.{Change}

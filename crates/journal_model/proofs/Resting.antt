@@ -4,7 +4,7 @@ use Rattle.std.proofs.lemmas.Bool.{cases_eq}
 use Rattle.std.proofs.lemmas.Option.{same_Some}
 use Rattle.acq_outside.specs.Disk.{Files}
 use Rattle.acq_outside.specs.Crash.{State, IsSound, IsOutcome, FitsAll, names_of, reads, file_at}
-use Rattle.acq_outside.specs.Outcomes.{only_synced}
+use Rattle.acq_outside.proofs.Outcomes.{only_synced}
 use Rattle.acq_outside.specs.declared.state.FileState.{FileState}
 use Rattle.journal_model.specs.Names.{journal}
 use Rattle.journal_model.specs.Reopen.{lists}

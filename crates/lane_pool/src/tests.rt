@@ -1,6 +1,6 @@
 ghost use Rattle.std.specs.Prelude.{◌≡◌, ◌≤◌, true, false, IfOk, vec_len};
 ghost use Rattle.acq_base.specs.Uri.{IsSound};
-ghost use Rattle.acq_outside.specs.MapMethod.{HasSoundAnswers};
+ghost use Rattle.acq_memory.specs.MapMethod.{HasSoundAnswers};
 ghost use Rattle.acq_outside.specs.Word.{CanBegin};
 ghost use Rattle.lane_pool.specs.Working.{is_piece};
 

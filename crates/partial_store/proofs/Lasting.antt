@@ -2,7 +2,7 @@
 use Rattle.std.proofs.Common.{◌≡◌, sym, ap, ◌∙◌, subst, ℕ, List, [], Option, Some, None, option_map}
 use Rattle.acq_outside.specs.Crash.{State, Names, IsOutcome, after, all_renamed, file_at, names_of, synced}
 use Rattle.acq_outside.proofs.Crashes.{names_last, none_of_none}
-use Rattle.acq_outside.specs.Outcomes.{only_synced}
+use Rattle.acq_outside.proofs.Outcomes.{only_synced}
 use Rattle.acq_outside.specs.declared.change.Change.TheVariants.{SyncNames}
 use Rattle.acq_outside.specs.declared.state.FileState.{FileState}
 use Rattle.acq_outside.specs.declared.state.NameChange.{NameChange}

@@ -4,7 +4,7 @@ use Rattle.std.proofs.lemmas.List.{get_or-set_same, get_or_at, take_all, drop_al
 use Rattle.acq_outside.specs.Disk.{spliced}
 use Rattle.acq_outside.specs.Crash.{State, Names, IsSound, AllSound, Goes, after, file_at, no_file, names_of, on_file, cut_or_made, file_cut, file_written, synced}
 use Rattle.acq_outside.specs.Moments.{IsTold, Stands, Since}
-use Rattle.acq_outside.specs.Traces.{apart_now, all_push}
+use Rattle.acq_outside.proofs.Traces.{apart_now, all_push}
 use Rattle.acq_outside.specs.declared.change.Change.{Change}
 use Rattle.acq_outside.specs.declared.change.Change.TheVariants.{Write, Cut, Sync}
 use Rattle.acq_outside.specs.declared.state.FileState.{FileState}

@@ -2,7 +2,7 @@
 
 ghost use Rattle.std.specs.Prelude.{IfOk};
 ghost use Rattle.acq_base.specs.Fetch.{IsSoundAnswer};
-ghost use Rattle.acq_outside.specs.MapMethod.{HasSoundAnswers};
+ghost use Rattle.acq_memory.specs.MapMethod.{HasSoundAnswers};
 
 use crate::given::{Folder, Given, Has};
 use crate::refused::Refused;

@@ -2,7 +2,7 @@
 
 ghost use Rattle.std.specs.Prelude.{IfOk, IsTrue};
 ghost use Rattle.acq_base.specs.Fetch.{IsSoundAnswer};
-ghost use Rattle.acq_outside.specs.MapMethod.{HasSoundAnswers};
+ghost use Rattle.acq_memory.specs.MapMethod.{HasSoundAnswers};
 
 use crate::cases::{Argument, Refused, Step, numbers_of};
 use crate::fetches::{append_all, pattern_byte};

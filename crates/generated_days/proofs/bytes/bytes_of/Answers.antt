@@ -1,8 +1,8 @@
 use Rattle.std.proofs.Common.{refl}
 use Rattle.acq_outside.specs.Crash.{trace_of}
 use Rattle.acq_outside.specs.History.{files_of}
-use Rattle.acq_outside.specs.MemDisk.{past_of}
-use Rattle.acq_outside.specs.Traces.{trace_shown}
+use Rattle.acq_memory.specs.MemDisk.{past_of}
+use Rattle.acq_outside.proofs.Traces.{trace_shown}
 use Rattle.generated_days.proofs.Folders.{has-bytes}
 use Rattle.generated_days.proofs.bytes.bytes_of.Goals as goal
 

@@ -1,7 +1,7 @@
 use Rattle.std.proofs.Common.{◌≡◌, take}
 use Rattle.std.specs.List.{sum_by}
 use Rattle.acq_outside.specs.History.{files_of}
-use Rattle.acq_outside.specs.MemDisk.{past_of}
+use Rattle.acq_memory.specs.MemDisk.{past_of}
 use Rattle.generated_days.specs.Sizes.{size_in}
 use Rattle.generated_days.proofs.bytes.size_of_lists.Given as goal
 

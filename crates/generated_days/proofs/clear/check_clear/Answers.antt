@@ -1,6 +1,6 @@
 use Rattle.std.proofs.Common.{◌∙◌, refl, sym}
 use Rattle.acq_outside.specs.History.{files_of}
-use Rattle.acq_outside.specs.MemDisk.{past_of}
+use Rattle.acq_memory.specs.MemDisk.{past_of}
 use Rattle.generated_days.proofs.Clearing.{is-clear}
 use Rattle.generated_days.proofs.clear.check_clear.Goals as goal
 

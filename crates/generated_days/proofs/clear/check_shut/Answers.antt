@@ -1,7 +1,7 @@
 use Rattle.std.proofs.Common.{refl}
 use Rattle.std.proofs.lemmas.Bool.{ne_eqb}
 use Rattle.acq_outside.specs.History.{files_of}
-use Rattle.acq_outside.specs.MemDisk.{past_of}
+use Rattle.acq_memory.specs.MemDisk.{past_of}
 use Rattle.journal_model.specs.Names.{journal}
 use Rattle.generated_days.proofs.Clearing.{shut-by}
 use Rattle.generated_days.proofs.clear.check_shut.Goals as goal

@@ -1,5 +1,5 @@
 use Rattle.std.proofs.Common.{◌∙◌, refl}
-use Rattle.acq_outside.specs.MemDisk.{past_of}
+use Rattle.acq_memory.specs.MemDisk.{past_of}
 use Rattle.mirror_maker.specs.Made.{first_moment, second_moment}
 use Rattle.generated_days.proofs.Both.{days-of, held}
 use Rattle.generated_days.proofs.Rest.{begins-empty, begins-settled}

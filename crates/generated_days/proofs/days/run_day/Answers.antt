@@ -1,7 +1,7 @@
 use Rattle.std.proofs.Common.{w64}
 use Rattle.std.proofs.lemmas.Int.{to_z-of_z}
 use Rattle.acq_outside.specs.Crash.{trace_of}
-use Rattle.acq_outside.specs.MemDisk.{past_of}
+use Rattle.acq_memory.specs.MemDisk.{past_of}
 use Rattle.journal_model.specs.Reopen.{lists_now}
 use Rattle.generated_days.proofs.Both.{day-of}
 use Rattle.generated_days.proofs.Rest.{settled-at}

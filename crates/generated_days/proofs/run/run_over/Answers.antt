@@ -2,8 +2,8 @@ use Rattle.std.proofs.Common.{w64}
 use Rattle.std.proofs.lemmas.Int.{to_z-of_z}
 use Rattle.acq_outside.specs.History.{files_of}
 use Rattle.acq_outside.specs.Crash.{trace_of}
-use Rattle.acq_outside.specs.MemDisk.{past_of}
-use Rattle.acq_outside.specs.Traces.{trace_shown, trace_sound}
+use Rattle.acq_memory.specs.MemDisk.{past_of}
+use Rattle.acq_outside.proofs.Traces.{trace_shown, trace_sound}
 use Rattle.generated_days.proofs.Running.{is-told, running}
 use Rattle.generated_days.proofs.run.run_over.Goals as goal
 

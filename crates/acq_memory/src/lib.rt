@@ -1,0 +1,29 @@
+//! The outside in memory: a disk, a configuration folder, a method, served files, an output and a clock.
+//!
+//! Each tells its content and fails where its maker says. The disk keeps its changes, so that a crash of it can be tried:
+//! a choice of bytes stands for each thing that a crash may leave.
+#![tactic(auto)]
+
+pub use fixed_clock::FixedClock;
+pub use map_method::MapMethod;
+pub use mem_disk::MemDisk;
+pub use mem_etc::MemEtc;
+pub use mem_sink::MemSink;
+pub use mem_tree::MemTree;
+
+mod changes;
+mod choice;
+mod failing;
+mod fixed_clock;
+mod front;
+mod held;
+mod history;
+mod image;
+mod map_method;
+mod mem_disk;
+mod mem_etc;
+mod mem_sink;
+mod mem_tree;
+mod name_map;
+mod replay;
+mod start;
