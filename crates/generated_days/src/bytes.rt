@@ -14,7 +14,8 @@ ghost use Rattle.journal_model.specs.Reopen.{lists_now};
 ghost use Rattle.journal_model.specs.Rest.{IsAtRest};
 
 use acq_base::{NoMemory, Text};
-use acq_outside::{Disk, MemDisk};
+use acq_memory::MemDisk;
+use acq_outside::Disk;
 use run_model::installed_lists_begin;
 use std::alloc::Global;
 

@@ -10,7 +10,8 @@ ghost use Rattle.journal_model.specs.Reading.{gate_in};
 ghost use Rattle.journal_model.specs.declared.step.Gate.TheVariants.{Shut};
 
 use acq_base::{NoMemory, Text};
-use acq_outside::{Disk, MemDisk};
+use acq_memory::MemDisk;
+use acq_outside::Disk;
 use std::alloc::Global;
 
 /// That no list is on its way in a folder, and that its journal has no record. An update that gets what it asks for leaves

@@ -5,7 +5,8 @@ ghost use Rattle.acq_base.specs.Plan.{IsSound};
 ghost use Rattle.generated_days.specs.Days.{Configures};
 
 use acq_base::{Bytes, NoMemory, Row, Text};
-use acq_outside::{MemEtc, Place};
+use acq_memory::MemEtc;
+use acq_outside::Place;
 use configuration::{Configured, configure};
 use std::alloc::Global;
 

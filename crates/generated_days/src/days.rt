@@ -17,7 +17,7 @@ use crate::clear::check_clear;
 use crate::configure::configure_by;
 use crate::run::run_over;
 use acq_base::{Mirror, NoMemory, Row, TryCopy};
-use acq_outside::MemDisk;
+use acq_memory::MemDisk;
 use configuration::Configured;
 use mirror_maker::make;
 use std::alloc::Global;

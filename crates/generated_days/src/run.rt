@@ -16,7 +16,8 @@ ghost use Rattle.journal_model.specs.Rest.{IsAtRest, IsSettled};
 
 use crate::laws::logs_tell_days;
 use acq_base::{Mirror, NoMemory, Row};
-use acq_outside::{MapMethod, MemDisk, Method};
+use acq_memory::{MapMethod, MemDisk};
+use acq_outside::Method;
 use configuration::Configured;
 use kept_hooks::Judge;
 use release_file::{Head, is_allowed};

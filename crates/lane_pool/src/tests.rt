@@ -6,7 +6,8 @@ ghost use Rattle.lane_pool.specs.Working.{is_piece};
 
 use crate::{Lanes, start};
 use acq_base::{Answer, Bytes, Job, Mirror, NoMemory, Reply, Row, Scheme, Text, Uri};
-use acq_outside::{Fetch, MapMethod, Method, Word};
+use acq_memory::MapMethod;
+use acq_outside::{Fetch, Method, Word};
 use std::alloc::Global;
 use std::sync::atomic::{AtomicU64, Ordering};
 use std::sync::{Arc, Wait};

@@ -4,7 +4,8 @@ use crate::answers::shown;
 use crate::folder;
 use crate::words::{Refused, bytes, number};
 use acq_base::{Bytes, Row, Text, TryCopy};
-use acq_outside::{Disk, MemDisk};
+use acq_memory::MemDisk;
+use acq_outside::Disk;
 use std::alloc::Global;
 
 /// With what a folder begins.

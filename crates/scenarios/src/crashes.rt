@@ -6,7 +6,8 @@ use crate::objects::disk_of;
 use crate::refused::Refused;
 use crate::telling::image;
 use acq_base::{NoMemory, Row};
-use acq_outside::{Change, Disk, Fault, MemDisk, is_name};
+use acq_memory::MemDisk;
+use acq_outside::{Change, Disk, Fault, is_name};
 use std::alloc::Global;
 
 /// The most bytes of a choice of which all are tried.

@@ -2,7 +2,8 @@
 
 use crate::given::Folder;
 use crate::refused::Refused;
-use acq_outside::{Disk, MemDisk, OutError, is_name, read_whole};
+use acq_memory::MemDisk;
+use acq_outside::{Disk, OutError, is_name, read_whole};
 use std::alloc::Global;
 use std::collections::BTreeMap;
 

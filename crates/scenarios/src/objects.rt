@@ -8,7 +8,7 @@ use crate::given::{Folder, Given, Has};
 use crate::refused::Refused;
 use acq_base::{Answer, Bytes, Mirror, NoMemory, Row, Text, TryCopy};
 use acq_net::ScriptLink;
-use acq_outside::{MapMethod, MemDisk, MemEtc, MemTree};
+use acq_memory::{MapMethod, MemDisk, MemEtc, MemTree};
 use file_method::FileMethod;
 use http_method::HttpMethod;
 use std::alloc::Global;

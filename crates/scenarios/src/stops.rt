@@ -9,7 +9,7 @@ use crate::running::{Came, came_to};
 use crate::sets::Sets;
 use crate::telling::{append_folder, image};
 use acq_base::{NoMemory, Row};
-use acq_outside::MemDisk;
+use acq_memory::MemDisk;
 use commit_journal::{JournalError, open_journal};
 use std::alloc::Global;
 use std::fmt::Write;

@@ -9,7 +9,7 @@ use crate::fetches::{append_all, pattern_byte};
 use crate::links::link_of;
 use crate::shown::append_named;
 use acq_base::{Answer, Bytes, Mirror, NoMemory, Row, Text};
-use acq_outside::{MapMethod, MemTree};
+use acq_memory::{MapMethod, MemTree};
 use both_method::BothMethod;
 use file_method::FileMethod;
 use http_method::HttpMethod;

@@ -3,7 +3,8 @@
 use crate::cases::{Argument, Refused, Step, numbers_of};
 use crate::shown::append_bytes;
 use acq_base::{Bytes, Row, Text, TryCopy};
-use acq_outside::{Fault, MemTree, Tree};
+use acq_memory::MemTree;
+use acq_outside::{Fault, Tree};
 use std::alloc::Global;
 
 /// What a tree answers to steps, one after another: it has the files that steps `file` name, and its calls fail that a
