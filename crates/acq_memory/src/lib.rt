@@ -1,7 +1,6 @@
-//! The outside in memory: a disk, a configuration folder, a method, served files, an output and a clock.
-//!
-//! Each tells its content and fails where its maker says. The disk keeps its changes, so that a crash of it can be tried:
-//! a choice of bytes stands for each thing that a crash may leave.
+//! The outside in memory: a disk, a configuration folder, a method, served files, an output and a clock. Each tells what
+//! it holds, and which of its calls fail is said when it is made. The disk keeps its changes, so that it can be crashed: a
+//! choice of bytes stands for each thing that a crash may leave.
 #![tactic(auto)]
 
 pub use fixed_clock::FixedClock;

@@ -1,8 +1,6 @@
-//! What the engine asks of the outside: the configuration folder, the lists folder, methods, served files, a clock and an
-//! output; and what a crash may leave of the lists folder.
-//!
-//! Each is a trait that says what its calls do to what it holds. Where an object tells its content, as those in memory
-//! do, the clauses speak of it; of a real one they say that a fault comes only where the object's count of faults rose.
+//! What the engine asks of the outside, as traits: the lists folder, the configuration folder, methods, served files, a
+//! clock and an output; and what a crash may leave of the lists folder. Where an object tells what it holds, the clauses
+//! speak of that; of any they say that a fault comes only where the object's count of faults rose.
 #![tactic(auto)]
 
 pub use change::Change;
