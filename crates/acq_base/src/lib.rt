@@ -7,6 +7,12 @@
 //! a file's sum and the texts of one, `Uri` a URI's text, its list name and what makes it sound, `Mirror` the answer that
 //! a mirror has under a URI, `Plan`, `Fetch` and `Settings` what makes plans, mirrors, replies and settings sound, `Words`
 //! blanks and words.
+//!
+//! `sum_of` is length and SHA-256 of the bytes; `read_sum` answers exactly its definition (`value`), is Ok exactly
+//! where hash and size are of their forms (`ok`), and names the hash first (`bad_hash`); `read_digits` is exactly
+//! the number that 1 to 20 digits write (`value`). A copy is equal to what it copies. `trim_blanks`, `words` and
+//! their kin are their definitions. Each source of a sound plan has what calls on one source may rely on
+//! (`sources_are_planned`, a law). Only tested: printed texts, FIPS 180-4's examples.
 #![tactic(auto)]
 
 pub use blank::{is_blank, listed_words, trim_blanks, trim_blanks_end, trim_blanks_start, words};

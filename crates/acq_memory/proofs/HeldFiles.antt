@@ -12,7 +12,7 @@ use Rattle.std.proofs.lemmas.Map.Views.{btree_map_contains_key_iff}
 use Rattle.acq_outside.specs.Disk.{Files, IsNames, with_file, moved_file, after_rename}
 use Rattle.acq_outside.specs.History.{Past, files_of, files_after, start_files, after_change, changed}
 use Rattle.acq_memory.specs.Held.{files_in}
-use Rattle.acq_outside.specs.declared.change.Change.{Change}
+use Rattle.acq_outside.specs.declared.change.DiskCall.{DiskCall}
 use Rattle.acq_outside.proofs.Files.{with_file-twice, with_file-swap, same_name-apart}
 
 abbrev pub Held : Type 0
@@ -33,14 +33,14 @@ listed held names ordered all =
     })
 
 -- a change noted is carried out last
-pub files_after-push : (files : Files) (changes : List Change) (change : Change) → files_after files (changes ++ change ∷ []) ≡ after_change (files_after files changes) change
+pub files_after-push : (files : Files) (changes : List DiskCall) (change : DiskCall) → files_after files (changes ++ change ∷ []) ≡ after_change (files_after files changes) change
 files_after-push files [] change = refl
 files_after-push files (first ∷ changes) change = files_after-push (after_change files first) changes change
 
-pub files_of_changed : (before after : Past) (change : Change) → after ≡ changed before change → files_of after ≡ after_change (files_of before) change
+pub files_of_changed : (before after : Past) (change : DiskCall) → after ≡ changed before change → files_of after ≡ after_change (files_of before) change
 files_of_changed before after change done = ap files_of done ∙ files_after-push (start_files before.start) before.changes change
 
-pub noted : (before after files : Files) (changes : List Change) (change : Change) → before ≡ files_after files changes → after ≡ after_change before change → after ≡ files_after files (changes ++ change ∷ [])
+pub noted : (before after files : Files) (changes : List DiskCall) (change : DiskCall) → before ≡ files_after files changes → after ≡ after_change before change → after ≡ files_after files (changes ++ change ∷ [])
 noted before after files changes change was done = done ∙ ap (λ (state : Files). after_change state change) was ∙ sym (files_after-push files changes change)
 
 -- a content put under another name first, and then taken from its own

@@ -16,11 +16,11 @@ use Rattle.std.proofs.lemmas.Slice.Eq.{bytes_eq-Decides}
 use Rattle.acq_outside.specs.Disk.{IsName, same_name}
 use Rattle.acq_outside.specs.History.{FileRows, IsStart, names_differ, start_files}
 use Rattle.acq_memory.specs.Held.{IsNamed, AreNamed}
-use Rattle.acq_outside.specs.Crash.{State, Names, IsPart, none, left_out, taken, with_name, moved_name, renamed, all_renamed, names_of, number_of, on_file, with_change, cut_or_made, after, start_state, trace_after, newest, file_written, file_cut, synced}
+use Rattle.acq_outside.specs.Crash.{State, Names, IsSubsequence, none, left_out, taken, with_name, moved_name, renamed, all_renamed, names_of, number_of, on_file, with_change, cut_or_made, after, start_state, trace_after, newest, file_written, file_cut, synced}
 use Rattle.acq_outside.specs.Choice.{drawn_part, drawn_files, image_of}
 use Rattle.acq_memory.specs.Replay.{GivesName, AllGiveNames, LeadsFromNames, HasOnlyNames, names_in, rows_in}
-use Rattle.acq_outside.specs.declared.change.Change.{Change}
-use Rattle.acq_outside.specs.declared.change.Change.TheVariants.{Write, Cut, Sync, Rename, Remove, SyncNames}
+use Rattle.acq_outside.specs.declared.change.DiskCall.{DiskCall}
+use Rattle.acq_outside.specs.declared.change.DiskCall.TheVariants.{Write, Cut, Sync, Rename, Remove, SyncNames}
 use Rattle.acq_outside.specs.declared.state.FileState.{FileState}
 use Rattle.acq_outside.specs.declared.state.NameChange.{NameChange}
 use Rattle.acq_outside.specs.declared.state.NameChange.TheVariants.{Made, Moved, Removed}
@@ -50,7 +50,7 @@ all_named : (names : Names) (changes : List NameChange) → LeadsFromNames names
 all_named names [] leads gives = leads
 all_named names (change ∷ changes) leads gives = all_named (renamed names change) changes (named_renamed names change leads gives.0) gives.1
 
-part_gives : (some all : List NameChange) → IsPart some all → AllGiveNames all → AllGiveNames some
+part_gives : (some all : List NameChange) → IsSubsequence some all → AllGiveNames all → AllGiveNames some
 part_gives some all none gives = tt
 part_gives some all (left_out change part) gives = part_gives _ _ part gives.1
 part_gives some all (taken change part) gives = (gives.0, part_gives _ _ part gives.1)
@@ -72,7 +72,7 @@ cut_names : (s : State) (name : List ℕ) (len : ℕ) (o : Option ℕ) → HasOn
 cut_names s name len None has named = record { base = has.base; pending = gives_push s.pending _ has.pending named }
 cut_names s name len (Some i) has named = on_file_names s (Some i) (λ file. file_cut file len) has
 
-after_names : (s : State) (call : Change) → HasOnlyNames s → IsNamed call → HasOnlyNames (after s call)
+after_names : (s : State) (call : DiskCall) → HasOnlyNames s → IsNamed call → HasOnlyNames (after s call)
 after_names s (Write name at bytes) has named = on_file_names s (names_of s name) (λ file. file_written file at bytes) has
 after_names s (Cut name len) has named = cut_names s name len (names_of s name) has named
 after_names s (Sync name) has named = on_file_names s (names_of s name) (λ file. synced file.seen) has
@@ -80,7 +80,7 @@ after_names s (Rename from to) has named = change_names s (names_of s from) (Mov
 after_names s (Remove name) has named = change_names s (names_of s name) (Removed name) has tt
 after_names s SyncNames has named = record { base = all_named s.base s.pending has.base has.pending; pending = tt }
 
-calls_names : (s : State) (past : List State) (calls : List Change) → HasOnlyNames s → AreNamed calls → HasOnlyNames (newest (trace_after s past calls))
+calls_names : (s : State) (past : List State) (calls : List DiskCall) → HasOnlyNames s → AreNamed calls → HasOnlyNames (newest (trace_after s past calls))
 calls_names s past [] has named = has
 calls_names s past (call ∷ calls) has named = calls_names (after s call) (s ∷ past) calls (after_names s call has named.0) named.1
 
@@ -88,7 +88,7 @@ start_leads : (i : ℕ) (rows : FileRows) → AllByRecursion (λ row. IsName row
 start_leads i [] named = record { named = λ name k is. absurd cc }
 start_leads i (row ∷ rows) named = named_with (number_of (i + 1) rows) row.0 (Some i) (start_leads (i + 1) rows named.1) (λ k is. named.0)
 
-pub only_names : (rows : FileRows) (calls : List Change) → AllByRecursion (λ row. IsName row.0) rows → AreNamed calls → HasOnlyNames (newest (trace_after (start_state rows) [] calls))
+pub only_names : (rows : FileRows) (calls : List DiskCall) → AllByRecursion (λ row. IsName row.0) rows → AreNamed calls → HasOnlyNames (newest (trace_after (start_state rows) [] calls))
 only_names rows calls named calls_named = calls_names (start_state rows) [] calls (record { base = start_leads 0 rows named; pending = tt }) calls_named
 
 -- Rows of a sorted map of names.

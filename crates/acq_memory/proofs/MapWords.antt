@@ -5,7 +5,7 @@ use Rattle.std.proofs.lemmas.Bool.{ltb-true, ltb-false, leb-true, leb-false}
 use Rattle.acq_base.specs.declared.fetch.Answer.{Answer}
 use Rattle.acq_base.specs.declared.fetch.Answer.TheVariants as answers
 use Rattle.acq_base.specs.declared.fetch.Reply.TheVariants as replies
-use Rattle.acq_base.specs.Mirror.{World, answer_at}
+use Rattle.acq_base.specs.Mirror.{MirrorMap, answer_at}
 use Rattle.acq_base.specs.Fetch.{IsSoundAnswer}
 use Rattle.acq_memory.specs.declared.failing.Failing.{Failing}
 use Rattle.acq_outside.specs.declared.word.Fetch.{Fetch}
@@ -67,7 +67,7 @@ within at size len max is h room = omega arith
 ends : (at from len : ℕ) → (at ≤ len) ⊎ (at ≡ from) → (from ≡ 0) ⊎ (from < len) → len ≤ at → at ≡ len
 ends at from len stands begins past = grind arith
 
-served_word : (n : ℕ) (world : World) (fetch : Fetch) (all : List ℕ) → answer_at world fetch.job.uri ≡ answers.Served all → CanGoOn (answers.Served all) fetch
+served_word : (n : ℕ) (world : MirrorMap) (fetch : Fetch) (all : List ℕ) → answer_at world fetch.job.uri ≡ answers.Served all → CanGoOn (answers.Served all) fetch
     → IsWord n n (Some world) fetch (after_word fetch (word_of (answers.Served all) fetch)) (word_of (answers.Served all) fetch)
 served_word n world fetch all is stands = served_cases (λ word. IsWord n n (Some world) fetch (after_word fetch word) word) all fetch
     (λ big. record { counted = refl; ended = refl; told = rw is big })
@@ -85,22 +85,22 @@ served_word n world fetch all is stands = served_cases (λ word. IsWord n n (Som
       told = rw is (cut_again (drop fetch.at all) 65536, reaches fetch.at _ (length all) size (omega arith));
     })
 
-answered : (n : ℕ) (world : World) (fetch : Fetch) (answer : Answer) → answer_at world fetch.job.uri ≡ answer → CanGoOn answer fetch → IsWord n n (Some world) fetch (after_word fetch (word_of answer fetch)) (word_of answer fetch)
+answered : (n : ℕ) (world : MirrorMap) (fetch : Fetch) (answer : Answer) → answer_at world fetch.job.uri ≡ answer → CanGoOn answer fetch → IsWord n n (Some world) fetch (after_word fetch (word_of answer fetch)) (word_of answer fetch)
 answered n world fetch (answers.Served all) is stands = served_word n world fetch all is stands
 answered n world fetch (answers.Moved place) is stands = record { counted = refl; ended = refl; told = rw is refl }
 answered n world fetch (answers.Absent status) is stands = record { counted = refl; ended = refl; told = rw is refl }
 
 -- what a method over a map says, unless it is without memory
-pub record Says (world : World) (fetch : Fetch) (word : Word) : Type 0 where
+pub record Says (world : MirrorMap) (fetch : Fetch) (word : Word) : Type 0 where
   pub is : (word ≡ Other replies.NoMemory) ⊎ (word ≡ next_word world fetch)
 
-mapped : (n : ℕ) (world : World) (fetch : Fetch) (word : Word) → CanGoOn (answer_at world fetch.job.uri) fetch → (word ≡ Other replies.NoMemory) ⊎ (word ≡ next_word world fetch)
+mapped : (n : ℕ) (world : MirrorMap) (fetch : Fetch) (word : Word) → CanGoOn (answer_at world fetch.job.uri) fetch → (word ≡ Other replies.NoMemory) ⊎ (word ≡ next_word world fetch)
     → IsWord n n (Some world) fetch (after_word fetch word) word
 mapped n world fetch word stands (inl none) = rw none (record { counted = refl; ended = refl; told = tt })
 mapped n world fetch word stands (inr is) = rw is (answered n world fetch (answer_at world fetch.job.uri) refl stands)
 
 -- it agrees with its mirror
-pub mapped_word : (n : ℕ) (world : World) (fetch : Fetch) (under : Option Fetch) (word : Word) → CanGoOn (answer_at world fetch.job.uri) fetch → Says world fetch word → under ≡ after_word fetch word
+pub mapped_word : (n : ℕ) (world : MirrorMap) (fetch : Fetch) (under : Option Fetch) (word : Word) → CanGoOn (answer_at world fetch.job.uri) fetch → Says world fetch word → under ≡ after_word fetch word
     → IsWord n n (Some world) fetch under word
 mapped_word n world fetch under word stands says behind = rw behind (mapped n world fetch word stands says.is)
 
@@ -109,7 +109,7 @@ sound_of (answers.Served all) fetch sound = served_cases IsSoundWord all fetch (
 sound_of (answers.Moved place) fetch sound = sound
 sound_of (answers.Absent status) fetch sound = tt
 
-pub mapped_sound : (world : World) (fetch : Fetch) (word : Word) → HasSoundAnswers world → Says world fetch word → IsSoundWord word
+pub mapped_sound : (world : MirrorMap) (fetch : Fetch) (word : Word) → HasSoundAnswers world → Says world fetch word → IsSoundWord word
 mapped_sound world fetch word sound says = by says.is
   where
     by : (word ≡ Other replies.NoMemory) ⊎ (word ≡ next_word world fetch) → IsSoundWord word
@@ -117,7 +117,7 @@ mapped_sound world fetch word sound says = by says.is
     by (inr is) = rw is (sound_of (answer_at world fetch.job.uri) fetch (sound_answer world fetch.job.uri (answer_at world fetch.job.uri) sound refl))
 
 -- a piece stays within its job's limit
-pub limit_of : (n : ℕ) (world : Option World) (fetch : Fetch) (under : Option Fetch) (word : Word) → IsWord n n world fetch under word → IsWithinLimit fetch word
+pub limit_of : (n : ℕ) (world : Option MirrorMap) (fetch : Fetch) (under : Option Fetch) (word : Word) → IsWord n n world fetch under word → IsWithinLimit fetch word
 limit_of n world fetch under (Piece place bytes) is = is.within
 limit_of n world fetch under (Done size) is = tt
 limit_of n world fetch under (Other reply) is = tt
@@ -128,22 +128,22 @@ stands_on (answers.Moved place) fetch bytes is = tt
 stands_on (answers.Absent status) fetch bytes is = tt
 
 -- what is under way behind a word can go on
-pub goes_on : (n : ℕ) (world : World) (fetch : Fetch) (under : Option Fetch) (word : Word) → IsWord n n (Some world) fetch under word
+pub goes_on : (n : ℕ) (world : MirrorMap) (fetch : Fetch) (under : Option Fetch) (word : Word) → IsWord n n (Some world) fetch under word
     → IfSome under (λ later. CanGoOn (answer_at world later.job.uri) later)
 goes_on n world fetch under (Piece place bytes) is = rw is.under_way (stands_on (answer_at world fetch.job.uri) fetch bytes is.told)
 goes_on n world fetch under (Done size) is = rw is.ended tt
 goes_on n world fetch under (Other reply) is = rw is.ended tt
 
 -- the same word, with values that are equal
-pub same_word : (n m : ℕ) (world told : World) (fetch job : Fetch) (under : Option Fetch) (word : Word) → m ≡ n → world ≡ told → fetch ≡ job → IsWord n n (Some world) fetch under word → IsWord n m (Some told) job under word
+pub same_word : (n m : ℕ) (world told : MirrorMap) (fetch job : Fetch) (under : Option Fetch) (word : Word) → m ≡ n → world ≡ told → fetch ≡ job → IsWord n n (Some world) fetch under word → IsWord n m (Some told) job under word
 same_word n m world told fetch job under word counted same is said =
     let P : ℕ → Type 0 = λ k. IsWord n k (Some told) job under word in
-    let Q : World → Type 0 = λ entries. IsWord n n (Some entries) job under word in
+    let Q : MirrorMap → Type 0 = λ entries. IsWord n n (Some entries) job under word in
     let R : Fetch → Type 0 = λ one. IsWord n n (Some world) one under word in
     subst P (sym counted) (subst Q same (subst R is said))
 
 -- the word to the fetch that was under way
-pub some_word : (n m : ℕ) (world told : World) (fetch : Fetch) (was under : Option Fetch) (word : Word) → was ≡ Some fetch → m ≡ n → world ≡ told → IsWord n n (Some world) fetch under word
+pub some_word : (n m : ℕ) (world told : MirrorMap) (fetch : Fetch) (was under : Option Fetch) (word : Word) → was ≡ Some fetch → m ≡ n → world ≡ told → IsWord n n (Some world) fetch under word
     → IfSome was (λ one. IsWord n m (Some told) one under word)
 some_word n m world told fetch was under word is counted same said =
     let P : Option Fetch → Type 0 = λ one. IfSome one (λ job. IsWord n m (Some told) job under word) in

@@ -7,8 +7,8 @@ use Rattle.std.proofs.lemmas.Slice.Eq.{bytes_eq-Decides}
 use Rattle.acq_outside.specs.Disk.{Files, IsName, IsNames, same_name, with_file, moved_file}
 use Rattle.acq_outside.specs.History.{FileRows, start_files, after_change}
 use Rattle.acq_memory.specs.Held.{AreNamed, HasNames, IsNamed}
-use Rattle.acq_outside.specs.declared.change.Change.{Change}
-use Rattle.acq_outside.specs.declared.change.Change.TheVariants.{Write, Cut, Sync, Rename, Remove, SyncNames}
+use Rattle.acq_outside.specs.declared.change.DiskCall.{DiskCall}
+use Rattle.acq_outside.specs.declared.change.DiskCall.TheVariants.{Write, Cut, Sync, Rename, Remove, SyncNames}
 
 named-at : (files : Files) (name other : List ℕ) (content : Option (List ℕ)) → HasNames files → IsName name → (b : Bool) → same_name name other ≡ b → IsSome (if b then content else files other) → IsName other
 named-at files name other content has named true same there =
@@ -28,7 +28,7 @@ moved_names : (files : Files) (from to : List ℕ) (content : Option (List ℕ))
 moved_names files from to None has named_from named_to = has
 moved_names files from to (Some content) has named_from named_to = named_with (with_file files from None) to (Some content) (named_with files from None has named_from) named_to
 
-changed_names : (files : Files) (change : Change) → HasNames files → IsNamed change → HasNames (after_change files change)
+changed_names : (files : Files) (change : DiskCall) → HasNames files → IsNamed change → HasNames (after_change files change)
 changed_names files (Write name at bytes) has named = named_with files name _ has named
 changed_names files (Cut name len) has named = named_with files name _ has named
 changed_names files (Sync name) has named = has
@@ -36,7 +36,7 @@ changed_names files (Rename from to) has named = moved_names files from to (file
 changed_names files (Remove name) has named = named_with files name None has named
 changed_names files SyncNames has named = has
 
-pub names_after : (before after : Files) (change : Change) → HasNames before → IsNamed change → after ≡ after_change before change → HasNames after
+pub names_after : (before after : Files) (change : DiskCall) → HasNames before → IsNamed change → after ≡ after_change before change → HasNames after
 names_after before after change has named done = kept_names (after_change before change) after (changed_names before change has named) done
 
 rows_named : (rows : FileRows) → AllByRecursion (λ row. IsName row.0) rows → HasNames (start_files rows)
@@ -49,12 +49,12 @@ start_named rows files named is = kept_names (start_files rows) files (rows_name
 pub all_named : (files : Files) (names : List (List ℕ)) → HasNames files → IsNames files names → All IsName names
 all_named files names has listed = λ k d within. has.named (get_or names k d) (listed.sound (get_or names k d) (k, within, get_or_default names k (get_or names k d) d within))
 
-pub kept_changes : (before after : List Change) → AreNamed before → after ≡ before → AreNamed after
-kept_changes before after are same = subst (λ (changes : List Change). AreNamed changes) (sym same) are
+pub kept_changes : (before after : List DiskCall) → AreNamed before → after ≡ before → AreNamed after
+kept_changes before after are same = subst (λ (changes : List DiskCall). AreNamed changes) (sym same) are
 
-push_named : (changes : List Change) (change : Change) → AreNamed changes → IsNamed change → AreNamed (changes ++ change ∷ [])
+push_named : (changes : List DiskCall) (change : DiskCall) → AreNamed changes → IsNamed change → AreNamed (changes ++ change ∷ [])
 push_named [] change are named = (named, tt)
 push_named (first ∷ changes) change are named = (are.0, push_named changes change are.1 named)
 
-pub more_changes : (before after : List Change) (change : Change) → AreNamed before → IsNamed change → after ≡ before ++ change ∷ [] → AreNamed after
+pub more_changes : (before after : List DiskCall) (change : DiskCall) → AreNamed before → IsNamed change → after ≡ before ++ change ∷ [] → AreNamed after
 more_changes before after change are named pushed = kept_changes (before ++ change ∷ []) after (push_named before change are named) pushed

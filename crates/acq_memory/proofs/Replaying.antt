@@ -4,10 +4,10 @@ use Rattle.std.proofs.lemmas.List.{get_or_default, set_past, drop_more, drop_all
 use Rattle.acq_outside.specs.Crash.{State, Names, number_of, renamed, all_renamed, names_of, with_change, after, on_file, no_file, newest, trace_after}
 use Rattle.acq_outside.specs.declared.state.NameChange.{NameChange}
 use Rattle.acq_outside.specs.declared.state.NameChange.TheVariants.{Made, Moved, Removed}
-use Rattle.acq_outside.specs.declared.change.Change.TheVariants.{Rename, Remove}
+use Rattle.acq_outside.specs.declared.change.DiskCall.TheVariants.{Rename, Remove}
 use Rattle.acq_outside.specs.History.{FileRows}
 use Rattle.acq_memory.specs.Replay.{file_after}
-use Rattle.acq_outside.specs.declared.change.Change.{Change}
+use Rattle.acq_outside.specs.declared.change.DiskCall.{DiskCall}
 use Rattle.acq_outside.specs.declared.state.FileState.{FileState}
 
 pub file_none : (s : State) (o : Option ℕ) (change : FileState → FileState) → o ≡ None → s ≡ on_file s o change
@@ -16,7 +16,7 @@ file_none s o change is = sym (ap (λ (p : Option ℕ). on_file s p change) is)
 pub file_past : (s : State) (o : Option ℕ) (i : ℕ) (change : FileState → FileState) → o ≡ Some i → length s.files ≤ i → s ≡ on_file s o change
 file_past s o i change is past = sym (ap (λ (p : Option ℕ). on_file s p change) is ∙ ap (λ (files : List FileState). record { files = files; base = s.base; pending = s.pending }) (set_past s.files i (change (get_or s.files i no_file)) past))
 
-pub file_set : (s t : State) (o : Option ℕ) (i : ℕ) (call : Change) (old new : FileState) → o ≡ Some i → i < length s.files → old ≡ get_or s.files i old → new ≡ file_after old call → t ≡ record { files = set s.files i new; base = s.base; pending = s.pending } → t ≡ on_file s o (λ file. file_after file call)
+pub file_set : (s t : State) (o : Option ℕ) (i : ℕ) (call : DiskCall) (old new : FileState) → o ≡ Some i → i < length s.files → old ≡ get_or s.files i old → new ≡ file_after old call → t ≡ record { files = set s.files i new; base = s.base; pending = s.pending } → t ≡ on_file s o (λ file. file_after file call)
 file_set s t o i call old new is low was now done =
     done
     ∙ ap (λ (file : FileState). record { files = set s.files i file; base = s.base; pending = s.pending }) (now ∙ ap (λ (file : FileState). file_after file call) (was ∙ get_or_default s.files i old no_file low))
@@ -63,20 +63,20 @@ number_step rows i row before after low is was done =
     done ∙ ap (λ (m : Names). renamed m (Made row.0 i)) was ∙ sym (ap (number_of i) (drop_more rows i row low ∙ ap (λ (r : List ℕ × List ℕ). r ∷ drop (i + 1) rows) (sym is)))
 
 -- the newest state doesn't depend on what was before
-newest_any : (s : State) (past other : List State) (calls : List Change) → newest (trace_after s past calls) ≡ newest (trace_after s other calls)
+newest_any : (s : State) (past other : List State) (calls : List DiskCall) → newest (trace_after s past calls) ≡ newest (trace_after s other calls)
 newest_any s past other [] = refl
 newest_any s past other (call ∷ calls) = newest_any (after s call) (s ∷ past) (s ∷ other) calls
 
-pub one_call : (s t end : State) (calls : List Change) (i : ℕ) (call : Change) → i < length calls → call ≡ get_or calls i call → t ≡ after s call → newest (trace_after s [] (drop i calls)) ≡ end → newest (trace_after t [] (drop (i + 1) calls)) ≡ end
+pub one_call : (s t end : State) (calls : List DiskCall) (i : ℕ) (call : DiskCall) → i < length calls → call ≡ get_or calls i call → t ≡ after s call → newest (trace_after s [] (drop i calls)) ≡ end → newest (trace_after t [] (drop (i + 1) calls)) ≡ end
 one_call s t end calls i call low is done was =
-    let split : drop i calls ≡ call ∷ drop (i + 1) calls = drop_more calls i call low ∙ ap (λ (c : Change). c ∷ drop (i + 1) calls) (sym is) in
+    let split : drop i calls ≡ call ∷ drop (i + 1) calls = drop_more calls i call low ∙ ap (λ (c : DiskCall). c ∷ drop (i + 1) calls) (sym is) in
     ap (λ (u : State). newest (trace_after u [] (drop (i + 1) calls))) done
     ∙ newest_any (after s call) [] (s ∷ []) (drop (i + 1) calls)
-    ∙ sym (ap (λ (list : List Change). newest (trace_after s [] list)) split)
+    ∙ sym (ap (λ (list : List DiskCall). newest (trace_after s [] list)) split)
     ∙ was
 
-pub no_call : (s end : State) (calls : List Change) (i : ℕ) → length calls ≤ i → newest (trace_after s [] (drop i calls)) ≡ end → s ≡ end
-no_call s end calls i past was = sym (ap (λ (list : List Change). newest (trace_after s [] list)) (drop_all i calls past)) ∙ was
+pub no_call : (s end : State) (calls : List DiskCall) (i : ℕ) → length calls ≤ i → newest (trace_after s [] (drop i calls)) ≡ end → s ≡ end
+no_call s end calls i past was = sym (ap (λ (list : List DiskCall). newest (trace_after s [] list)) (drop_all i calls past)) ∙ was
 
 -- the changes that are left, with one carried out
 pub one_change : (m n end : Names) (changes : List NameChange) (i : ℕ) (change : NameChange) → i < length changes → change ≡ get_or changes i change → n ≡ renamed m change → all_renamed m (drop i changes) ≡ end → all_renamed n (drop (i + 1) changes) ≡ end

@@ -4,15 +4,15 @@ use Rattle.std.specs.Ordering.{nat_cmp}
 use Rattle.std.specs.Cmp.Lexicographic.{slice_cmp}
 use Rattle.std.specs.BTreeMap.{BTreeMap, get}
 use Rattle.acq_outside.specs.Disk.{Files, IsName}
-use Rattle.acq_outside.specs.declared.change.Change.{Change}
-use Rattle.acq_outside.specs.declared.change.Change.TheVariants.{Write, Cut, Sync, Rename, Remove, SyncNames}
+use Rattle.acq_outside.specs.declared.change.DiskCall.{DiskCall}
+use Rattle.acq_outside.specs.declared.change.DiskCall.TheVariants.{Write, Cut, Sync, Rename, Remove, SyncNames}
 
 -- each file has a name that a disk may have
 pub record HasNames (files : Files) : Type 0 where
   pub named : (name : List ℕ) → IsSome (files name) → IsName name
 
 -- a change at names that a disk may have
-abbrev pub IsNamed : Change → Type 0
+abbrev pub IsNamed : DiskCall → Type 0
 IsNamed (Write name at bytes) = IsName name
 IsNamed (Cut name len) = IsName name
 IsNamed (Sync name) = IsName name
@@ -21,7 +21,7 @@ IsNamed (Remove name) = IsName name
 IsNamed SyncNames = Unit {0}
 
 -- the same of each of some changes
-abbrev pub AreNamed : List Change → Type 0
+abbrev pub AreNamed : List DiskCall → Type 0
 AreNamed [] = Unit {0}
 AreNamed (change ∷ changes) = IsNamed change × AreNamed changes
 

@@ -4,14 +4,14 @@ use Rattle.acq_base.specs.declared.fetch.Answer.{Answer}
 use Rattle.acq_base.specs.declared.fetch.Answer.TheVariants as answers
 use Rattle.acq_base.specs.declared.fetch.Reply.TheVariants as replies
 use Rattle.acq_base.specs.Fetch.{IsSoundAnswer}
-use Rattle.acq_base.specs.Mirror.{World, answer_at}
+use Rattle.acq_base.specs.Mirror.{MirrorMap, answer_at}
 use Rattle.acq_memory.specs.declared.failing.Failing.{Failing}
 use Rattle.acq_outside.specs.declared.word.Fetch.{Fetch}
 use Rattle.acq_outside.specs.declared.word.Word.{Word}
 use Rattle.acq_outside.specs.declared.word.Word.TheVariants.{Piece, Done, Other}
 
 pub record MapState : Type 0 where
-  pub world : World
+  pub world : MirrorMap
   -- how its calls of `begin` and of `more` went, and which are to fail
   pub failing : Failing
   pub failing_more : Failing
@@ -25,11 +25,11 @@ abbrev pub faults_of : MapState → ℕ
 faults_of method = all_faults method.failing method.failing_more
 
 -- the mirror that it tells
-abbrev pub mirror_of : MapState → Option World
+abbrev pub mirror_of : MapState → Option MirrorMap
 mirror_of method = Some method.world
 
 -- each place that an answer moves to is a sound URI
-abbrev pub HasSoundAnswers : World → Type 0
+abbrev pub HasSoundAnswers : MirrorMap → Type 0
 HasSoundAnswers world = All (λ entry. IsSoundAnswer entry.1) world
 
 -- what it says next to a fetch: pieces of 65,536 bytes but for the last one
@@ -42,7 +42,7 @@ word_of (answers.Served all) fetch =
 word_of (answers.Moved place) fetch = Other (replies.Moved place)
 word_of (answers.Absent status) fetch = Other (replies.Absent status)
 
-abbrev pub next_word : World → Fetch → Word
+abbrev pub next_word : MirrorMap → Fetch → Word
 next_word world fetch = word_of (answer_at world fetch.job.uri) fetch
 
 -- a fetch stands within its file, or at its job's beginning

@@ -7,8 +7,8 @@ use Rattle.acq_outside.specs.Disk.{IsName}
 use Rattle.acq_outside.specs.History.{FileRows}
 use Rattle.acq_outside.specs.Crash.{State, Names, names_of, all_renamed, synced, file_written, file_cut}
 use Rattle.acq_memory.specs.declared.replay.Replay.{Replay}
-use Rattle.acq_outside.specs.declared.change.Change.{Change}
-use Rattle.acq_outside.specs.declared.change.Change.TheVariants.{Write, Cut, Sync, Rename, Remove, SyncNames}
+use Rattle.acq_outside.specs.declared.change.DiskCall.{DiskCall}
+use Rattle.acq_outside.specs.declared.change.DiskCall.TheVariants.{Write, Cut, Sync, Rename, Remove, SyncNames}
 use Rattle.acq_outside.specs.declared.state.FileState.{FileState}
 use Rattle.acq_outside.specs.declared.state.NameChange.{NameChange}
 use Rattle.acq_outside.specs.declared.state.NameChange.TheVariants.{Made, Moved, Removed}
@@ -18,7 +18,7 @@ abbrev pub names_in : BTreeMap (List ℕ) ℕ → Names
 names_in names = λ name. get (slice_cmp nat_cmp) names name
 
 -- what a call does to the file that it is on
-abbrev pub file_after : FileState → Change → FileState
+abbrev pub file_after : FileState → DiskCall → FileState
 file_after file (Write name at bytes) = file_written file at bytes
 file_after file (Cut name len) = file_cut file len
 file_after file (Sync name) = synced file.seen

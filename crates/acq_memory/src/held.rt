@@ -5,7 +5,7 @@ ghost use Rattle.acq_outside.specs.History.{start_files, after_change};
 ghost use Rattle.acq_memory.specs.Held.{files_in};
 
 use acq_base::{Bytes, NoMemory, Row, Text, TryCopy};
-use acq_outside::Change;
+use acq_outside::DiskCall;
 use std::alloc::Global;
 use std::collections::BTreeMap;
 
@@ -48,19 +48,19 @@ pub fn list_names(alloc: Global, held: &Held) -> Result<Row<Text>, NoMemory>
 }
 
 /// Does to the files what a change says. Without memory nothing is changed.
-pub fn carry_out(alloc: Global, held: &mut Held, change: &Change) -> Result<(), NoMemory>
+pub fn carry_out(alloc: Global, held: &mut Held, change: &DiskCall) -> Result<(), NoMemory>
     ensures ok { OnOk result (files_in held.new ≡ after_change (files_in held.old) change.now) }
     ensures err { OnErr result (files_in held.new ≡ files_in held.old) }
 {
     match change {
-        Change::Write { name, at, bytes } => write_in(alloc, held, name, *at, bytes.as_slice()),
-        Change::Cut { name, len } => cut_in(alloc, held, name, *len),
-        Change::Rename { from, to } => rename_in(alloc, held, from, to),
-        Change::Remove(name) => {
+        DiskCall::Write { name, at, bytes } => write_in(alloc, held, name, *at, bytes.as_slice()),
+        DiskCall::Cut { name, len } => cut_in(alloc, held, name, *len),
+        DiskCall::Rename { from, to } => rename_in(alloc, held, from, to),
+        DiskCall::Remove(name) => {
             remove_in(held, name);
             Ok(())
         }
-        Change::Sync(_) | Change::SyncNames => Ok(()),
+        DiskCall::Sync(_) | DiskCall::SyncNames => Ok(()),
     }
 }
 

@@ -5,7 +5,7 @@ use crate::held::{Held, carry_out, held_files, list_names};
 use crate::image::left;
 use crate::replay::replay_all;
 use acq_base::{Bytes, NoMemory, Row, Text};
-use acq_outside::Change;
+use acq_outside::DiskCall;
 use std::alloc::Global;
 use std::marker::Model;
 
@@ -15,7 +15,7 @@ use std::marker::Model;
 #[derive(Debug, Drop)]
 pub struct History {
     start: Row<(Text, Bytes)>,
-    changes: Vec<Change>,
+    changes: Vec<DiskCall>,
     held: Held,
 }
 
@@ -80,7 +80,7 @@ impl History {
 
     /// Carries a change out and notes it. Without memory nothing is changed.
     #[tactic(auto, using(crate::proofs::HeldFiles::noted, crate::proofs::Named::kept_names, crate::proofs::Named::names_after, crate::proofs::Named::kept_changes, crate::proofs::Named::more_changes))]
-    pub fn apply(&mut self, alloc: Global, change: Change) -> Result<(), NoMemory>
+    pub fn apply(&mut self, alloc: Global, change: DiskCall) -> Result<(), NoMemory>
         requires { IsNamed change }
         ensures ok { OnOk result (self.new ≡ changed self.old change) }
         ensures err { OnErr result (self.new ≡ self.old) }
@@ -93,7 +93,7 @@ impl History {
 }
 
 /// Appends a change where there is room for it.
-fn note(changes: &mut Vec<Change>, change: Change)
+fn note(changes: &mut Vec<DiskCall>, change: DiskCall)
     requires { vec_len changes.old < vec_capacity changes.old }
     ensures { changes.new.items ≡ changes.old.items ++ change ∷ [] }
 {

@@ -1,6 +1,10 @@
 //! The outside in memory: a disk, a configuration folder, a method, served files, an output and a clock. Each tells what
 //! it holds, and which of its calls fail is said when it is made. The disk keeps its changes, so that it can be crashed: a
 //! choice of bytes stands for each thing that a crash may leave.
+//!
+//! The objects meet their traits' clauses, fail exactly the calls of their row but for want of memory (`listed`,
+//! `others`), and a disk's failed call changes nothing (`failed`). The disk may crash: `MemDisk::crashed` is what a
+//! choice leaves of it, and is among what acq_outside's crash model says that a crash may leave.
 #![tactic(auto)]
 
 pub use fixed_clock::FixedClock;

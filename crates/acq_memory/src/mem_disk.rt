@@ -3,7 +3,7 @@ use crate::failing::Failing;
 use crate::history::History;
 use crate::start::{are_names, names_differ};
 use acq_base::{Bytes, NoMemory, Row, Text};
-use acq_outside::{Change, Fault};
+use acq_outside::{DiskCall, Fault};
 use std::alloc::Global;
 
 mod calls;
@@ -103,7 +103,7 @@ impl MemDisk {
 
     /// Does this change within a call that is counted.
     #[tactic(auto, using(crate::proofs::HeldFiles::files_of_changed))]
-    fn apply(&mut self, change: Change) -> Result<(), Fault>
+    fn apply(&mut self, change: DiskCall) -> Result<(), Fault>
         requires { IsNamed change }
         ensures held { times_held self.new ≡ times_held self.old }
         ensures holder { held_of self.new ≡ held_of self.old }

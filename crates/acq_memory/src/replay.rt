@@ -7,7 +7,7 @@ ghost use Rattle.acq_memory.specs.Replay.{file_after as file_after_call, state_o
 use crate::held::{front, spliced};
 use crate::name_map::rename_one;
 use acq_base::{Bytes, NoMemory, Row, Text, TryCopy};
-use acq_outside::{Change, FileState, NameChange};
+use acq_outside::{DiskCall, FileState, NameChange};
 use std::alloc::Global;
 use std::collections::BTreeMap;
 
@@ -22,11 +22,11 @@ pub struct Replay {
 }
 
 /// The file after a call on it.
-fn file_after(alloc: Global, file: &FileState, change: &Change) -> Result<FileState, NoMemory>
+fn file_after(alloc: Global, file: &FileState, change: &DiskCall) -> Result<FileState, NoMemory>
     ensures { IfOk result (λ after. after ≡ file_after_call file.now change.now) }
 {
     match change {
-        Change::Write { name: _, at, bytes } => Ok(FileState {
+        DiskCall::Write { name: _, at, bytes } => Ok(FileState {
             seen: spliced(alloc, file.seen.as_slice(), *at, bytes.as_slice())?,
             cells: opened(
                 alloc,
@@ -36,7 +36,7 @@ fn file_after(alloc: Global, file: &FileState, change: &Change) -> Result<FileSt
             )?,
             least: file.least,
         }),
-        Change::Cut { name: _, len } => Ok(FileState {
+        DiskCall::Cut { name: _, len } => Ok(FileState {
             seen: front(alloc, file.seen.as_slice(), *len)?,
             cells: file.cells.copy(alloc)?,
             least: file.least.min(*len),
@@ -104,7 +104,7 @@ fn kept(alloc: Global, bytes: &[u8]) -> Result<Row<Option<u8>>, NoMemory>
 impl Replay {
     /// Does a call to the file that a name leads to.
     #[tactic(auto, using(crate::proofs::Replaying::file_set, crate::proofs::Replaying::file_past, crate::proofs::Replaying::file_none))]
-    fn on_file(&mut self, alloc: Global, name: &Text, change: &Change) -> Result<(), NoMemory>
+    fn on_file(&mut self, alloc: Global, name: &Text, change: &DiskCall) -> Result<(), NoMemory>
         ensures state { OnOk result (state_of self.new ≡ on_file (state_of self.old) (names_in self.old.names name.now) (λ file. file_after_call file change.now)) }
         ensures names { self.new.names ≡ self.old.names }
     {
@@ -138,7 +138,7 @@ impl Replay {
     #[tactic(auto, using(crate::proofs::Replaying::moved_none, crate::proofs::Replaying::moved_some))]
     fn rename(&mut self, alloc: Global, from: &Text, to: &Text) -> Result<(), NoMemory>
         requires { IsAtNames self.old }
-        ensures state { OnOk result (state_of self.new ≡ after (state_of self.old) (Change.Rename from.now to.now)) }
+        ensures state { OnOk result (state_of self.new ≡ after (state_of self.old) (DiskCall.Rename from.now to.now)) }
         ensures standing { OnOk result (IsAtNames self.new) }
     {
         if self.names.get(from).is_none() {
@@ -152,7 +152,7 @@ impl Replay {
     #[tactic(auto, using(crate::proofs::Replaying::gone_none, crate::proofs::Replaying::gone_some))]
     fn remove(&mut self, alloc: Global, name: &Text) -> Result<(), NoMemory>
         requires { IsAtNames self.old }
-        ensures state { OnOk result (state_of self.new ≡ after (state_of self.old) (Change.Remove name.now)) }
+        ensures state { OnOk result (state_of self.new ≡ after (state_of self.old) (DiskCall.Remove name.now)) }
         ensures standing { OnOk result (IsAtNames self.new) }
     {
         if self.names.get(name).is_none() {
@@ -163,10 +163,16 @@ impl Replay {
     }
 
     /// Cuts a file, or makes one.
-    fn cut(&mut self, alloc: Global, name: &Text, len: u64, change: &Change) -> Result<(), NoMemory>
+    fn cut(
+        &mut self,
+        alloc: Global,
+        name: &Text,
+        len: u64,
+        change: &DiskCall,
+    ) -> Result<(), NoMemory>
         requires standing { IsAtNames self.old }
-        requires cut { change.now ≡ Change.Cut name.now len }
-        ensures state { OnOk result (state_of self.new ≡ after (state_of self.old) (Change.Cut name.now len)) }
+        requires cut { change.now ≡ DiskCall.Cut name.now len }
+        ensures state { OnOk result (state_of self.new ≡ after (state_of self.old) (DiskCall.Cut name.now len)) }
         ensures standing { OnOk result (IsAtNames self.new) }
     {
         if self.names.get(name).is_some() {
@@ -185,7 +191,7 @@ impl Replay {
     /// Makes all changes of names lasting.
     fn sync_names(&mut self) -> Result<(), NoMemory>
         requires { IsAtNames self.old }
-        ensures state { OnOk result (state_of self.new ≡ after (state_of self.old) Change.SyncNames) }
+        ensures state { OnOk result (state_of self.new ≡ after (state_of self.old) DiskCall.SyncNames) }
         ensures standing { OnOk result (IsAtNames self.new) }
     {
         self.settled.append(&mut self.pending)?;
@@ -193,22 +199,22 @@ impl Replay {
     }
 
     /// Does a call.
-    pub fn apply(&mut self, alloc: Global, change: &Change) -> Result<(), NoMemory>
+    pub fn apply(&mut self, alloc: Global, change: &DiskCall) -> Result<(), NoMemory>
         requires { IsAtNames self.old }
         ensures state { OnOk result (state_of self.new ≡ after (state_of self.old) change.now) }
         ensures standing { OnOk result (IsAtNames self.new) }
     {
         match change {
-            Change::Write {
+            DiskCall::Write {
                 name,
                 at: _,
                 bytes: _,
             } => self.on_file(alloc, name, change),
-            Change::Cut { name, len } => self.cut(alloc, name, *len, change),
-            Change::Sync(name) => self.on_file(alloc, name, change),
-            Change::Rename { from, to } => self.rename(alloc, from, to),
-            Change::Remove(name) => self.remove(alloc, name),
-            Change::SyncNames => self.sync_names(),
+            DiskCall::Cut { name, len } => self.cut(alloc, name, *len, change),
+            DiskCall::Sync(name) => self.on_file(alloc, name, change),
+            DiskCall::Rename { from, to } => self.rename(alloc, from, to),
+            DiskCall::Remove(name) => self.remove(alloc, name),
+            DiskCall::SyncNames => self.sync_names(),
         }
     }
 }
@@ -257,7 +263,7 @@ fn begin(alloc: Global, rows: &[(Text, Bytes)]) -> Result<Replay, NoMemory>
 pub fn replay_all(
     alloc: Global,
     rows: &[(Text, Bytes)],
-    changes: &[Change],
+    changes: &[DiskCall],
 ) -> Result<Replay, NoMemory>
     ensures state { IfOk result (λ replay. state_of replay ≡ newest (trace_after (start_state rows.now) [] changes.now)) }
     ensures names { IfOk result IsAtNames }

@@ -1,11 +1,11 @@
 -- The frame over calls of a link one after another.
 use Rattle.std.proofs.Common.{◌∙◌, arith, ℕ, Option, Ok}
-use Rattle.acq_base.specs.Mirror.{World}
+use Rattle.acq_base.specs.Mirror.{MirrorMap}
 use Rattle.acq_net.specs.LinkFrame.{ListensBy, ListensCountingBy}
 use Rattle.acq_net.specs.Talk.{Talk}
 
 -- one more call that listened and told no fault
-pub listened_on : {L T E : Type 0} {kind : E} {faults makes hears : L → ℕ} {before : L → Option Talk} {world : L → Option World} {a b c : L} {x : T} → ListensBy {T = Unit {0}} {E = Unit {0}} faults makes hears before world a b (Ok tt)
+pub listened_on : {L T E : Type 0} {kind : E} {faults makes hears : L → ℕ} {before : L → Option Talk} {world : L → Option MirrorMap} {a b c : L} {x : T} → ListensBy {T = Unit {0}} {E = Unit {0}} faults makes hears before world a b (Ok tt)
     → ListensCountingBy {T = T} {E = E} kind faults makes hears before world b c (Ok x) → ListensBy {T = Unit {0}} {E = Unit {0}} faults makes hears before world a c (Ok tt)
 listened_on so_far now = record {
   counts = record { count = omega (arith, so_far.count, now.count); fault = tt; quiet = now.quiet ∙ so_far.quiet };

@@ -4,10 +4,10 @@ use Rattle.acq_base.specs.declared.fetch.Answer.{Answer}
 use Rattle.acq_base.specs.declared.fetch.Answer.TheVariants as answers
 use Rattle.acq_base.specs.declared.uri.Scheme.TheVariants.{Http}
 use Rattle.acq_base.specs.declared.uri.Uri.{Uri}
-use Rattle.acq_base.specs.Mirror.{World, answer_at}
+use Rattle.acq_base.specs.Mirror.{MirrorMap, answer_at}
 use Rattle.acq_base.specs.Uri.{IsSound}
 use Rattle.uri_names.specs.Redirect.{resolve_of}
-use Rattle.http_wire.specs.declared.ending.Ending.TheVariants.{Served, Absent, Moved, TooBig}
+use Rattle.http_wire.specs.declared.ending.Response.TheVariants.{Served, Absent, Moved, TooBig}
 use Rattle.http_wire.specs.Request.{request_text}
 use Rattle.http_wire.specs.Stream.{Heard, hear, IsHeard}
 
@@ -37,7 +37,7 @@ HeardAnswer (answers.Moved to) uri max from keep heard = (place : List ℕ) × (
 HeardAnswer (answers.Absent status) uri max from keep heard = heard.ending ≡ Some (Absent status)
 
 -- a whole response is the mirror's answer at the URI to a request from a byte on, whatever the limit
-pub record IsAnswerOf (entries : World) (uri : Uri) (from : ℕ) (response : List ℕ) (keep : Bool) : Type 0 where
+pub record IsAnswerOf (entries : MirrorMap) (uri : Uri) (from : ℕ) (response : List ℕ) (keep : Bool) : Type 0 where
   pub is : (max : ℕ) → (from ≡ 0) ⊎ (from < max) → (heard : Heard) × IsHeard max from response true heard × HeardAnswer (answer_at entries uri) uri max from keep heard
 
 -- what is due of a response to a request for the URI
@@ -45,7 +45,7 @@ abbrev pub owing : Uri → List ℕ → Bool → Due
 owing uri bytes keep = record { host = uri.host; port = uri.port; bytes = bytes; keep = keep }
 
 -- the mirror's answer to the request is due
-pub record IsAnswered (entries : World) (uri : Uri) (from : ℕ) (later : Option Due) : Type 0 where
+pub record IsAnswered (entries : MirrorMap) (uri : Uri) (from : ℕ) (later : Option Due) : Type 0 where
   pub response : List ℕ
   pub keep : Bool
   pub is : later ≡ Some (owing uri response keep)
@@ -53,7 +53,7 @@ pub record IsAnswered (entries : World) (uri : Uri) (from : ℕ) (later : Option
 
 -- A request for a sound http URI may be sent to its host and port while nothing is due and the last response left the
 -- connection open. It makes the mirror's answer due. Nothing is said of any other one.
-abbrev pub Owes : World → List ℕ → Option Due → Option Due → Type 0
+abbrev pub Owes : MirrorMap → List ℕ → Option Due → Option Due → Type 0
 Owes entries sent before later =
     (uri : Uri) (from : ℕ) → uri.scheme ≡ Http → IsSound uri → sent ≡ request_text uri from → before ≡ Some (fresh uri.host uri.port) → IsAnswered entries uri from later
 

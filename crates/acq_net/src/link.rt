@@ -1,7 +1,7 @@
 //! A connection to a peer, as the rest of the program asks for it.
 ghost use Rattle.std.specs.Prelude.{◌≡◌, ◌≢◌, ℕ, ◌<◌, ◌≤◌, length, take, Option, Some, option_map, IfOk, IfSome, OnOk, OnErr};
 ghost use Rattle.acq_outside.specs.Count.{Rose};
-ghost use Rattle.acq_base.specs.Mirror.{World};
+ghost use Rattle.acq_base.specs.Mirror.{MirrorMap};
 ghost use Rattle.acq_net.specs.Due.{Came, Due, Owes, fresh};
 ghost use Rattle.acq_net.specs.LinkFrame.{LeavesBy, ListensBy, OpensBy, SaysBy};
 ghost use Rattle.acq_net.specs.Talk.{ReceivesPart, SendsPart, Talk, receives, sends, silent};
@@ -30,7 +30,7 @@ pub trait Link: Drop {
     ghost former: { Self → Option Talk };
 
     /// The mirror that it stands for, where it stands for one.
-    ghost world: { Self → Option World };
+    ghost world: { Self → Option MirrorMap };
 
     /// What is due on the present connection, where it stands for a mirror and nothing was sent that may not be.
     ghost due: { Self → Option Due };

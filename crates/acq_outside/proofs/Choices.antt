@@ -5,7 +5,7 @@ use Rattle.std.proofs.lemmas.List.{append-nil}
 use Rattle.std.proofs.lemmas.Bool.Decides.{nat_tests}
 use Rattle.std.proofs.lemmas.Bool.{and_parts}
 use Rattle.acq_outside.specs.Disk.{Files}
-use Rattle.acq_outside.specs.Crash.{State, Fits, FitsAll, IsOutcome, IsPart, none, left_out, taken, IsImage, IsSound, file_at, all_renamed}
+use Rattle.acq_outside.specs.Crash.{State, Fits, FitsAll, IsOutcome, IsSubsequence, none, left_out, taken, IsImage, IsSound, file_at, all_renamed}
 use Rattle.acq_outside.specs.Choice.{next_byte, next_rest, Drawn, put_first, drawn_part, cell_byte, drawn_bytes, drawn_files, image_of, AreBytes, HasBytes}
 use Rattle.acq_outside.specs.declared.state.FileState.{FileState}
 use Rattle.acq_outside.specs.declared.state.NameChange.{NameChange}
@@ -54,11 +54,11 @@ all_outcomes whole [] rest sound i = record { long = omega arith; fits = tt }
 all_outcomes whole (file ∷ files) rest sound zero = drawn_outcome whole file rest (sound zero)
 all_outcomes whole (file ∷ files) rest sound (suc i) = all_outcomes whole files (drawn_bytes whole file.least file.cells rest).rest (λ k. sound (suc k)) i
 
-part_case : (t : Bool) (change : NameChange) (changes : List NameChange) (later : Drawn (List NameChange)) → IsPart later.value changes → IsPart (if t then later else put_first change later).value (change ∷ changes)
+part_case : (t : Bool) (change : NameChange) (changes : List NameChange) (later : Drawn (List NameChange)) → IsSubsequence later.value changes → IsSubsequence (if t then later else put_first change later).value (change ∷ changes)
 part_case true change changes later part = left_out change part
 part_case false change changes later part = taken change part
 
-pub drawn_is_part : (whole : List ℕ) (changes : List NameChange) (rest : List ℕ) → IsPart (drawn_part whole changes rest).value changes
+pub drawn_is_part : (whole : List ℕ) (changes : List NameChange) (rest : List ℕ) → IsSubsequence (drawn_part whole changes rest).value changes
 drawn_is_part whole [] rest = none
 drawn_is_part whole (change ∷ changes) rest = part_case (nat_eq (next_byte whole rest) 0) change changes (drawn_part whole changes (next_rest whole rest)) (drawn_is_part whole changes (next_rest whole rest))
 
@@ -150,18 +150,18 @@ encode_files_small [] bytes = tt
 encode_files_small (file ∷ files) bytes = are_append (encode_bytes file.cells (bytes zero)) (encode_files files (λ i. bytes (suc i))) (encode_small file.cells (bytes zero)) (encode_files_small files (λ i. bytes (suc i)))
 
 -- One byte for each change: whether it is taken.
-encode_part : (some all : List NameChange) → IsPart some all → List ℕ
+encode_part : (some all : List NameChange) → IsSubsequence some all → List ℕ
 encode_part some all none = []
 encode_part some all (left_out change part) = 0 ∷ encode_part _ _ part
 encode_part some all (taken change part) = 1 ∷ encode_part _ _ part
 
-decoded_part : (whole : List ℕ) (some all : List NameChange) (part : IsPart some all) (more : List ℕ) → drawn_part whole all (encode_part some all part ++ more) ≡ record { value = some; rest = more }
+decoded_part : (whole : List ℕ) (some all : List NameChange) (part : IsSubsequence some all) (more : List ℕ) → drawn_part whole all (encode_part some all part ++ more) ≡ record { value = some; rest = more }
 unfolding encode_part
 decoded_part whole some all none more = refl
 decoded_part whole some all (left_out change part) more = decoded_part whole _ _ part more
 decoded_part whole some all (taken change part) more = ap (put_first change) (decoded_part whole _ _ part more)
 
-encode_part_small : (some all : List NameChange) (part : IsPart some all) → AreBytes (encode_part some all part)
+encode_part_small : (some all : List NameChange) (part : IsSubsequence some all) → AreBytes (encode_part some all part)
 unfolding encode_part
 encode_part_small some all none = tt
 encode_part_small some all (left_out change part) = (omega arith, encode_part_small _ _ part)

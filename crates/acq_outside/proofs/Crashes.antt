@@ -3,10 +3,10 @@ use Rattle.std.proofs.Common.{◌≡◌, ◌≢◌, inl, inr, refl, sym, ap, sub
 use Rattle.std.proofs.lemmas.Bool.{cases_lt, cases_eq}
 use Rattle.std.proofs.lemmas.List.{get_or-set_same, get_or-set_other, set_past, get_or_append_left, get_or-append_right, get_or_past}
 use Rattle.acq_outside.specs.Disk.{Files}
-use Rattle.acq_outside.specs.Crash.{State, IsOutcome, FitsAll, IsPart, none, left_out, taken, IsImage, IsSound, Names, all_renamed, names_of, file_at, no_file, on_file, with_change, cut_or_made, after, changed_file, synced, all_any, file_written, file_cut, reads, seen_at}
-use Rattle.acq_outside.specs.Moments.{SyncLasts, NamesLast, SyncsShrink, LeavesApart, LeavesAsDone, IsSync, MayBeLost, LeavesWithin}
-use Rattle.acq_outside.specs.declared.change.Change.{Change}
-use Rattle.acq_outside.specs.declared.change.Change.TheVariants.{Write, Cut, Sync, Rename, Remove, SyncNames}
+use Rattle.acq_outside.specs.Crash.{State, IsOutcome, FitsAll, IsSubsequence, none, left_out, taken, IsImage, IsSound, Names, all_renamed, names_of, file_at, no_file, on_file, with_change, cut_or_made, after, changed_file, synced, all_any, file_written, file_cut, reads, seen_at}
+use Rattle.acq_outside.specs.States.{SyncLasts, NamesLast, SyncsShrink, LeavesApart, LeavesAsDone, IsSync, MayBeLost, LeavesWithin}
+use Rattle.acq_outside.specs.declared.change.DiskCall.{DiskCall}
+use Rattle.acq_outside.specs.declared.change.DiskCall.TheVariants.{Write, Cut, Sync, Rename, Remove, SyncNames}
 use Rattle.acq_outside.specs.declared.state.FileState.{FileState}
 use Rattle.acq_outside.specs.declared.state.NameChange.{NameChange}
 use Rattle.acq_outside.specs.declared.state.NameChange.TheVariants.{Made, Moved, Removed}
@@ -14,7 +14,7 @@ use Rattle.acq_outside.proofs.Outcomes.{only_synced, over, lay, over_is}
 use Rattle.acq_outside.proofs.NamesApart.{part_apart, part_all}
 use Rattle.acq_outside.proofs.Traces.{apart_now}
 
-pub none_of_none : (some all : List NameChange) → IsPart some all → all ≡ [] → some ≡ []
+pub none_of_none : (some all : List NameChange) → IsSubsequence some all → all ≡ [] → some ≡ []
 none_of_none some all none is = refl
 none_of_none some all (left_out change part) is = absurd cc
 none_of_none some all (taken change part) is = absurd cc
@@ -97,7 +97,7 @@ torn_outcome done torn seen bytes is outcome = let of_it = subst (λ (f : FileSt
 pub leaves_as_done : (done : State) → LeavesAsDone done
 leaves_as_done done file torn image like is = record {
   some = is.some;
-  part = subst (λ (all : List NameChange). IsPart is.some all) like.pending is.part;
+  part = subst (λ (all : List NameChange). IsSubsequence is.some all) like.pending is.part;
   bytes = is.bytes;
   outcomes = λ i. torn_outcome (file_at done.files i) (file_at torn.files i) (like.content i).0 (is.bytes i) (like.content i).1 (is.outcomes i);
   shows = λ name. is.shows name ∙ ap (λ (m : Names). option_map is.bytes (all_renamed m is.some name)) like.base;
@@ -158,7 +158,7 @@ made_files files k = ⊎_elim (λ low. get_or_append_left files (synced [] ∷ [
     last zero = refl
     last (suc j) = refl
 
-part_left : (some all : List NameChange) (change : NameChange) → IsPart some all → IsPart some (all ++ change ∷ [])
+part_left : (some all : List NameChange) (change : NameChange) → IsSubsequence some all → IsSubsequence some (all ++ change ∷ [])
 part_left some all change none = left_out change none
 part_left some all change (left_out first part) = left_out first (part_left _ _ change part)
 part_left some all change (taken first part) = taken first (part_left _ _ change part)
@@ -185,7 +185,7 @@ may_be_lost s (Rename from to) call image is = change_lost s (names_of s from) (
 may_be_lost s (Remove name) call image is = change_lost s (names_of s name) (Removed name) image is
 may_be_lost s SyncNames call image is = absurd (call tt)
 
-sync_back : (s : State) (call : Change) → IsSound s → IsSync call → (image : Files) → IsImage (after s call) image → IsImage s image
+sync_back : (s : State) (call : DiskCall) → IsSound s → IsSync call → (image : Files) → IsImage (after s call) image → IsImage s image
 sync_back s (Write name at bytes) sound sync image is = absurd sync
 sync_back s (Cut name len) sound sync image is = absurd sync
 sync_back s (Sync name) sound sync image is = file_back s (names_of s name) image sound is

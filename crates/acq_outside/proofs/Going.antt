@@ -1,8 +1,8 @@
 -- What holds at each moment of a call, and of calls one after another: laws for the proofs of the crates above.
 use Rattle.std.proofs.Common.{◌≡◌, refl, sym, ap, ◌∙◌, subst, inl, inr, List, [], ◌∷◌, ◌++◌, append_assoc, Result, Ok, Err, OnOk}
 use Rattle.acq_outside.specs.Crash.{State, IsSound, AllSound, IsTorn, Goes, after, changed_file}
-use Rattle.acq_outside.specs.Moments.{Stands, Each, Since, From}
-use Rattle.acq_outside.specs.declared.change.Change.{Change}
+use Rattle.acq_outside.specs.States.{IsNow, Each, Since, From}
+use Rattle.acq_outside.specs.declared.change.DiskCall.{DiskCall}
 
 pub each_append : (P : State → Type 0) (a b : List State) → Each P a → Each P b → Each P (a ++ b)
 each_append P [] b in_a in_b = in_b
@@ -51,25 +51,25 @@ onward R steps old (s ∷ past) new first later = record {
   each = each_append (From R old) later.states first.states (each_map (R s) (From R old) later.states (λ t now. from_earlier R steps old first.states s t past first.joined first.each now) later.each) first.each;
 }
 
-pub newest_of : (P : State → Type 0) (old states new : List State) → new ≡ states ++ old → Each P states → Stands P old → Stands P new
-newest_of P old [] new is each stands = subst (λ (l : List State). Stands P l) (sym is) stands
-newest_of P old (s ∷ states) new is each stands = subst (λ (l : List State). Stands P l) (sym is) each.0
+pub newest_of : (P : State → Type 0) (old states new : List State) → new ≡ states ++ old → Each P states → IsNow P old → IsNow P new
+newest_of P old [] new is each stands = subst (λ (l : List State). IsNow P l) (sym is) stands
+newest_of P old (s ∷ states) new is each stands = subst (λ (l : List State). IsNow P l) (sym is) each.0
 
 -- what a relation hands on holds of a disk as it then is
-pub handed_on : (R : State → State → Type 0) (P : State → Type 0) (old new : List State) → ((s t : State) → R s t → P s → P t) → Since old new (From R old) → Stands P old → Stands P new
-handed_on R P [] new hands since stands = subst (λ (l : List State). Stands P l) (sym (since.untold refl)) tt
+pub handed_on : (R : State → State → Type 0) (P : State → Type 0) (old new : List State) → ((s t : State) → R s t → P s → P t) → Since old new (From R old) → IsNow P old → IsNow P new
+handed_on R P [] new hands since stands = subst (λ (l : List State). IsNow P l) (sym (since.untold refl)) tt
 handed_on R P (s ∷ past) new hands since stands =
     newest_of P (s ∷ past) since.states new since.joined (each_map (R s) P since.states (λ t is. hands s t is stands) since.each) stands
 
 -- a call, over all that a disk has been: what it is to a state in which P holds, done or torn
-pub goes : {T E : Type 0} (R : State → State → Type 0) (P Q : State → Type 0) (call : Change) (old new : List State) (result : Result T E) → AllSound old
+pub goes : {T E : Type 0} (R : State → State → Type 0) (P Q : State → Type 0) (call : DiskCall) (old new : List State) (result : Result T E) → AllSound old
     → ((s : State) → IsSound s → P s → R s (after s call))
     → ((s torn : State) → IsSound s → P s → IsTorn (changed_file s call) (after s call) torn → R s torn)
     → ((s : State) → IsSound s → P s → Q (after s call))
-    → Stands P old → Goes call old new result → Since old new (From R old) × OnOk result (Stands Q new)
-goes R P Q call [] new (Ok x) sound done torn ends stands is = (no_time [] new (From R []) is, subst (λ (l : List State). Stands Q l) (sym is) tt)
+    → IsNow P old → Goes call old new result → Since old new (From R old) × OnOk result (IsNow Q new)
+goes R P Q call [] new (Ok x) sound done torn ends stands is = (no_time [] new (From R []) is, subst (λ (l : List State). IsNow Q l) (sym is) tt)
 goes R P Q call [] new (Err e) sound done torn ends stands is = (no_time [] new (From R []) is, tt)
 goes R P Q call (s ∷ past) new (Ok x) sound done torn ends stands is =
-    (one_more s past new (From R (s ∷ past)) (after s call) is (done s sound.0 stands), subst (λ (l : List State). Stands Q l) (sym is) (ends s sound.0 stands))
+    (one_more s past new (From R (s ∷ past)) (after s call) is (done s sound.0 stands), subst (λ (l : List State). IsNow Q l) (sym is) (ends s sound.0 stands))
 goes R P Q call (s ∷ past) new (Err e) sound done torn ends stands (inl same) = (no_time (s ∷ past) new (From R (s ∷ past)) same, tt)
 goes R P Q call (s ∷ past) new (Err e) sound done torn ends stands (inr part) = (one_more s past new (From R (s ∷ past)) part.0 part.2 (torn s part.0 sound.0 stands part.1), tt)

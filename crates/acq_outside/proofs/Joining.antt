@@ -3,7 +3,7 @@ use Rattle.std.proofs.Common.{◌≡◌, ◌∙◌, ℕ, ◌+◌, ◌≤◌, fal
 use Rattle.acq_base.specs.declared.fetch.Job.{Job}
 use Rattle.acq_base.specs.declared.fetch.Answer.{Answer}
 use Rattle.acq_base.specs.declared.fetch.Answer.TheVariants as answers
-use Rattle.acq_base.specs.Mirror.{World, answer_at}
+use Rattle.acq_base.specs.Mirror.{MirrorMap, answer_at}
 use Rattle.acq_outside.specs.declared.word.Fetch.{Fetch}
 use Rattle.acq_outside.specs.declared.word.Word.TheVariants.{Piece}
 use Rattle.acq_outside.specs.Word.{IsWord, IsPieceOf, begun}
@@ -15,7 +15,7 @@ IsFront (answers.Moved place) bytes = ⊥
 IsFront (answers.Absent status) bytes = ⊥
 
 -- the fetch of a job from its file's beginning goes on behind these bytes, and nothing else has changed
-pub record IsJoined (before : ℕ) (world : Option World) (job : Job) (bytes : List ℕ) (count : ℕ) (told : Option World) (under : Option Fetch) : Type 0 where
+pub record IsJoined (before : ℕ) (world : Option MirrorMap) (job : Job) (bytes : List ℕ) (count : ℕ) (told : Option MirrorMap) (under : Option Fetch) : Type 0 where
   pub quiet : count ≡ before
   pub same : told ≡ world
   pub under_way : under ≡ Some (record { job = job; at = length bytes })
@@ -27,14 +27,14 @@ first_front (answers.Served all) at bytes none is = let P : ℕ → Type 0 = λ 
 first_front (answers.Moved place) at bytes none is = elim is [ ]
 first_front (answers.Absent status) at bytes none is = elim is [ ]
 
-front_first : (world : Option World) (job : Job) (bytes : List ℕ) → job.from ≡ 0 → IfSome world (λ entries. IsPieceOf (answer_at entries job.uri) job.from bytes) → IfSome world (λ entries. IsFront (answer_at entries job.uri) bytes)
+front_first : (world : Option MirrorMap) (job : Job) (bytes : List ℕ) → job.from ≡ 0 → IfSome world (λ entries. IsPieceOf (answer_at entries job.uri) job.from bytes) → IfSome world (λ entries. IsFront (answer_at entries job.uri) bytes)
 front_first None job bytes none is = tt
 front_first (Some entries) job bytes none is = first_front (answer_at entries job.uri) job.from bytes none is
 
 from_start : (from n : ℕ) → from ≡ 0 → from + n ≡ n
 from_start from n none = omega arith
 
-pub first : (before after : ℕ) (world told : Option World) (job : Job) (under : Option Fetch) (place : ℕ) (bytes : List ℕ) → job.from ≡ 0 → told ≡ world
+pub first : (before after : ℕ) (world told : Option MirrorMap) (job : Job) (under : Option Fetch) (place : ℕ) (bytes : List ℕ) → job.from ≡ 0 → told ≡ world
     → IsWord before after world (begun job) under (Piece place bytes) → IsJoined before world job bytes after told under
 first before after world told job under place bytes none same is = record {
   quiet = is.quiet;
@@ -53,13 +53,13 @@ next_front (answers.Served all) bytes piece front is =
 next_front (answers.Moved place) bytes piece front is = elim front [ ]
 next_front (answers.Absent status) bytes piece front is = elim front [ ]
 
-front_next : (world : Option World) (job : Job) (bytes piece joined : List ℕ) → joined ≡ bytes ++ piece → IfSome world (λ entries. IsFront (answer_at entries job.uri) bytes)
+front_next : (world : Option MirrorMap) (job : Job) (bytes piece joined : List ℕ) → joined ≡ bytes ++ piece → IfSome world (λ entries. IsFront (answer_at entries job.uri) bytes)
     → IfSome world (λ entries. IsPieceOf (answer_at entries job.uri) (length bytes) piece) → IfSome world (λ entries. IsFront (answer_at entries job.uri) joined)
 front_next None job bytes piece joined grown front is = tt
 front_next (Some entries) job bytes piece joined grown front is = rw grown (next_front (answer_at entries job.uri) bytes piece front is)
 
 -- one more piece
-pub next : (before count after : ℕ) (world told later : Option World) (job : Job) (was under : Option Fetch) (place : ℕ) (bytes piece joined : List ℕ)
+pub next : (before count after : ℕ) (world told later : Option MirrorMap) (job : Job) (was under : Option Fetch) (place : ℕ) (bytes piece joined : List ℕ)
     → IsJoined before world job bytes count told was → later ≡ told → joined ≡ bytes ++ piece → IfSome was (λ fetch. IsWord count after told fetch under (Piece place piece))
     → IsJoined before world job joined after later under
 next before count after world told later job was under place bytes piece joined so_far same grown is =

@@ -2,7 +2,7 @@
 use Rattle.std.proofs.Common.{◌≡◌, refl, sym, ◌∙◌, subst, arith, ℕ, ◌+◌, ◌<◌, ◌≤◌, Bool, true, false, if◌then◌else◌, List, [], ◌∷◌, ◌++◌, Option, Some, None}
 use Rattle.std.proofs.lemmas.Slice.Eq.{bytes_eq-Decides}
 use Rattle.acq_outside.specs.Disk.{same_name}
-use Rattle.acq_outside.specs.Crash.{Names, with_name, moved_name, renamed, all_renamed, IsPart, none, left_out, taken, IsApart, Ascends}
+use Rattle.acq_outside.specs.Crash.{Names, with_name, moved_name, renamed, all_renamed, IsSubsequence, none, left_out, taken, IsApart, Ascends}
 use Rattle.acq_outside.specs.declared.state.NameChange.{NameChange}
 use Rattle.acq_outside.specs.declared.state.NameChange.TheVariants.{Made, Moved, Removed}
 
@@ -72,14 +72,14 @@ step m (Made name i) changes n top apart ascends =
 step m (Moved from to) changes n top apart ascends = (n, moved_apart m n from to (m from) refl apart, ascends)
 step m (Removed name) changes n top apart ascends = (n, removed m n name apart, ascends)
 
-pub part_apart : (some all : List NameChange) → IsPart some all → (m : Names) (n top : ℕ) → IsApart m n → Ascends n all top → IsApart (all_renamed m some) top
+pub part_apart : (some all : List NameChange) → IsSubsequence some all → (m : Names) (n top : ℕ) → IsApart m n → Ascends n all top → IsApart (all_renamed m some) top
 part_apart some all none m n top apart ascends = weaken m n top ascends apart
 part_apart some all (left_out change part) m n top apart ascends = part_apart _ _ part m n top apart (later change _ n top ascends)
 part_apart some all (taken change part) m n top apart ascends =
     let next = step m change _ n top apart ascends in
     part_apart _ _ part (renamed m change) next.0 top next.1 next.2
 
-pub part_all : (changes : List NameChange) → IsPart changes changes
+pub part_all : (changes : List NameChange) → IsSubsequence changes changes
 part_all [] = none
 part_all (change ∷ changes) = taken change (part_all changes)
 

@@ -10,8 +10,8 @@ use Rattle.acq_outside.specs.Crash.{State, IsOutcome, IsSound, IsApart, Ascends,
 use Rattle.acq_outside.specs.declared.state.FileState.{FileState}
 use Rattle.acq_outside.specs.declared.state.NameChange.{NameChange}
 use Rattle.acq_outside.specs.declared.state.NameChange.TheVariants.{Made, Moved, Removed}
-use Rattle.acq_outside.specs.declared.change.Change.{Change}
-use Rattle.acq_outside.specs.declared.change.Change.TheVariants.{Write, Cut, Sync, Rename, Remove, SyncNames}
+use Rattle.acq_outside.specs.declared.change.DiskCall.{DiskCall}
+use Rattle.acq_outside.specs.declared.change.DiskCall.TheVariants.{Write, Cut, Sync, Rename, Remove, SyncNames}
 use Rattle.acq_outside.proofs.Files.{same_content}
 use Rattle.acq_outside.proofs.Outcomes.{synced_outcome, written_outcome, cut_outcome}
 use Rattle.acq_outside.proofs.NamesApart.{part_apart, part_all, ascends_make, ascends_move, ascends_gone}
@@ -69,7 +69,7 @@ change_sound s (Some i) change sound more = record { outcomes = sound.outcomes; 
 pub apart_now : (s : State) → IsSound s → IsApart (names_of s) (length s.files)
 apart_now s sound = part_apart s.pending s.pending (part_all s.pending) s.base sound.first (length s.files) sound.apart sound.ascends
 
-pub sound_after : (s : State) (call : Change) → IsSound s → IsSound (after s call)
+pub sound_after : (s : State) (call : DiskCall) → IsSound s → IsSound (after s call)
 sound_after s (Write name at bytes) sound = on_file_sound s (names_of s name) (λ file. file_written file at bytes) sound (λ file seen. written_outcome file at bytes seen)
 sound_after s (Cut name len) sound = cut_sound s name len (names_of s name) sound
 sound_after s (Sync name) sound = on_file_sound s (names_of s name) (λ file. synced file.seen) sound (λ file seen. synced_outcome file.seen)
@@ -143,7 +143,7 @@ same_bytes : (o : Option (List ℕ)) → option_map (λ (bytes : List ℕ). byte
 same_bytes None = refl
 same_bytes (Some bytes) = refl
 
-pub reads_after : (s : State) (call : Change) → IsSound s → after_change (reads s) call ≡ reads (after s call)
+pub reads_after : (s : State) (call : DiskCall) → IsSound s → after_change (reads s) call ≡ reads (after s call)
 reads_after s (Write name at bytes) sound = on_file_reads s name (names_of s name) (λ file. file_written file at bytes) (λ content. spliced content at bytes) (apart_now s sound) refl (λ file. refl)
 reads_after s (Cut name len) sound = cut_reads s name len (names_of s name) (apart_now s sound) refl
 reads_after s (Sync name) sound =
@@ -208,14 +208,14 @@ pub start_reads : (rows : FileRows) → start_files rows ≡ reads (start_state 
 start_reads rows = fun_ext (λ name. rows_read [] rows 0 refl name)
 
 -- The laws.
-sound_trace : (s : State) (past : List State) (calls : List Change) → IsSound s → AllSound past → AllSound (trace_after s past calls)
+sound_trace : (s : State) (past : List State) (calls : List DiskCall) → IsSound s → AllSound past → AllSound (trace_after s past calls)
 sound_trace s past [] sound before = (sound, before)
 sound_trace s past (call ∷ calls) sound before = sound_trace (after s call) (s ∷ past) calls (sound_after s call sound) (sound, before)
 
 pub trace_sound : (past : Past) → AllSound (trace_of past)
 trace_sound past = sound_trace (start_state past.start) [] past.changes (start_sound past.start) tt
 
-shown_trace : (files : Files) (s : State) (past : List State) (calls : List Change) → IsSound s → files ≡ reads s → IsShown true (files_after files calls) (trace_after s past calls)
+shown_trace : (files : Files) (s : State) (past : List State) (calls : List DiskCall) → IsSound s → files ≡ reads s → IsShown true (files_after files calls) (trace_after s past calls)
 shown_trace files s past [] sound is = (refl, is)
 shown_trace files s past (call ∷ calls) sound is =
     shown_trace (after_change files call) (after s call) (s ∷ past) calls (sound_after s call sound) (ap (λ (f : Files). after_change f call) is ∙ reads_after s call sound)

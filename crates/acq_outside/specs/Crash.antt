@@ -3,8 +3,8 @@
 use Rattle.std.specs.Prelude.{◌≡◌, ◌≢◌, ◌⊎◌, ℕ, ◌+◌, ◌<◌, ◌≤◌, min, Bool, true, false, if◌then◌else◌, List, [], ◌∷◌, ◌++◌, length, take, get_or, set, Option, Some, None, option_map, Result, Ok, Err}
 use Rattle.acq_outside.specs.Disk.{Files, same_name, spliced}
 use Rattle.acq_outside.specs.History.{FileRows, Past}
-use Rattle.acq_outside.specs.declared.change.Change.{Change}
-use Rattle.acq_outside.specs.declared.change.Change.TheVariants.{Write, Cut, Sync, Rename, Remove, SyncNames}
+use Rattle.acq_outside.specs.declared.change.DiskCall.{DiskCall}
+use Rattle.acq_outside.specs.declared.change.DiskCall.TheVariants.{Write, Cut, Sync, Rename, Remove, SyncNames}
 use Rattle.acq_outside.specs.declared.state.FileState.{FileState}
 use Rattle.acq_outside.specs.declared.state.NameChange.{NameChange}
 use Rattle.acq_outside.specs.declared.state.NameChange.TheVariants.{Made, Moved, Removed}
@@ -79,10 +79,10 @@ all_renamed names [] = names
 all_renamed names (change ∷ changes) = all_renamed (renamed names change) changes
 
 -- some of the second list, in order
-pub data IsPart : List NameChange → List NameChange → Type 0 where
-  none : IsPart [] []
-  left_out : {some all : List NameChange} → (change : NameChange) → IsPart some all → IsPart some (change ∷ all)
-  taken : {some all : List NameChange} → (change : NameChange) → IsPart some all → IsPart (change ∷ some) (change ∷ all)
+pub data IsSubsequence : List NameChange → List NameChange → Type 0 where
+  none : IsSubsequence [] []
+  left_out : {some all : List NameChange} → (change : NameChange) → IsSubsequence some all → IsSubsequence some (change ∷ all)
+  taken : {some all : List NameChange} → (change : NameChange) → IsSubsequence some all → IsSubsequence (change ∷ some) (change ∷ all)
 
 -- A disk at one moment.
 pub record State : Type 0 where
@@ -110,7 +110,7 @@ reads s = λ name. seen_at s.files (names_of s name)
 -- what a crash may leave: some of the pending changes of names, and of each file one of its outcomes
 pub record IsImage (s : State) (image : Files) : Type 0 where
   pub some : List NameChange
-  pub part : IsPart some s.pending
+  pub part : IsSubsequence some s.pending
   pub bytes : ℕ → List ℕ
   pub outcomes : (i : ℕ) → IsOutcome (file_at s.files i) (bytes i)
   pub shows : (name : List ℕ) → image name ≡ option_map bytes (all_renamed s.base some name)
@@ -131,7 +131,7 @@ cut_or_made s name len None = record { files = s.files ++ synced [] ∷ []; base
 cut_or_made s name len (Some i) = on_file s (Some i) (λ file. file_cut file len)
 
 -- a disk after a call that is done
-abbrev pub after : State → Change → State
+abbrev pub after : State → DiskCall → State
 after s (Write name at bytes) = on_file s (names_of s name) (λ file. file_written file at bytes)
 after s (Cut name len) = cut_or_made s name len (names_of s name)
 after s (Sync name) = on_file s (names_of s name) (λ file. synced file.seen)
@@ -140,7 +140,7 @@ after s (Remove name) = with_change s (names_of s name) (Removed name)
 after s SyncNames = record { files = s.files; base = names_of s; pending = [] }
 
 -- the file whose content a call changes, where it does
-abbrev pub changed_file : State → Change → Option ℕ
+abbrev pub changed_file : State → DiskCall → Option ℕ
 changed_file s (Write name at bytes) = names_of s name
 changed_file s (Cut name len) = names_of (after s (Cut name len)) name
 changed_file s (Sync name) = None
@@ -159,7 +159,7 @@ pub record IsTorn (file : Option ℕ) (done torn : State) : Type 0 where
 
 -- What a call makes of the states that a disk has had, the newest first; a disk without any tells nothing. A call that
 -- failed is not done, or done in part.
-abbrev pub Goes : {T E : Type 0} → Change → List State → List State → Result T E → Type 0
+abbrev pub Goes : {T E : Type 0} → DiskCall → List State → List State → Result T E → Type 0
 Goes call [] new result = new ≡ []
 Goes call (s ∷ past) new (Ok x) = new ≡ after s call ∷ s ∷ past
 Goes call (s ∷ past) new (Err e) = (new ≡ s ∷ past) ⊎ ((torn : State) × IsTorn (changed_file s call) (after s call) torn × (new ≡ torn ∷ s ∷ past))
@@ -207,7 +207,7 @@ abbrev pub start_state : FileRows → State
 start_state rows = record { files = synced_rows rows; base = number_of 0 rows; pending = [] }
 
 -- its states after these calls
-abbrev pub trace_after : State → List State → List Change → List State
+abbrev pub trace_after : State → List State → List DiskCall → List State
 trace_after s past [] = s ∷ past
 trace_after s past (call ∷ calls) = trace_after (after s call) (s ∷ past) calls
 

@@ -1,7 +1,7 @@
 -- The frame of a call on an outside object: how its counts go whatever it answers, and what it leaves as it was. A contract
 -- says it in one clause of that name, beside what the call is for.
 use Rattle.std.specs.Prelude.{◌≡◌, ◌≢◌, ◌≤◌, ℕ, Bool, List, Option, Result, OnOk, OnErr, IfErr, IsErrOf}
-use Rattle.acq_base.specs.Mirror.{World}
+use Rattle.acq_base.specs.Mirror.{MirrorMap}
 use Rattle.acq_outside.specs.Count.{Rose}
 use Rattle.acq_outside.specs.Crash.{State}
 use Rattle.acq_outside.specs.Disk.{Files}
@@ -58,6 +58,6 @@ pub record LooksCountingBy {O F T E : Type 0} (kind : E) (faults : O → ℕ) (f
   pub same : files new ≡ files old
 
 -- A call of a method, whose word has the cause of a fault in it: its count never falls, and its mirror stays.
-pub record FetchesBy {M : Type 0} (faults : M → ℕ) (world : M → Option World) (old new : M) : Type 0 where
+pub record FetchesBy {M : Type 0} (faults : M → ℕ) (world : M → Option MirrorMap) (old new : M) : Type 0 where
   pub count : faults old ≤ faults new
   pub same : world new ≡ world old

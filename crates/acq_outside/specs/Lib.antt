@@ -9,7 +9,7 @@ pub mod Looks
 pub mod Fetches
 pub mod History
 pub mod Crash
-pub mod Moments
+pub mod States
 pub mod Choice
 pub mod Mirror
 pub mod Word

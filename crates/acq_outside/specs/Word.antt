@@ -6,7 +6,7 @@ use Rattle.acq_base.specs.declared.fetch.Answer.TheVariants as answers
 use Rattle.acq_base.specs.declared.fetch.Reply.{Reply}
 use Rattle.acq_base.specs.declared.fetch.Reply.TheVariants as replies
 use Rattle.acq_base.specs.Fetch.{IsSoundReply}
-use Rattle.acq_base.specs.Mirror.{World, answer_at}
+use Rattle.acq_base.specs.Mirror.{MirrorMap, answer_at}
 use Rattle.acq_outside.specs.declared.word.Fetch.{Fetch}
 use Rattle.acq_outside.specs.declared.word.Word.{Word}
 use Rattle.acq_outside.specs.declared.word.Word.TheVariants.{Piece, Done, Other}
@@ -51,20 +51,20 @@ HasSize (answers.Absent status) job size = ⊥
 
 -- what else is said to a job: of a file, that it is longer than the job's limit, or ends within what the job leaves out
 -- (RFC 9110, section 15.5.17); or else what the mirror answers. A fault and want of memory say nothing of the mirror
-abbrev pub Tells : Answer → Job → Reply → Type 0
-Tells (answers.Served all) job replies.TooBig = job.max < length all
-Tells (answers.Served all) job (replies.Absent status) = (status ≡ 416) × (0 < job.from) × (length all ≤ job.from)
-Tells (answers.Served all) job (replies.Moved place) = ⊥
-Tells (answers.Moved to) job (replies.Moved place) = place ≡ to
-Tells (answers.Moved to) job (replies.Absent status) = ⊥
-Tells (answers.Moved to) job replies.TooBig = ⊥
-Tells (answers.Absent code) job (replies.Absent status) = status ≡ code
-Tells (answers.Absent code) job (replies.Moved place) = ⊥
-Tells (answers.Absent code) job replies.TooBig = ⊥
-Tells answer job (replies.Served bytes) = ⊥
-Tells answer job (replies.Garbled at) = ⊥
-Tells answer job (replies.Fault before after) = Unit {0}
-Tells answer job replies.NoMemory = Unit {0}
+abbrev pub IsReplyOf : Answer → Job → Reply → Type 0
+IsReplyOf (answers.Served all) job replies.TooBig = job.max < length all
+IsReplyOf (answers.Served all) job (replies.Absent status) = (status ≡ 416) × (0 < job.from) × (length all ≤ job.from)
+IsReplyOf (answers.Served all) job (replies.Moved place) = ⊥
+IsReplyOf (answers.Moved to) job (replies.Moved place) = place ≡ to
+IsReplyOf (answers.Moved to) job (replies.Absent status) = ⊥
+IsReplyOf (answers.Moved to) job replies.TooBig = ⊥
+IsReplyOf (answers.Absent code) job (replies.Absent status) = status ≡ code
+IsReplyOf (answers.Absent code) job (replies.Moved place) = ⊥
+IsReplyOf (answers.Absent code) job replies.TooBig = ⊥
+IsReplyOf answer job (replies.Served bytes) = ⊥
+IsReplyOf answer job (replies.Garbled at) = ⊥
+IsReplyOf answer job (replies.Fault before after) = Unit {0}
+IsReplyOf answer job replies.NoMemory = Unit {0}
 
 -- a fault tells the count of faults before and after the call, and comes only where it rose in that very call; anything
 -- else leaves the count. A file comes in pieces, and never so
@@ -78,7 +78,7 @@ IsCounted before after (replies.Garbled at) = after ≡ before
 IsCounted before after replies.NoMemory = after ≡ before
 
 -- A piece goes on where the fetch stands and stays within its job's limit; the fetch is under way behind it.
-pub record IsPiece (before after : ℕ) (world : Option World) (fetch : Fetch) (under : Option Fetch) (place : ℕ) (bytes : List ℕ) : Type 0 where
+pub record IsPiece (before after : ℕ) (world : Option MirrorMap) (fetch : Fetch) (under : Option Fetch) (place : ℕ) (bytes : List ℕ) : Type 0 where
   pub quiet : after ≡ before
   pub goes_on : place ≡ fetch.at
   pub nonempty : 1 ≤ length bytes
@@ -88,20 +88,20 @@ pub record IsPiece (before after : ℕ) (world : Option World) (fetch : Fetch) (
   pub told : IfSome world (λ entries. IsPieceOf (answer_at entries fetch.job.uri) fetch.at bytes)
 
 -- The size is the place where the fetch stands; nothing is under way any more.
-pub record IsDone (before after : ℕ) (world : Option World) (fetch : Fetch) (under : Option Fetch) (size : ℕ) : Type 0 where
+pub record IsDone (before after : ℕ) (world : Option MirrorMap) (fetch : Fetch) (under : Option Fetch) (size : ℕ) : Type 0 where
   pub quiet : after ≡ before
   pub reached : size ≡ fetch.at
   pub ended : under ≡ None
   pub told : IfSome world (λ entries. HasSize (answer_at entries fetch.job.uri) fetch.job size)
 
-pub record IsOther (before after : ℕ) (world : Option World) (fetch : Fetch) (under : Option Fetch) (reply : Reply) : Type 0 where
+pub record IsOther (before after : ℕ) (world : Option MirrorMap) (fetch : Fetch) (under : Option Fetch) (reply : Reply) : Type 0 where
   pub counted : IsCounted before after reply
   pub ended : under ≡ None
-  pub told : IfSome world (λ entries. Tells (answer_at entries fetch.job.uri) fetch.job reply)
+  pub told : IfSome world (λ entries. IsReplyOf (answer_at entries fetch.job.uri) fetch.job reply)
 
 -- The word of a method to a fetch, where its count of faults went from `before` to `after`, `world` is the mirror that it
 -- tells, if it tells one, and `under` is what is under way afterwards: a fetch exactly after a piece.
-abbrev pub IsWord : ℕ → ℕ → Option World → Fetch → Option Fetch → Word → Type 0
+abbrev pub IsWord : ℕ → ℕ → Option MirrorMap → Fetch → Option Fetch → Word → Type 0
 IsWord before after world fetch under (Piece place bytes) = IsPiece before after world fetch under place bytes
 IsWord before after world fetch under (Done size) = IsDone before after world fetch under size
 IsWord before after world fetch under (Other reply) = IsOther before after world fetch under reply

@@ -1,7 +1,7 @@
 //! What a crash leaves of a disk, as laws that callers may rest on. It touches nothing.
 ghost use Rattle.acq_outside.specs.Choice.{ChoicesLeave};
 ghost use Rattle.acq_outside.specs.Crash.{State, IsImage, IsSound, reads};
-ghost use Rattle.acq_outside.specs.Moments.{SyncLasts, NamesLast, SyncsShrink, LeavesApart, LeavesAsDone, MayBeLost, LeavesWithin};
+ghost use Rattle.acq_outside.specs.States.{SyncLasts, NamesLast, SyncsShrink, LeavesApart, LeavesAsDone, MayBeLost, LeavesWithin};
 
 /// What reads give may be left by a crash, and in nothing that a crash leaves do two names lead to one file.
 pub fn crash_leaves()

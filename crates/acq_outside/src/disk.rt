@@ -4,7 +4,7 @@ ghost use Rattle.acq_outside.specs.Crash.{State, Goes, AllSound, IsShown};
 ghost use Rattle.acq_outside.specs.Disk.{Files, IsName, IsNames, IsRead, IsTornWrite, IsTornCut, IsDoneOrNot, after_write, after_cut, after_rename, after_remove};
 ghost use Rattle.acq_outside.specs.Frame.{CountsOnly, StaysBy, ReadsBy, ReadsCountingBy};
 
-use crate::change::Change;
+use crate::change::DiskCall;
 use crate::{Fault, HoldError, OutError};
 use acq_base::{Row, Text};
 use std::alloc::Global;
@@ -66,7 +66,7 @@ pub trait Disk: Drop {
         requires name { IsName name.now }
         requires there { IsTrue (tells self.old) → IsSomeAnd (files self.old name.now) (λ content. at ≤ length content) }
         ensures frame { StaysBy faults held tells self.old self.new result }
-        ensures step { Goes (Change.Write name.now at bytes.now) (trace self.old) (trace self.new) result }
+        ensures step { Goes (DiskCall.Write name.now at bytes.now) (trace self.old) (trace self.new) result }
         ensures ok { IsTrue (tells self.old) → OnOk result (files self.new ≡ after_write (files self.old) name.now at bytes.now) }
         ensures err { IsTrue (tells self.old) → OnErr result (IsTornWrite (files self.old) (files self.new) name.now at (length bytes.now)) };
 
@@ -75,7 +75,7 @@ pub trait Disk: Drop {
         requires name { IsName name.now }
         requires within { IsTrue (tells self.old) → len ≤ length (unwrap_or (files self.old name.now) []) }
         ensures frame { StaysBy faults held tells self.old self.new result }
-        ensures step { Goes (Change.Cut name.now len) (trace self.old) (trace self.new) result }
+        ensures step { Goes (DiskCall.Cut name.now len) (trace self.old) (trace self.new) result }
         ensures ok { IsTrue (tells self.old) → OnOk result (files self.new ≡ after_cut (files self.old) name.now len) }
         ensures err { IsTrue (tells self.old) → OnErr result (IsTornCut (files self.old) (files self.new) name.now len) };
 
@@ -83,7 +83,7 @@ pub trait Disk: Drop {
     fn sync(&mut self, name: &[u8]) -> Result<(), Fault>
         requires { IsName name.now }
         ensures frame { StaysBy faults held tells self.old self.new result }
-        ensures step { Goes (Change.Sync name.now) (trace self.old) (trace self.new) result }
+        ensures step { Goes (DiskCall.Sync name.now) (trace self.old) (trace self.new) result }
         ensures same { files self.new ≡ files self.old };
 
     /// Moves a file to another name, in place of what is there. It changes nothing where `from` is absent.
@@ -91,7 +91,7 @@ pub trait Disk: Drop {
         requires from { IsName from.now }
         requires to { IsName to.now }
         ensures frame { StaysBy faults held tells self.old self.new result }
-        ensures step { Goes (Change.Rename from.now to.now) (trace self.old) (trace self.new) result }
+        ensures step { Goes (DiskCall.Rename from.now to.now) (trace self.old) (trace self.new) result }
         ensures ok { IsTrue (tells self.old) → OnOk result (files self.new ≡ after_rename (files self.old) from.now to.now) }
         ensures err { IsTrue (tells self.old) → OnErr result (IsDoneOrNot (files self.old) (files self.new) (after_rename (files self.old) from.now to.now)) };
 
@@ -99,14 +99,14 @@ pub trait Disk: Drop {
     fn remove(&mut self, name: &[u8]) -> Result<(), Fault>
         requires { IsName name.now }
         ensures frame { StaysBy faults held tells self.old self.new result }
-        ensures step { Goes (Change.Remove name.now) (trace self.old) (trace self.new) result }
+        ensures step { Goes (DiskCall.Remove name.now) (trace self.old) (trace self.new) result }
         ensures ok { IsTrue (tells self.old) → OnOk result (files self.new ≡ after_remove (files self.old) name.now) }
         ensures err { IsTrue (tells self.old) → OnErr result (IsDoneOrNot (files self.old) (files self.new) (after_remove (files self.old) name.now)) };
 
     /// Makes all changes of names lasting. What reads give stays.
     fn sync_names(&mut self) -> Result<(), Fault>
         ensures frame { StaysBy faults held tells self.old self.new result }
-        ensures step { Goes Change.SyncNames (trace self.old) (trace self.new) result }
+        ensures step { Goes DiskCall.SyncNames (trace self.old) (trace self.new) result }
         ensures same { files self.new ≡ files self.old };
 
     /// Each state that it has had is sound.

@@ -4,6 +4,19 @@
 //! These adapters are the trusted edge. They tell no content; what is proved of them is that their count of faults rises
 //! just where a call answers a fault, that the disk takes no name that may lead out of its folder, and what is made of
 //! the values that the system answers: which entries are listed, which errors count, which moment a time is.
+//!
+//! Proved: no crash, a count that rises just where a call answers a fault; a name that leads out of the disk's
+//! folder is a fault that counts and is never listed, and the disk keeps the folder that it is given (`inside`,
+//! `folder`); names are sorted and each once (`sorted`), exactly the plain files whose names the calls take
+//! (`listing`, over the entries that the system gives); a file that stayed open is handed out only for the path
+//! that was noted with it (`path` of `serving`), what the disk opens for a name is noted with that name's path
+//! (`path` of `open`, `open_or_make`), and behind a call that moved, replaced or removed a file none that is noted
+//! with their paths is kept (`closed` of `move_one`, `remove_one`); what an error of the system means, seconds of a
+//! time, and a line put on any output are functions with clauses of their own; objects begin with no fault and no
+//! moment given. Only tested: what its calls do to a folder, links in each place among them, that each call works
+//! on what it opened for its own name, that a second disk on one folder is `Held`, and that the output takes a
+//! line. That what is synced lasts is not tested. A `partial` replaced by a link between two looks at it isn't
+//! seen, nor is what another process puts in place of a file that is open.
 #![tactic(auto)]
 
 pub use clock::RealClock;

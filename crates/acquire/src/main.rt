@@ -3,6 +3,9 @@
 //!
 //! It reads its words and three variables of the environment, makes the real objects, and leaves the rest to
 //! `update_call`, whose status it ends with.
+//!
+//! Proved of its parts: the two folders are those that were read (`etc`, `lists` of `open`), there is one method
+//! (`methods`), and the exit code is the status (`exit_code`).
 #![tactic(auto)]
 
 ghost use Rattle.std.specs.Prelude.{◌≡◌};
@@ -11,7 +14,7 @@ ghost use Rattle.std.specs.Process.{exit_status};
 use acq_real::RealSink;
 use outside::open;
 use standard::hold_standard;
-use start_values::{RealEnvironment, Refused, begin, tell};
+use start_values::{RealEnvironment, Refused, begin_program, write_refusal};
 use std::process::ExitCode;
 use update_program::{Status, update_call};
 
@@ -21,12 +24,12 @@ mod standard;
 fn main(rt: HostRuntime) -> ExitCode {
     let _standard = hold_standard(&rt);
     let mut out = RealSink::new(rt);
-    let start = match begin(rt.alloc(), &RealEnvironment::new(rt), &mut out) {
+    let start = match begin_program(rt.alloc(), &RealEnvironment::new(rt), &mut out) {
         Ok(start) => start,
         Err(status) => return exit_code(Status(status)),
     };
     let Ok(mut outside) = open(rt, &start) else {
-        return exit_code(Status(tell(Refused::NoMemory, &mut out)));
+        return exit_code(Status(write_refusal(Refused::NoMemory, &mut out)));
     };
     let ran = update_call(
         &rt,

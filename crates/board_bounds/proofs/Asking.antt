@@ -9,7 +9,7 @@ use Rattle.acq_base.specs.declared.plan.Source.{Source}
 use Rattle.acq_base.specs.declared.plan.Target.{Target}
 use Rattle.acq_base.specs.declared.sum.Sum.{Sum}
 use Rattle.host_queues.specs.Lanes.{first_of}
-use Rattle.item_graph.specs.Items.{asked}
+use Rattle.item_graph.specs.Refinement.{asked}
 use Rattle.item_graph.specs.Sound.{AsksSoundly, ListsAskSoundly}
 use Rattle.release_file.specs.declared.release.Release.{Release}
 use Rattle.update_model.specs.Laws.{SetsAreAdmissible}
@@ -23,8 +23,8 @@ use Rattle.board_model.specs.Keys.{named, same_key}
 use Rattle.board_model.specs.Laws.{BoardsStand}
 use Rattle.board_model.specs.Reached.{Reached}
 use Rattle.board_model.specs.Runs.{Note}
-use Rattle.board_model.specs.Slots.{Config, Standing, Slot, Asking, Listing, Refused, Closed, ask_of, item_in, joined}
-use Rattle.board_model.specs.Stands.{AllStand, HasHeard, History, IsOpen, ListStands, ListsStand, SourceStands, StandsAt, history_of, of_key, tolds, walk_of}
+use Rattle.board_model.specs.Slots.{Setup, Standing, Slot, Asking, Listing, Refused, SettledSlot, ask_of, item_in, joined}
+use Rattle.board_model.specs.Stands.{AllStand, ItemHasHeard, History, IsOpen, ListStands, ListsStand, SourceStands, StandsAt, history_of, of_key, lane_answers, walk_of}
 use Rattle.board_model.specs.declared.key.Key.{Key}
 use Rattle.board_model.proofs.Askers.{asker-asks}
 use Rattle.board_model.proofs.Resting.{olds-there}
@@ -43,13 +43,13 @@ key-sound key (note ∷ notes) h = one (key-sound key notes h.1) (same_key note.
     one rest true = (h.0, rest)
     one rest false = rest
 
-told-sound : (notes : List Note) → LeadSoundly notes → AreSound (tolds notes)
+told-sound : (notes : List Note) → LeadSoundly notes → AreSound (lane_answers notes)
 told-sound [] h = tt
 told-sound (note ∷ notes) h = (h.0, told-sound notes h.1)
 
 -- ---- an item that asks, with its source as it stands
 
-list-of : (config : Config) (n : ℕ) (source : Source) (old : Old) (release : Release) (place : ℕ) (targets : List Target) (lists : List (Option Standing)) (history : History) (k : ℕ) (item : Standing)
+list-of : (config : Setup) (n : ℕ) (source : Source) (old : Old) (release : Release) (place : ℕ) (targets : List Target) (lists : List (Option Standing)) (history : History) (k : ℕ) (item : Standing)
     → ListsStand config n source old release place targets lists history → slice_get lists k ≡ Some (Some item)
     → (target : Target) × (slice_get targets k ≡ Some target) × ListStands config n source old release target (history (place + k)) (Some item)
 list-of config n source old release place [] lists history k item h e =
@@ -73,12 +73,12 @@ pub record Laws : Type 0 where
   pub sets : SetsAreAdmissible
   pub begin : AsksBeginWell
 
-heard-sound : (config : Config) (n : ℕ) (path : List ℕ) (walk : Walk) (heard : List Note) (item : Standing) (ask : Ask) → HasHeard config.settings.retries n path walk heard item
+heard-sound : (config : Setup) (n : ℕ) (path : List ℕ) (walk : Walk) (heard : List Note) (item : Standing) (ask : Ask) → ItemHasHeard config.settings.retries n path walk heard item
     → AsksSoundly walk → LeadSoundly heard → ask_of (Some item) ≡ Some ask → IsSound ask.uri
 heard-sound config n path walk heard item ask h walks sound e =
-    walk-sound config.settings.retries walk (tolds heard) ask walks (told-sound heard sound) (ap asked (sym h.stands) ∙ e)
+    walk-sound config.settings.retries walk (lane_answers heard) ask walks (told-sound heard sound) (ap asked (sym h.stands) ∙ e)
 
-open-sound : Laws → (config : Config) (n : ℕ) (source : Source) (old : Old) (slot : Slot) (history : History) (place : ℕ) (ask : Ask) → IsPlanned source → ((p : ℕ) → LeadSoundly (history p))
+open-sound : Laws → (config : Setup) (n : ℕ) (source : Source) (old : Old) (slot : Slot) (history : History) (place : ℕ) (ask : Ask) → IsPlanned source → ((p : ℕ) → LeadSoundly (history p))
     → IsOpen config n source old slot history → ask_of (item_in slot place) ≡ Some ask → IsSound ask.uri
 open-sound laws config n source old (Asking kept release) history zero ask planned sound h e =
     heard-sound config n release_text (release_walk source) (history 0) release ask h.1 (release-walks source planned) (sound 0) e
@@ -98,23 +98,23 @@ open-sound laws config n source old (Listing set there lists) history (suc k) as
         (list-walks laws.lists source set.release config.settings k target sum (named old.lists target.name.0) (config.sizes target.name.0) planned found.1 written)
         (sound (1 + k)) e
 open-sound laws config n source old (Refused why) history place ask planned sound h e = absurd (cc)
-open-sound laws config n source old Closed history place ask planned sound h e = absurd (cc)
+open-sound laws config n source old SettledSlot history place ask planned sound h e = absurd (cc)
 
-stood-sound : Laws → (config : Config) (n : ℕ) (source : Source) (old : Old) (slot : Slot) (verdict : Verdict2) (history : History) (place : ℕ) (ask : Ask) → IsPlanned source → ((p : ℕ) → LeadSoundly (history p))
+stood-sound : Laws → (config : Setup) (n : ℕ) (source : Source) (old : Old) (slot : Slot) (verdict : Verdict2) (history : History) (place : ℕ) (ask : Ask) → IsPlanned source → ((p : ℕ) → LeadSoundly (history p))
     → SourceStands config n source old slot verdict history → ask_of (item_in slot place) ≡ Some ask → IsSound ask.uri
 stood-sound laws config n source old slot verdict history place ask planned sound (inl h) e = open-sound laws config n source old slot history place ask planned sound h e
 stood-sound laws config n source old slot verdict history place ask planned sound (inr h) e =
-    let none : ask_of (item_in Closed place) ≡ Some ask = subst (λ (s : Slot). ask_of (item_in s place) ≡ Some ask) h.0 e in
+    let none : ask_of (item_in SettledSlot place) ≡ Some ask = subst (λ (s : Slot). ask_of (item_in s place) ≡ Some ask) h.0 e in
     absurd (cc)
 
-pub reached-stands : BoardsStand → (config : Config) (olds : List Old) (notes : List Note) (b : Board) (r : Reached config olds notes b) → AllStand config olds (record { board = b; jobs = r.jobs; queue = []; notes = notes })
+pub reached-stands : BoardsStand → (config : Setup) (olds : List Old) (notes : List Note) (b : Board) (r : Reached config olds notes b) → AllStand config olds (record { board = b; jobs = r.jobs; queue = []; notes = notes })
 reached-stands law config olds notes b r = subst (AllStand config olds) r.leads (law config olds r.lanes r.events)
 
 pub asks-fetched : Laws → AsksMayBeFetched
 asks-fetched laws config olds notes b number a planned sound r is =
     let stand = reached-stands laws.stand config olds notes b r in
     let asks = asker-asks b number a is in
-    let there : slice_get config.sources a.key.source ≡ Some a.source = ap (λ (c : Config). slice_get c.sources a.key.source) (sym stand.config_is) ∙ asks.source_is in
+    let there : slice_get config.sources a.key.source ≡ Some a.source = ap (λ (c : Setup). slice_get c.sources a.key.source) (sym stand.config_is) ∙ asks.source_is in
     let old = olds-there config.sources olds a.key.source a.source r.each there in
     let at : StandsAt config a.key.source a.source old.0 (record { board = b; jobs = r.jobs; queue = []; notes = notes }) = stand.sources a.key.source a.source old.0 there old.1 in
     let both : Some asks.slot ≡ Some at.slot = sym asks.slot_is ∙ at.slot_is in

@@ -10,10 +10,10 @@ use Rattle.acq_base.specs.declared.plan.Source.{Source}
 use Rattle.acq_base.specs.declared.plan.Target.{Target}
 use Rattle.acq_base.specs.declared.sum.Sum.{Sum}
 use Rattle.release_file.specs.declared.release.Release.{Release}
-use Rattle.update_model.specs.Outcomes.{Admitted}
+use Rattle.update_model.specs.Outcomes.{AdmittedRelease}
 use Rattle.update_model.specs.Points.{ran, start}
 use Rattle.update_model.specs.Releases.{release_text}
-use Rattle.update_model.specs.Trails.{Told}
+use Rattle.update_model.specs.Trails.{LaneAnswer}
 use Rattle.update_model.specs.Walks.{release_walk, target_walk}
 use Rattle.update_model.specs.Wanted.{want}
 use Rattle.update_model.specs.declared.ask.Body.TheVariants.{Bytes, Staged}
@@ -26,8 +26,8 @@ use Rattle.board_model.specs.Jobs.{one_if}
 use Rattle.board_model.specs.Keys.{keys_from, keys_in, named, places_from, same_key}
 use Rattle.board_model.specs.Laws.{BoardsStand}
 use Rattle.board_model.specs.Runs.{Note, entry_of, start as start_world}
-use Rattle.board_model.specs.Slots.{Config, Standing, Slot, Asking, Listing, Refused, Closed}
-use Rattle.board_model.specs.Stands.{History, IsOpen, ListStands, ListsStand, SourceStands, StandsAt, entries_of, history_of, of_key, tolds}
+use Rattle.board_model.specs.Slots.{Setup, Standing, Slot, Asking, Listing, Refused, SettledSlot}
+use Rattle.board_model.specs.Stands.{History, IsOpen, ListStands, ListsStand, SourceStands, StandsAt, entries_of, history_of, of_key, lane_answers}
 use Rattle.board_model.specs.declared.key.Key.{Key}
 use Rattle.board_model.proofs.Notes.{IsKnown, AllKnown, run-known, heard_by_keys, times_key, one-more, key-there, length-entries}
 use Rattle.board_bounds.proofs.Asking.{reached-stands}
@@ -108,15 +108,15 @@ source-heard sources n source (note ∷ notes) there h =
 -- ---- one item
 
 -- none of these answers leads by more than the most of them
-links-most : (installed : Option (List ℕ)) (w : Wanted) (notes : List Note) (most : ℕ) → links_among installed w notes ≤ most → Each (λ (t : Told). links_by installed w t.closed ≤ most) (tolds notes)
+links-most : (installed : Option (List ℕ)) (w : Wanted) (notes : List Note) (most : ℕ) → links_among installed w notes ≤ most → Each (λ (t : LaneAnswer). links_by installed w t.closed ≤ most) (lane_answers notes)
 links-most installed w [] most h = tt
 links-most installed w (note ∷ notes) most h = (grind (arith, nat_tests, h), links-most installed w notes most (grind (arith, nat_tests, h)))
 
-release-few : (config : Config) (n : ℕ) (source : Source) (heard : List Note) → entries_of heard ≡ ran config.settings.retries n release_text (start config.settings.retries (release_walk source)) (tolds heard)
+release-few : (config : Setup) (n : ℕ) (source : Source) (heard : List Note) → entries_of heard ≡ ran config.settings.retries n release_text (start config.settings.retries (release_walk source)) (lane_answers heard)
     → length heard ≤ 11 * (config.settings.retries + 1) * 2
 release-few config n source heard logged =
-    let few = walk-few (λ bytes. Unit {0}) config.settings.retries n release_text (release_walk source) (tolds heard) 2 (release-brief (λ bytes. Unit {0}) source) (all heard) in
-    let own : length heard ≡ length (ran config.settings.retries n release_text (start config.settings.retries (release_walk source)) (tolds heard)) = sym (length-entries heard) ∙ ap length logged in
+    let few = walk-few (λ bytes. Unit {0}) config.settings.retries n release_text (release_walk source) (lane_answers heard) 2 (release-brief (λ bytes. Unit {0}) source) (all heard) in
+    let own : length heard ≡ length (ran config.settings.retries n release_text (start config.settings.retries (release_walk source)) (lane_answers heard)) = sym (length-entries heard) ∙ ap length logged in
     omega (arith, few, own)
   where
     one : (closed : Answer_of) → Brings (λ bytes. Unit {0}) closed
@@ -128,11 +128,11 @@ release-few config n source heard logged =
     one (answers.Garbled at) = tt
     one (answers.Fault before after) = tt
 
-    all : (notes : List Note) → Each (λ (t : Told). Brings (λ bytes. Unit {0}) t.closed) (tolds notes)
+    all : (notes : List Note) → Each (λ (t : LaneAnswer). Brings (λ bytes. Unit {0}) t.closed) (lane_answers notes)
     all [] = tt
     all (note ∷ notes) = (one note.told.closed, all notes)
 
-item-few : (config : Config) (n : ℕ) (source : Source) (old : Old) (release : Release) (target : Target) (heard : List Note) (list : Option Standing) → ListStands config n source old release target heard list
+item-few : (config : Setup) (n : ℕ) (source : Source) (old : Old) (release : Release) (target : Target) (heard : List Note) (list : Option Standing) → ListStands config n source old release target heard list
     → length heard ≤ 11 * (config.settings.retries + 1) * (4 + links_of config source old (Some release) target heard)
 item-few config n source old release target heard None h = let none : length heard ≡ 0 = ap length h.1 in omega (arith, none)
 item-few config n source old release target heard (Some item) h =
@@ -142,15 +142,15 @@ item-few config n source old release target heard (Some item) h =
     let most : ℕ = links_among installed w heard in
     let links : links_of config source old (Some release) target heard ≡ links_among installed w heard =
     ap (λ (o : Option Sum). option_map_or (λ sum. links_among (named old.lists target.name.0) (want source release config.settings target sum) heard) o 0) h.1 in
-    let few = list-weighs config.settings.retries n target.path installed (config.sizes target.name.0) w (tolds heard) most (links-most installed w heard most (omega arith)) in
-    let own : length heard ≡ length (ran config.settings.retries n target.path (start config.settings.retries (target_walk installed (config.sizes target.name.0) w)) (tolds heard)) = sym (length-entries heard) ∙ ap length h.2.logged in
+    let few = list-weighs config.settings.retries n target.path installed (config.sizes target.name.0) w (lane_answers heard) most (links-most installed w heard most (omega arith)) in
+    let own : length heard ≡ length (ran config.settings.retries n target.path (start config.settings.retries (target_walk installed (config.sizes target.name.0) w)) (lane_answers heard)) = sym (length-entries heard) ∙ ap length h.2.logged in
     let fits : length heard ≤ 11 * (config.settings.retries + 1) * (4 + links_among installed w heard) = omega (arith, few, own) in
     subst (λ (k : ℕ). length heard ≤ 11 * (config.settings.retries + 1) * (4 + k)) (sym links) fits
 
 -- ---- all items of a source
 
 -- the lists have asked little, each by its own chain
-lists-few : (config : Config) (n : ℕ) (source : Source) (old : Old) (release : Release) (place : ℕ) (targets : List Target) (lists : List (Option Standing)) (history : History) (notes : List Note)
+lists-few : (config : Setup) (n : ℕ) (source : Source) (old : Old) (release : Release) (place : ℕ) (targets : List Target) (lists : List (Option Standing)) (history : History) (notes : List Note)
     → ((p : ℕ) → history p ≡ of_key (record { source = n; place = p }) notes)
     → ListsStand config n source old release place targets lists history
     → heard_by_keys (places_from n place targets) notes ≤ 11 * (config.settings.retries + 1) * trails_of config source old (Some release) history place targets
@@ -173,23 +173,23 @@ unheard-none n place (target ∷ targets) notes none =
     let rest = unheard-none n (suc place) targets notes none in
     omega (arith, here, rest)
 
-abbrev bound_of : Config → Source → Old → History → ℕ
+abbrev bound_of : Setup → Source → Old → History → ℕ
 bound_of config source old history = 11 * (config.settings.retries + 1) * (2 + trails_of config source old (release_heard config source old (history 0)) history 1 source.targets)
 
-both-few : (config : Config) (n : ℕ) (source : Source) (old : Old) (notes : List Note) (lists : ℕ) → length (of_key (record { source = n; place = 0 }) notes) ≤ 11 * (config.settings.retries + 1) * 2
+both-few : (config : Setup) (n : ℕ) (source : Source) (old : Old) (notes : List Note) (lists : ℕ) → length (of_key (record { source = n; place = 0 }) notes) ≤ 11 * (config.settings.retries + 1) * 2
     → heard_by_keys (places_from n 1 source.targets) notes ≤ 11 * (config.settings.retries + 1) * lists
     → heard_by_keys (keys_in n source) notes ≤ 11 * (config.settings.retries + 1) * (2 + lists)
 unfolding heard_by_keys
 both-few config n source old notes lists release rest = let whole = mul-add (11 * (config.settings.retries + 1)) 2 lists in omega (arith, release, rest, whole)
 
-quiet-few : (config : Config) (n : ℕ) (source : Source) (old : Old) (notes : List Note) (lists : ℕ) → length (of_key (record { source = n; place = 0 }) notes) ≤ 11 * (config.settings.retries + 1) * 2
+quiet-few : (config : Setup) (n : ℕ) (source : Source) (old : Old) (notes : List Note) (lists : ℕ) → length (of_key (record { source = n; place = 0 }) notes) ≤ 11 * (config.settings.retries + 1) * 2
     → ((k : ℕ) → of_key (record { source = n; place = suc k }) notes ≡ [])
     → heard_by_keys (keys_in n source) notes ≤ 11 * (config.settings.retries + 1) * (2 + lists)
 quiet-few config n source old notes lists release none =
     let nothing = unheard-none n 0 source.targets notes none in
     both-few config n source old notes lists release (omega (arith, nothing))
 
-open-few : (config : Config) (n : ℕ) (source : Source) (old : Old) (slot : Slot) (notes : List Note) → IsOpen config n source old slot (history_of n notes)
+open-few : (config : Setup) (n : ℕ) (source : Source) (old : Old) (slot : Slot) (notes : List Note) → IsOpen config n source old slot (history_of n notes)
     → heard_by_keys (keys_in n source) notes ≤ bound_of config source old (history_of n notes)
 open-few config n source old (Asking kept release) notes h =
     quiet-few config n source old notes (trails_of config source old (release_heard config source old (history_of n notes 0)) (history_of n notes) 1 source.targets)
@@ -197,17 +197,17 @@ open-few config n source old (Asking kept release) notes h =
 open-few config n source old (Refused why) notes h =
     quiet-few config n source old notes (trails_of config source old (release_heard config source old (history_of n notes 0)) (history_of n notes) 1 source.targets)
     (release-few config n source (history_of n notes 0) h.0.logged) h.1
-open-few config n source old Closed notes h = absurd h
+open-few config n source old SettledSlot notes h = absurd h
 open-few config n source old (Listing set there lists) notes h =
     let come = h.0 in
     let came : release_heard config source old (history_of n notes 0) ≡ Some set.release =
-    ap (release_at config old) come.ends ∙ ap (λ r. option_map (λ (s : Admitted). s.release) (result_ok r)) come.came_to in
+    ap (release_at config old) come.ends ∙ ap (λ r. option_map (λ (s : AdmittedRelease). s.release) (result_ok r)) come.came_to in
     subst (λ (o : Option Release). heard_by_keys (keys_in n source) notes ≤ 11 * (config.settings.retries + 1) * (2 + trails_of config source old o (history_of n notes) 1 source.targets)) (sym came)
     (both-few config n source old notes (trails_of config source old (Some set.release) (history_of n notes) 1 source.targets)
     (release-few config n source (history_of n notes 0) come.logged)
     (lists-few config n source old set.release 1 source.targets lists (history_of n notes) notes (λ p. refl) h.2))
 
-stood-few : (config : Config) (n : ℕ) (source : Source) (old : Old) (slot : Slot) (verdict : Verdict2) (notes : List Note) → SourceStands config n source old slot verdict (history_of n notes)
+stood-few : (config : Setup) (n : ℕ) (source : Source) (old : Old) (slot : Slot) (verdict : Verdict2) (notes : List Note) → SourceStands config n source old slot verdict (history_of n notes)
     → heard_by_keys (keys_in n source) notes ≤ bound_of config source old (history_of n notes)
 stood-few config n source old slot verdict notes (inl h) = open-few config n source old slot notes h
 stood-few config n source old slot verdict notes (inr h) = open-few config n source old h.1.slot notes h.1.open_slot

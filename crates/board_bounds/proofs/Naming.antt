@@ -15,7 +15,7 @@ use Rattle.acq_base.specs.declared.uri.Scheme.{Scheme}
 use Rattle.acq_base.specs.declared.uri.Scheme.TheVariants.{Http, File}
 use Rattle.acq_base.specs.declared.uri.Uri.{Uri}
 use Rattle.acq_outside.specs.Disk.{IsName, same_name}
-use Rattle.journal_model.specs.Names.{IsPutName, is_aside, is_list, is_partial, journal, lock, partial}
+use Rattle.journal_model.specs.Names.{IsPutName, is_own_name, is_installed_name, is_partial, journal, lock, partial}
 use Rattle.journal_model.proofs.Twice.{other_name}
 use Rattle.board_bounds.specs.Names.{PartialNamesAreOthers, PlannedNamesAreLists, PlannedNamesArePutNames}
 
@@ -133,12 +133,12 @@ slashed = refl
 not-partial : (name : List ℕ) → has_slash name ≡ false → is_partial name ≡ false
 not-partial name flat = other_name (take 8 name) (codes "partial/") (λ same. false≢true (sym (take-flat 8 name flat) ∙ ap has_slash same ∙ slashed))
 
-is-list : (name : List ℕ) → IsListName name → is_list name ≡ true
+is-list : (name : List ℕ) → IsListName name → is_installed_name name ≡ true
 is-list name is =
     let not_journal : same_name name journal ≡ false = other_name name journal (other-name name journal is.0 journal-plain) in
     let not_lock : same_name name lock ≡ false = other_name name lock (other-name name lock is.0 lock-plain) in
     let not_partial : is_partial name ≡ false = not-partial name is.1 in
-    ap (λ (b : Bool). not b && not (is_aside name)) not_journal ∙ ap (λ (b : Bool). not (b || is_partial name)) not_lock ∙ ap not not_partial
+    ap (λ (b : Bool). not b && not (is_own_name name)) not_journal ∙ ap (λ (b : Bool). not (b || is_partial name)) not_lock ∙ ap not not_partial
 
 pub are-lists : PlannedNamesAreLists
 are-lists source planned i d below = is-list (get_or (names_of source) i d) (names-named source planned i d below)

@@ -9,13 +9,13 @@ use Rattle.acq_base.specs.declared.plan.Source.{Source}
 use Rattle.acq_base.specs.declared.plan.Target.{Target}
 use Rattle.acq_base.specs.declared.settings.Settings.{Settings}
 use Rattle.acq_base.specs.declared.sum.Sum.{Sum}
-use Rattle.item_graph.specs.Items.{asked}
+use Rattle.item_graph.specs.Refinement.{asked}
 use Rattle.item_graph.specs.Sound.{AsksSoundly, IsSoundAt, IsSoundAnswer, ListsAskSoundly}
 use Rattle.release_file.specs.declared.release.Release.{Release}
 use Rattle.by_hash.proofs.Sound.{beside_sound}
-use Rattle.update_model.specs.Points.{Point, Over, At, run, start, step}
+use Rattle.update_model.specs.Points.{Point, Over, At, run, start, point_after}
 use Rattle.update_model.specs.Releases.{release_end, release_limit}
-use Rattle.update_model.specs.Trails.{Told}
+use Rattle.update_model.specs.Trails.{LaneAnswer}
 use Rattle.update_model.specs.Walks.{Walk, Finish, Try, after_in_release, release_walk, target_walk, whole_ask}
 use Rattle.update_model.specs.Wanted.{want}
 use Rattle.update_model.specs.declared.ask.Ask.{Ask}
@@ -28,19 +28,19 @@ use Rattle.board_bounds.specs.Readings.{IsWritten}
 
 -- ---- all answers
 
-abbrev pub AreSound : List Told → Type 0
-AreSound ts = Each (λ (t : Told). IsSoundAnswer t.closed) ts
+abbrev pub AreSound : List LaneAnswer → Type 0
+AreSound ts = Each (λ (t : LaneAnswer). IsSoundAnswer t.closed) ts
 
-run-sound : (retries : ℕ) (p : Point) (ts : List Told) → IsSoundAt p → AreSound ts → IsSoundAt (run retries p ts)
+run-sound : (retries : ℕ) (p : Point) (ts : List LaneAnswer) → IsSoundAt p → AreSound ts → IsSoundAt (run retries p ts)
 run-sound retries p [] at h = at
-run-sound retries p (t ∷ ts) at h = run-sound retries (step retries p t) ts (step-sound retries p t at h.0) h.1
+run-sound retries p (t ∷ ts) at h = run-sound retries (point_after retries p t) ts (step-sound retries p t at h.0) h.1
 
 ask-sound : (p : Point) (ask : Ask) → IsSoundAt p → asked p ≡ Some ask → IsSound ask.uri
 ask-sound (Over end) ask at e = absurd (cc)
 ask-sound (At other left faults next) ask at e = let same : other ≡ ask = cc in subst (λ (a : Ask). IsSound a.uri) same at.0
 
 -- where sound answers led a walk that asks soundly, what it asks is sound
-pub walk-sound : (retries : ℕ) (walk : Walk) (ts : List Told) (ask : Ask) → AsksSoundly walk → AreSound ts → asked (run retries (start retries walk) ts) ≡ Some ask → IsSound ask.uri
+pub walk-sound : (retries : ℕ) (walk : Walk) (ts : List LaneAnswer) (ask : Ask) → AsksSoundly walk → AreSound ts → asked (run retries (start retries walk) ts) ≡ Some ask → IsSound ask.uri
 walk-sound retries walk ts ask walks h e = ask-sound (run retries (start retries walk) ts) ask (run-sound retries (start retries walk) ts (start-sound retries walk walks) h) e
 
 -- ---- the walks of a source

@@ -9,10 +9,10 @@ use Rattle.acq_base.specs.declared.uri.Uri.{Uri}
 use Rattle.pdiff_index.specs.declared.index.Step.{Step}
 use Rattle.update_model.specs.Files.{fitting, served}
 use Rattle.update_model.specs.Obtained.{first_uri, is_resumed, list_cause}
-use Rattle.update_model.specs.Points.{Point, Over, At, ran, start, step, lead}
+use Rattle.update_model.specs.Points.{Point, Over, At, ran, start, point_after, lead}
 use Rattle.update_model.specs.Reach.{On, Stop, may_move, moved}
 use Rattle.update_model.specs.Releases.{release_end, release_limit}
-use Rattle.update_model.specs.Trails.{Told, Leads}
+use Rattle.update_model.specs.Trails.{LaneAnswer, Leads}
 use Rattle.update_model.specs.Walks.{Walk, Finish, Try, after_in_release, candidates_walk, fitting_body, got_else, index_walk, list_ask, on_some, patched_walk, patches_walk, plain_walk, release_walk, resume_walk, target_walk, whole_ask}
 use Rattle.update_model.specs.Wanted.{chain, edited_by}
 use Rattle.update_model.specs.declared.wanted.Wanted.{Wanted}
@@ -114,17 +114,17 @@ led-room Q retries ask left next lane (Absent status) faults most brings h = nex
 led-room Q retries ask left next lane TooBig faults most brings h = next-room Q retries left faults most next endings.TooBig h (λ bytes is. absurd (cc))
 led-room Q retries ask left next lane (Garbled place) faults most brings h = next-room Q retries left faults most next (endings.Garbled place) h (λ bytes is. absurd (cc))
 
-over-none : (retries source : ℕ) (path : List ℕ) (end : End) (ts : List Told) → length (ran retries source path (Over end) ts) ≡ 0
+over-none : (retries source : ℕ) (path : List ℕ) (end : End) (ts : List LaneAnswer) → length (ran retries source path (Over end) ts) ≡ 0
 over-none retries source path end [] = refl
 over-none retries source path end (t ∷ ts) = over-none retries source path end ts
 
-ran-few : (Q : List ℕ → Type 0) (retries source : ℕ) (path : List ℕ) (p : Point) (ts : List Told) (most : ℕ) → HasRoom Q retries p most → Each (λ (t : Told). Brings Q t.closed) ts
+ran-few : (Q : List ℕ → Type 0) (retries source : ℕ) (path : List ℕ) (p : Point) (ts : List LaneAnswer) (most : ℕ) → HasRoom Q retries p most → Each (λ (t : LaneAnswer). Brings Q t.closed) ts
     → length (ran retries source path p ts) ≤ most
 ran-few Q retries source path p [] most h brings = omega arith
 ran-few Q retries source path (Over end) (t ∷ ts) most h brings = let none = over-none retries source path end ts in omega (arith, none)
 ran-few Q retries source path (At ask left faults next) (t ∷ ts) zero h brings = let room = h.room in absurd (omega (arith, room))
 ran-few Q retries source path (At ask left faults next) (t ∷ ts) (suc most) h brings =
-    let rest = ran-few Q retries source path (step retries (At ask left faults next) t) ts most (led-room Q retries ask left next t.lane t.closed faults most brings.0 h) brings.1 in
+    let rest = ran-few Q retries source path (point_after retries (At ask left faults next) t) ts most (led-room Q retries ask left next t.lane t.closed faults most brings.0 h) brings.1 in
     omega (arith, rest)
 
 room-is : (retries n : ℕ) → trails_room retries n ≡ 11 * (retries + 1) * n
@@ -133,7 +133,7 @@ room-is retries zero = sym (mul-zero (11 * (retries + 1)))
 room-is retries (suc n) = let rest = room-is retries n in let more = mul-suc (11 * (retries + 1)) n in omega (arith, rest, more)
 
 -- the answers along a walk of n trails
-pub walk-few : (Q : List ℕ → Type 0) (retries source : ℕ) (path : List ℕ) (walk : Walk) (ts : List Told) (n : ℕ) → IsBrief Q walk n → Each (λ (t : Told). Brings Q t.closed) ts
+pub walk-few : (Q : List ℕ → Type 0) (retries source : ℕ) (path : List ℕ) (walk : Walk) (ts : List LaneAnswer) (n : ℕ) → IsBrief Q walk n → Each (λ (t : LaneAnswer). Brings Q t.closed) ts
     → length (ran retries source path (start retries walk) ts) ≤ 11 * (retries + 1) * n
 walk-few Q retries source path walk ts n brief brings =
     let few = ran-few Q retries source path (start retries walk) ts (trails_room retries n) (start-room Q retries walk n (trails_room retries n) brief (omega arith)) brings in
@@ -186,12 +186,12 @@ patches-brief Q w other [] file n few h = one (fitting w.sum (Some file))
     one : (o : Option (List ℕ)) → IsBrief Q (on_some o (λ bytes. Finish (Got (Bytes bytes))) other) (n + 3)
     one None = h (n + 3) (omega arith)
     one (Some bytes) = tt
-patches-brief Q w other (step ∷ steps) file zero few h = absurd (omega (arith, few))
-patches-brief Q w other (step ∷ steps) file (suc n) few h =
+patches-brief Q w other (point_after ∷ steps) file zero few h = absurd (omega (arith, few))
+patches-brief Q w other (point_after ∷ steps) file (suc n) few h =
     let here : n + 3 ≤ n + 3 = omega arith in
     let count : suc (n + 3) ≡ suc n + 3 = omega arith in
-    subst (IsBrief Q (patches_walk w other (step ∷ steps) file)) count
-    (λ e ends. one e (λ next. patches-brief Q w other steps next n (omega (arith, few)) h) (option_and_then (edited_by file) (fitting step.sum (served e))))
+    subst (IsBrief Q (patches_walk w other (point_after ∷ steps) file)) count
+    (λ e ends. one e (λ next. patches-brief Q w other steps next n (omega (arith, few)) h) (option_and_then (edited_by file) (fitting point_after.sum (served e))))
   where
     one : (e : Ending) → ((next : List ℕ) → IsBrief Q (patches_walk w other steps next) (n + 3)) → (o : Option (List ℕ)) → IsBrief Q (on_some o (λ next. patches_walk w other steps next) other) (n + 3)
     one e rest None = h (n + 3) (omega arith)
@@ -244,8 +244,8 @@ list-brief installed part w most = one (fitting w.sum installed)
     one (Some bytes) = tt
 
 -- the answers to a list
-pub list-weighs : (retries source : ℕ) (path : List ℕ) (installed : Option (List ℕ)) (part : ℕ) (w : Wanted) (ts : List Told) (most : ℕ)
-    → Each (λ (t : Told). links_by installed w t.closed ≤ most) ts
+pub list-weighs : (retries source : ℕ) (path : List ℕ) (installed : Option (List ℕ)) (part : ℕ) (w : Wanted) (ts : List LaneAnswer) (most : ℕ)
+    → Each (λ (t : LaneAnswer). links_by installed w t.closed ≤ most) ts
     → length (ran retries source path (start retries (target_walk installed part w)) ts) ≤ 11 * (retries + 1) * (4 + most)
 list-weighs retries source path installed part w ts most few =
     walk-few (LinksWithin installed w most) retries source path (target_walk installed part w) ts (4 + most) (list-brief installed part w most) (all ts few)
@@ -259,6 +259,6 @@ list-weighs retries source path installed part w ts most few =
     one (Garbled at) h = tt
     one (Fault before after) h = tt
 
-    all : (ts : List Told) → Each (λ (t : Told). links_by installed w t.closed ≤ most) ts → Each (λ (t : Told). Brings (LinksWithin installed w most) t.closed) ts
+    all : (ts : List LaneAnswer) → Each (λ (t : LaneAnswer). links_by installed w t.closed ≤ most) ts → Each (λ (t : LaneAnswer). Brings (LinksWithin installed w most) t.closed) ts
     all [] h = tt
     all (t ∷ ts) h = (one t.closed h.0, all ts h.1)

@@ -12,7 +12,7 @@ use Rattle.board_model.specs.Boards.{Asker, Board, asker_of, issued_job}
 use Rattle.board_model.specs.Jobs.{job_out}
 use Rattle.board_model.specs.Reached.{Reached}
 use Rattle.board_model.specs.Runs.{Note}
-use Rattle.board_model.specs.Slots.{Config}
+use Rattle.board_model.specs.Slots.{Setup}
 
 -- each answer that was heard leads to a sound place, if to any
 abbrev pub LeadSoundly : List Note → Type 0
@@ -33,17 +33,17 @@ pub record MayBeHanded (job : Job) : Type 0 where
 -- so is what each item asks, over a sound plan, where answers led to sound places alone
 abbrev pub AsksMayBeFetched : Type 0
 AsksMayBeFetched =
-    (config : Config) (olds : List Old) (notes : List Note) (b : Board) (number : ℕ) (a : Asker)
+    (config : Setup) (olds : List Old) (notes : List Note) (b : Board) (number : ℕ) (a : Asker)
     → All IsPlanned config.sources → LeadSoundly notes → Reached config olds notes b → asker_of b number ≡ Some a → MayBeFetched a.ask
 
 -- so is each job that goes out
 abbrev pub IssuedJobsMayBeHanded : Type 0
 IssuedJobsMayBeHanded =
-    (config : Config) (olds : List Old) (notes : List Note) (b : Board) (lane : ℕ) (job : Job)
+    (config : Setup) (olds : List Old) (notes : List Note) (b : Board) (lane : ℕ) (job : Job)
     → All IsPlanned config.sources → LeadSoundly notes → Reached config olds notes b → issued_job b lane ≡ Some job → MayBeHanded job
 
 -- and each that is out
 abbrev pub JobsOutMayBeHanded : Type 0
 JobsOutMayBeHanded =
-    (config : Config) (olds : List Old) (notes : List Note) (b : Board) (number : ℕ) (job : Job)
+    (config : Setup) (olds : List Old) (notes : List Note) (b : Board) (number : ℕ) (job : Job)
     → All IsPlanned config.sources → LeadSoundly notes → Reached config olds notes b → job_out b number ≡ Some job → MayBeHanded job

@@ -21,8 +21,8 @@ use Rattle.board_model.specs.Boards.{Board}
 use Rattle.board_model.specs.Keys.{named}
 use Rattle.board_model.specs.Reached.{Reached}
 use Rattle.board_model.specs.Runs.{Note}
-use Rattle.board_model.specs.Slots.{Config}
-use Rattle.board_model.specs.Stands.{History, history_of, tolds}
+use Rattle.board_model.specs.Slots.{Setup}
+use Rattle.board_model.specs.Stands.{History, history_of, lane_answers}
 
 -- the entries of a source in a log
 abbrev pub asks_of : ℕ → List Asked → List Asked
@@ -41,15 +41,15 @@ links_among installed w [] = 0
 links_among installed w (note ∷ notes) = max (links_by installed w note.told.closed) (links_among installed w notes)
 
 -- the Release that the source's first item came to, where it may be installed
-abbrev pub release_at : Config → Old → Point → Option Release
+abbrev pub release_at : Setup → Old → Point → Option Release
 release_at config old (Over end) = option_map (λ set. set.release) (result_ok (admitted end old.release config.settings config.change config.now))
 release_at config old (At ask left retries next) = None
 
-abbrev pub release_heard : Config → Source → Old → List Note → Option Release
-release_heard config source old heard = release_at config old (run config.settings.retries (start config.settings.retries (release_walk source)) (tolds heard))
+abbrev pub release_heard : Setup → Source → Old → List Note → Option Release
+release_heard config source old heard = release_at config old (run config.settings.retries (start config.settings.retries (release_walk source)) (lane_answers heard))
 
 -- by how many patches the Index leads that a list heard: none where no Release names the list, or no Index came
-abbrev pub links_of : Config → Source → Old → Option Release → Target → List Note → ℕ
+abbrev pub links_of : Setup → Source → Old → Option Release → Target → List Note → ℕ
 links_of config source old None target heard = 0
 links_of config source old (Some release) target heard =
     option_map_or (λ sum. links_among (named old.lists target.name.0) (want source release config.settings target sum) heard) (listed_sum release target.path) 0
@@ -57,7 +57,7 @@ links_of config source old (Some release) target heard =
 -- ---- the bound
 
 -- the sum over these lists, whose items have the places from this one on, of 4 and the length of the list's chain
-abbrev pub trails_of : Config → Source → Old → Option Release → History → ℕ → List Target → ℕ
+abbrev pub trails_of : Setup → Source → Old → Option Release → History → ℕ → List Target → ℕ
 trails_of config source old release history place [] = 0
 trails_of config source old release history place (target ∷ targets) =
     (4 + links_of config source old release target (history place)) + trails_of config source old release history (suc place) targets
@@ -67,7 +67,7 @@ trails_of config source old release history place (target ∷ targets) =
 -- each asked once and again after as many faults as are retried.
 abbrev pub SourceAsksAreFew : Type 0
 SourceAsksAreFew =
-    (config : Config) (olds : List Old) (notes : List Note) (b : Board) (n : ℕ) (source : Source) (old : Old)
+    (config : Setup) (olds : List Old) (notes : List Note) (b : Board) (n : ℕ) (source : Source) (old : Old)
     → Reached config olds notes b → slice_get config.sources n ≡ Some source → slice_get olds n ≡ Some old
     → length (asks_of n b.asks)
     ≤ 11 * (config.settings.retries + 1) * (2 + trails_of config source old (release_heard config source old (history_of n notes 0)) (history_of n notes) 1 source.targets)

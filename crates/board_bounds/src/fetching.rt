@@ -2,7 +2,7 @@
 
 ghost use Rattle.board_bounds.specs.Fetching as law;
 
-use board_model::{boards_rest, boards_walk_routes};
+use board_model::{boards_walk_routes, wanted_parts_fall};
 use item_graph::lists_ask_soundly;
 use update_model::new_sets_are_admissible;
 
@@ -16,5 +16,5 @@ pub fn asks_may_be_fetched()
     boards_walk_routes();
     lists_ask_soundly();
     new_sets_are_admissible();
-    boards_rest();
+    wanted_parts_fall();
 }

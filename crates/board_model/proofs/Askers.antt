@@ -8,14 +8,14 @@ use Rattle.acq_base.specs.declared.plan.Source.{Source}
 use Rattle.host_queues.specs.Lanes.{Lanes}
 use Rattle.host_queues.proofs.Changes.{get-changed, get-other}
 use Rattle.update_model.specs.Obtained.{◌>>=◌}
-use Rattle.update_model.specs.Outcomes.{Admitted, Staying, admitted}
+use Rattle.update_model.specs.Outcomes.{AdmittedRelease, Staying, admitted}
 use Rattle.update_model.specs.Points.{Point, Over, At}
-use Rattle.update_model.specs.Trails.{Told}
+use Rattle.update_model.specs.Trails.{LaneAnswer}
 use Rattle.update_model.specs.declared.ask.Ask.{Ask}
 use Rattle.board_model.specs.Boards.{Asker, Board, asker_of, heard_by, put_heard, took}
 use Rattle.board_model.specs.Jobs.{one_if, times_waiting}
 use Rattle.board_model.specs.Keys.{key_at, named}
-use Rattle.board_model.specs.Slots.{Config, Standing, Slot, Asking, Listing, Refused, Closed, after_release, ask_of, first_list, heard_at, item_at, item_in, items_in, joined, listed, stepped}
+use Rattle.board_model.specs.Slots.{Setup, Standing, Slot, Asking, Listing, Refused, SettledSlot, after_release, ask_of, first_list, heard_at, item_at, item_in, items_in, joined, listed, item_after}
 use Rattle.board_model.specs.declared.key.Key.{Key}
 use Rattle.board_model.proofs.Counting.{as-other, as-self, ask-count, asks-below, asks-here, asks_among, asks_as, items-count}
 use Rattle.board_model.proofs.Numbers.{base, key-there, numbered}
@@ -66,9 +66,9 @@ pub only-release : (slot : Slot) (ask : Ask) → ask_of (item_in slot 0) ≡ Som
 only-release (Asking old release) ask e = (old, release, refl)
 only-release (Listing set there lists) ask e = absurd (cc)
 only-release (Refused why) ask e = absurd (cc)
-only-release Closed ask e = absurd (cc)
+only-release SettledSlot ask e = absurd (cc)
 
-listed-few : (config : Config) (source : Source) (old : Old) (came : Result Admitted Staying) → length (items_in (listed config source old came)) ≤ suc (length source.targets)
+listed-few : (config : Setup) (source : Source) (old : Old) (came : Result AdmittedRelease Staying) → length (items_in (listed config source old came)) ≤ suc (length source.targets)
 listed-few config source old (Ok set) = let same = length-map (first_list config source set.release (named old.lists)) source.targets in omega (arith, same)
   where
     length-map : {A B : Type 0} (f : A → B) (xs : List A) → length (map f xs) ≡ length xs
@@ -76,26 +76,26 @@ listed-few config source old (Ok set) = let same = length-map (first_list config
     length-map f (x ∷ xs) = ap suc (length-map f xs)
 listed-few config source old (Err why) = omega arith
 
-released-few : (config : Config) (source : Source) (old : Old) (item : Standing) (point : Point) → length (items_in (after_release config source old item point)) ≤ suc (length source.targets)
+released-few : (config : Setup) (source : Source) (old : Old) (item : Standing) (point : Point) → length (items_in (after_release config source old item point)) ≤ suc (length source.targets)
 released-few config source old item (Over end) = listed-few config source old (admitted end old.release config.settings config.change config.now)
 released-few config source old item (At ask left faults next) = omega arith
 
-heard-few : (config : Config) (source : Source) (told : Told) (slot : Slot) (ask : Ask) → ask_of (item_in slot 0) ≡ Some ask
+heard-few : (config : Setup) (source : Source) (told : LaneAnswer) (slot : Slot) (ask : Ask) → ask_of (item_in slot 0) ≡ Some ask
     → length (items_in (heard_at config source 0 told slot)) ≤ suc (length source.targets)
-heard-few config source told (Asking old release) ask e = released-few config source old (stepped told release) (stepped told release).point
+heard-few config source told (Asking old release) ask e = released-few config source old (item_after told release) (item_after told release).point
 heard-few config source told (Listing set there lists) ask e = absurd (cc)
 heard-few config source told (Refused why) ask e = absurd (cc)
-heard-few config source told Closed ask e = absurd (cc)
+heard-few config source told SettledSlot ask e = absurd (cc)
 
 -- a list that hears leaves the other items alone
-pub others-stay : (config : Config) (source : Source) (place p : ℕ) (told : Told) (slot : Slot) (ask : Ask) → ask_of (item_in slot (suc place)) ≡ Some ask → nat_eq p (suc place) ≡ false
+pub others-stay : (config : Setup) (source : Source) (place p : ℕ) (told : LaneAnswer) (slot : Slot) (ask : Ask) → ask_of (item_in slot (suc place)) ≡ Some ask → nat_eq p (suc place) ≡ false
     → item_in (heard_at config source (suc place) told slot) p ≡ item_in slot p
 others-stay config source place p told (Asking old release) ask e apart = absurd (cc)
 others-stay config source place zero told (Listing set there lists) ask e apart = refl
 others-stay config source place (suc p) told (Listing set there lists) ask e apart =
-    ap joined (get-other (option_map (stepped told)) lists place p (grind (arith, nat_tests, apart)))
+    ap joined (get-other (option_map (item_after told)) lists place p (grind (arith, nat_tests, apart)))
 others-stay config source place p told (Refused why) ask e apart = absurd (cc)
-others-stay config source place p told Closed ask e apart = absurd (cc)
+others-stay config source place p told SettledSlot ask e apart = absurd (cc)
 
 -- ---- what is put into lanes
 
@@ -164,11 +164,11 @@ place-cases zero = inl refl
 place-cases (suc q) = inr (q, refl)
 
 -- the slot that the item's answer leaves
-abbrev pub slot_after : (b : Board) (number : ℕ) (a : Asker) → Told → Asks b number a → Slot
+abbrev pub slot_after : (b : Board) (number : ℕ) (a : Asker) → LaneAnswer → Asks b number a → Slot
 slot_after b number a told asks = heard_at b.config a.source a.key.place told asks.slot
 
 -- no number of another source is put into a lane
-none-added : (b : Board) (number m : ℕ) (a : Asker) (told : Told) (asks : Asks b number a) → nat_eq number m ≡ false
+none-added : (b : Board) (number m : ℕ) (a : Asker) (told : LaneAnswer) (asks : Asks b number a) → nat_eq number m ≡ false
     → (a.key.place ≡ 0 → (p : ℕ) → p ≤ length a.source.targets → m ≡ number + p → ⊥)
     → added m number a.key.place (slot_after b number a told asks) ≡ 0
 none-added b number m a told asks apart outside = elim (place-cases a.key.place) [
@@ -212,7 +212,7 @@ apart-numbers b number m a asks differs = elim (cases_Bool (nat_eq number m)) [
 ]
 
 -- a number of no item
-unplanned : (b : Board) (number from m : ℕ) (a : Asker) (told : Told) (asks : Asks b number a) → key_at b.config.sources m ≡ None
+unplanned : (b : Board) (number from m : ℕ) (a : Asker) (told : LaneAnswer) (asks : Asks b number a) → key_at b.config.sources m ≡ None
     → IsAsBefore b (took b number a from told) a number m (slot_after b number a told asks)
 unplanned b number from m a told asks none =
     let apart = apart-numbers b number m a asks (λ some. cc) in
@@ -226,7 +226,7 @@ unplanned b number from m a told asks none =
     }
 
 -- an item of another source
-elsewhere : (b : Board) (number from m : ℕ) (a : Asker) (told : Told) (asks : Asks b number a) (key : Key) → key_at b.config.sources m ≡ Some key → nat_eq key.source a.key.source ≡ false
+elsewhere : (b : Board) (number from m : ℕ) (a : Asker) (told : LaneAnswer) (asks : Asks b number a) (key : Key) → key_at b.config.sources m ≡ Some key → nat_eq key.source a.key.source ≡ false
     → IsAsBefore b (took b number a from told) a number m (slot_after b number a told asks)
 elsewhere b number from m a told asks key is other =
     let n = numbered b.config.sources 0 m key is in
@@ -252,7 +252,7 @@ elsewhere b number from m a told asks key is other =
     }
 
 -- an item of the source that heard
-pub here-asks : (b : Board) (number from m : ℕ) (a : Asker) (told : Told) (asks : Asks b number a) (key : Key) → key_at b.config.sources m ≡ Some key → nat_eq key.source a.key.source ≡ true
+pub here-asks : (b : Board) (number from m : ℕ) (a : Asker) (told : LaneAnswer) (asks : Asks b number a) (key : Key) → key_at b.config.sources m ≡ Some key → nat_eq key.source a.key.source ≡ true
     → asker_of (took b number a from told) m ≡ option_map (λ ask. record { key = key; source = a.source; ask = ask }) (ask_of (item_in (slot_after b number a told asks) key.place))
 here-asks b number from m a told asks key is same =
     let source_same : key.source ≡ a.key.source = grind (arith, nat_tests, same) in
@@ -273,7 +273,7 @@ before-asks b number m a asks key is same =
     ∙ ap (λ (s : Option Slot). option_map (λ ask. record { key = key; source = a.source; ask = ask }) (ask_of (option_and_then (λ slot. item_in slot key.place) s))) slot
 
 -- where a Release heard
-of-release : (b : Board) (number from m : ℕ) (a : Asker) (told : Told) (asks : Asks b number a) (key : Key) → key_at b.config.sources m ≡ Some key → nat_eq key.source a.key.source ≡ true
+of-release : (b : Board) (number from m : ℕ) (a : Asker) (told : LaneAnswer) (asks : Asks b number a) (key : Key) → key_at b.config.sources m ≡ Some key → nat_eq key.source a.key.source ≡ true
     → a.key.place ≡ 0 → IsOfSource b (took b number a from told) a number m (slot_after b number a told asks)
 of-release b number from m a told asks key is same first =
     let places = same-base b.config.sources m number key a.key is asks.key_is same in
@@ -300,7 +300,7 @@ of-release b number from m a told asks key is same first =
         ∙ ap (λ (s : Slot). option_map (λ ask. record { key = key; source = a.source; ask = ask }) (ask_of (item_in s (suc q)))) slot)
 
 -- where a list heard
-of-list : (b : Board) (number from m : ℕ) (a : Asker) (told : Told) (asks : Asks b number a) (key : Key) (q : ℕ) → key_at b.config.sources m ≡ Some key → nat_eq key.source a.key.source ≡ true
+of-list : (b : Board) (number from m : ℕ) (a : Asker) (told : LaneAnswer) (asks : Asks b number a) (key : Key) (q : ℕ) → key_at b.config.sources m ≡ Some key → nat_eq key.source a.key.source ≡ true
     → a.key.place ≡ suc q → (nat_eq number m ≡ true) ⊎ (nat_eq number m ≡ false)
     → IsAsBefore b (took b number a from told) a number m (slot_after b number a told asks) ⊎ IsOfSource b (took b number a from told) a number m (slot_after b number a told asks)
 of-list b number from m a told asks key q is same list (inl itself) =
@@ -334,7 +334,7 @@ of-list b number from m a told asks key q is same list (inr apart) =
     })
 
 -- each number
-pub after-answer : (b : Board) (number from m : ℕ) (a : Asker) (told : Told) (asks : Asks b number a)
+pub after-answer : (b : Board) (number from m : ℕ) (a : Asker) (told : LaneAnswer) (asks : Asks b number a)
     → IsAsBefore b (took b number a from told) a number m (slot_after b number a told asks) ⊎ IsOfSource b (took b number a from told) a number m (slot_after b number a told asks)
 after-answer b number from m a told asks = one (key_at b.config.sources m) refl
   where

@@ -12,12 +12,12 @@ use Rattle.uri_names.specs.Names.{host_key_of}
 use Rattle.update_model.specs.declared.ask.Ask.{Ask}
 use Rattle.update_model.specs.declared.settled.Verdict2.{Verdict2}
 use Rattle.board_model.specs.Boards.{Asker, Board, asker_of, first_ready, is_out, issued_job, job_for, lane_with}
-use Rattle.board_model.specs.CallLaws.{IsServedLane, OutNumbersAsk, NoneGoesOutExactly, IdleBoardsAskNothing, QuietBoardsAreReady}
+use Rattle.board_model.specs.CallLaws.{IsServedLane, OutNumbersAsk, NoneGoesOutExactly, BoardsWithoutJobsAskNothing, QuietBoardsAreReady}
 use Rattle.board_model.specs.Jobs.{NoneAsks, one_if, times_in, times_out, times_waiting}
 use Rattle.board_model.specs.Keys.{key_at}
 use Rattle.board_model.specs.Reached.{Reached}
-use Rattle.board_model.specs.Runs.{Note, World}
-use Rattle.board_model.specs.Slots.{Config, Standing, Slot, Asking, Listing, Refused, Closed, ask_of, has_ended, is_ready, item_at, item_in, joined}
+use Rattle.board_model.specs.Runs.{Note, BoardRun}
+use Rattle.board_model.specs.Slots.{Setup, Standing, Slot, Asking, Listing, Refused, SettledSlot, ask_of, has_ended, is_ready, item_at, item_in, joined}
 use Rattle.board_model.specs.Stands.{History, SourceStands, StandsAt, history_of}
 use Rattle.board_model.specs.declared.key.Key.{Key}
 use Rattle.board_model.proofs.Askers.{asker-by}
@@ -30,8 +30,8 @@ use Rattle.board_model.proofs.Numbers.{base, key-there}
 use Rattle.board_model.proofs.Reaching.{lane-out}
 use Rattle.board_model.proofs.Resting.{lists-none, olds-there, reached-stands}
 
-lanes-stand : HostsKeepLanes → (config : Config) (olds : List Old) (notes : List Note) (b : Board) → Reached config olds notes b → LanesStand b
-lanes-stand kept config olds notes b r = subst (λ (w : World). LanesStand w.board) r.leads (world-stands kept config olds r.lanes r.events r.each r.some).lanes
+lanes-stand : HostsKeepLanes → (config : Setup) (olds : List Old) (notes : List Note) (b : Board) → Reached config olds notes b → LanesStand b
+lanes-stand kept config olds notes b r = subst (λ (w : BoardRun). LanesStand w.board) r.leads (world-stands kept config olds r.lanes r.events r.each r.some).lanes
 
 -- ---- what is out
 
@@ -190,7 +190,7 @@ none-exactly kept config olds notes b lane r = (served, back)
             let none = alone.0 in
             absurd (omega (arith, there, none))
 
-pub idle-boards : HostsKeepLanes → IdleBoardsAskNothing
+pub idle-boards : HostsKeepLanes → BoardsWithoutJobsAskNothing
 idle-boards kept config olds notes b r none free number = one (asker_of b number) refl
   where
     h : LanesStand b
@@ -232,14 +232,14 @@ ended-all (list ∷ lists) h =
     rw here (ended-all lists (λ k. h (suc k)))
 
 -- a source none of whose items asks is ready or settled
-quiet-slot : (slot : Slot) → KeepsAsking slot → ((place : ℕ) → ask_of (item_in slot place) ≡ None) → is_ready slot ≡ false → slot ≡ Closed
+quiet-slot : (slot : Slot) → KeepsAsking slot → ((place : ℕ) → ask_of (item_in slot place) ≡ None) → is_ready slot ≡ false → slot ≡ SettledSlot
 quiet-slot (Asking old release) keeps quiet ready = absurd (keeps (quiet 0))
 quiet-slot (Listing set there lists) keeps quiet ready =
     let ended : list_all has_ended lists ≡ true = ended-all lists (λ k. quiet (suc k)) in
     let both : true ≡ false = sym ended ∙ ready in
     absurd (cc)
 quiet-slot (Refused why) keeps quiet ready = absurd (cc)
-quiet-slot Closed keeps quiet ready = refl
+quiet-slot SettledSlot keeps quiet ready = refl
 
 no-ask : (f : Ask → Asker) (o : Option Ask) → option_map f o ≡ None → o ≡ None
 no-ask f None e = refl
@@ -264,13 +264,13 @@ past-none source k past = one source.targets k past
     one (x ∷ xs) (suc k) past = one xs k (λ few. past (omega (arith, few)))
 
 -- behind the targets of a source there is no item
-past-item : (config : Config) (n : ℕ) (source : Source) (old : Old) (slot : Slot) (verdict : Verdict2) (history : History) (k : ℕ) → SourceStands config n source old slot verdict history
+past-item : (config : Setup) (n : ℕ) (source : Source) (old : Old) (slot : Slot) (verdict : Verdict2) (history : History) (k : ℕ) → SourceStands config n source old slot verdict history
     → slice_get source.targets k ≡ None → item_in slot (suc k) ≡ None
 past-item config n source old (Asking kept release) verdict history k h none = refl
 past-item config n source old (Listing set there lists) verdict history k (inl h) none = lists-none config n source old set.release 1 source.targets lists history h.2 k none
 past-item config n source old (Listing set there lists) verdict history k (inr h) none = let same = h.0 in absurd (cc)
 past-item config n source old (Refused why) verdict history k h none = refl
-past-item config n source old Closed verdict history k h none = refl
+past-item config n source old SettledSlot verdict history k h none = refl
 
 each-slot : (slots : List Slot) (P : Slot → Type 0) → ((n : ℕ) (slot : Slot) → slice_get slots n ≡ Some slot → P slot) → Each P slots
 each-slot [] P h = tt
@@ -282,16 +282,16 @@ each-at (s ∷ slots) P zero slot h e = let same : s ≡ slot = cc in subst P sa
 each-at (s ∷ slots) P (suc n) slot h e = each-at slots P n slot h.1 e
 
 pub quiet-boards : QuietBoardsAreReady
-quiet-boards config olds notes b r none ready = each-slot b.slots (λ slot. slot ≡ Closed) one
+quiet-boards config olds notes b r none ready = each-slot b.slots (λ slot. slot ≡ SettledSlot) one
   where
     well : GoesWell b
-    well = subst (λ (w : World). GoesWell w.board) r.leads (boards-go-well config olds r.lanes r.events)
+    well = subst (λ (w : BoardRun). GoesWell w.board) r.leads (boards-go-well config olds r.lanes r.events)
 
-    one : (n : ℕ) (slot : Slot) → slice_get b.slots n ≡ Some slot → slot ≡ Closed
+    one : (n : ℕ) (slot : Slot) → slice_get b.slots n ≡ Some slot → slot ≡ SettledSlot
     one n slot is =
         let stand = reached-stands config olds notes b r in
         let source = well.sources n slot is in
-        let there : slice_get config.sources n ≡ Some source.0 = ap (λ (c : Config). slice_get c.sources n) (sym stand.config_is) ∙ source.1 in
+        let there : slice_get config.sources n ≡ Some source.0 = ap (λ (c : Setup). slice_get c.sources n) (sym stand.config_is) ∙ source.1 in
         let old = olds-there config.sources olds n source.0 r.each there in
         let at : StandsAt config n source.0 old.0 (record { board = b; jobs = r.jobs; queue = []; notes = notes }) = stand.sources n source.0 old.0 there old.1 in
         let both : Some at.slot ≡ Some slot = sym at.slot_is ∙ is in

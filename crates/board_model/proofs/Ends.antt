@@ -3,19 +3,19 @@ use Rattle.std.proofs.Common.{◌≡◌, ◌∙◌, ℕ, suc, ◌+◌, ◌++◌,
 use Rattle.std.specs.Prelude.{◌&&◌, is_none, filter_map, option_map, slice_get, Result, Ok, Err}
 use Rattle.std.specs.List.{list_all, AllByRecursion as Each}
 use Rattle.std.proofs.lemmas.Bool.{and_parts}
-use Rattle.acq_base.specs.Mirror.{World as Mirror}
+use Rattle.acq_base.specs.Mirror.{MirrorMap}
 use Rattle.acq_base.specs.Sum.{sum_of}
 use Rattle.acq_base.specs.declared.installed.Old.{Old}
 use Rattle.acq_base.specs.declared.plan.Source.{Source}
 use Rattle.acq_base.specs.declared.plan.Target.{Target}
 use Rattle.acq_base.specs.declared.sum.Sum.{Sum}
-use Rattle.item_graph.specs.Items.{asked}
-use Rattle.item_graph.specs.Laws.{IsToldRoute, PointsEndInRoutes}
+use Rattle.item_graph.specs.Refinement.{asked}
+use Rattle.item_graph.specs.Laws.{IsHeardRoute, PointsEndInRoutes}
 use Rattle.release_file.specs.Release.{listed_sum}
 use Rattle.release_file.specs.declared.release.Release.{Release}
 use Rattle.update_model.specs.Laws.{ListEnd as RouteEnd, AreRoutesOver, RoutesMakeNewSets, RunsStandInRoutes}
 use Rattle.update_model.specs.Next.{same_bytes, same_sums}
-use Rattle.update_model.specs.Outcomes.{Admitted, Staying, Directory, Parts, ◌>>=◌, admitted, all_had, outcome, wanted_by, new_set}
+use Rattle.update_model.specs.Outcomes.{AdmittedRelease, Staying, Directory, PartFiles, ◌>>=◌, admitted, all_had, outcome, wanted_by, new_set}
 use Rattle.update_model.specs.Points.{Point, Over, At, ran, run, start, AsksFirst}
 use Rattle.update_model.specs.Releases.{release_text}
 use Rattle.update_model.specs.Walks.{Walk, IsRoute, release_walk, target_walk}
@@ -29,23 +29,23 @@ use Rattle.board_model.specs.Ends.{ComesTo, EndsInRoute, ListEnd, ListEndsInRout
 use Rattle.board_model.specs.Keys.{name_at, named}
 use Rattle.board_model.specs.Laws.{ItemsAskNext, SettledSourcesCome, SetsThereAreHeld, VerdictsAreMirrors}
 use Rattle.board_model.specs.Settling.{ends_in, had, settled_in, settled_lists, staying_verdict, unchanged}
-use Rattle.board_model.specs.Slots.{Config, Standing, Slot, Asking, Listing, Refused, Closed, has_ended, is_there, is_ready}
-use Rattle.board_model.specs.Stands.{AreAsked, HasCome, HasHeard, History, IsOpen, ListsStand, entries_of, tolds}
+use Rattle.board_model.specs.Slots.{Setup, Standing, Slot, Asking, Listing, Refused, SettledSlot, has_ended, is_there, is_ready}
+use Rattle.board_model.specs.Stands.{AreAsked, HasCome, ItemHasHeard, History, IsOpen, ListsStand, entries_of, lane_answers}
 
 -- ---- routes
 
-routed : PointsEndInRoutes → (config : Config) (n place : ℕ) (path : List ℕ) (walk : Walk) (history : History) (end : End)
-    → run config.settings.retries (start config.settings.retries walk) (tolds (history place)) ≡ Over end
+routed : PointsEndInRoutes → (config : Setup) (n place : ℕ) (path : List ℕ) (walk : Walk) (history : History) (end : End)
+    → run config.settings.retries (start config.settings.retries walk) (lane_answers (history place)) ≡ Over end
     → AreAsked config.settings.retries (start config.settings.retries walk) (history place)
-    → entries_of (history place) ≡ ran config.settings.retries n path (start config.settings.retries walk) (tolds (history place))
+    → entries_of (history place) ≡ ran config.settings.retries n path (start config.settings.retries walk) (lane_answers (history place))
     → EndsInRoute config n place path walk history end
 routed law config n place path walk history end over asks logged =
-    let told : IsToldRoute config.settings.retries walk (tolds (history place)) end = law config.settings.retries walk (tolds (history place)) end over in
+    let told : IsHeardRoute config.settings.retries walk (lane_answers (history place)) end = law config.settings.retries walk (lane_answers (history place)) end over in
     record { told = told; asks = asks; ends = over; logged = logged ∙ sym (told.entries_are n path) }
 
 pub asks-next : RunsStandInRoutes → ItemsAskNext
 asks-next law retries n path walk heard item h =
-    let found = law walk retries n path (tolds heard) in (
+    let found = law walk retries n path (lane_answers heard) in (
       found.0,
       found.1,
       found.2,
@@ -67,14 +67,14 @@ suc-one : (k : ℕ) → 1 + k ≡ suc k
 suc-one k = omega arith
 
 -- the lists from a place on, all of which have ended
-record ListsCome (config : Config) (n : ℕ) (source : Source) (old : Old) (release : Release) (targets : List Target) (lists : List (Option Standing)) (history : History) : Type 0 where
+record ListsCome (config : Setup) (n : ℕ) (source : Source) (old : Old) (release : Release) (targets : List Target) (lists : List (Option Standing)) (history : History) : Type 0 where
   came : List ListEnd
   names : map (λ l. l.wanted) came ≡ filter_map (λ target. option_map (want source release config.settings target) (listed_sum release target.path)) targets
   ends : map (λ l. l.end) came ≡ ends_in lists
   routes : Each (ListEndsInRoute config n old history) came
   places : Each (λ l. name_at source l.place ≡ Some l.wanted.name) came
 
-lists-come : PointsEndInRoutes → (config : Config) (n : ℕ) (source : Source) (old : Old) (release : Release) (place : ℕ) (targets : List Target) (lists : List (Option Standing)) (history : History)
+lists-come : PointsEndInRoutes → (config : Setup) (n : ℕ) (source : Source) (old : Old) (release : Release) (place : ℕ) (targets : List Target) (lists : List (Option Standing)) (history : History)
     → ((k : ℕ) → name_at source (place + k) ≡ option_map (λ (t : Target). t.name) (slice_get targets k))
     → ListsStand config n source old release place targets lists history → list_all has_ended lists ≡ true
     → ListsCome config n source old release targets lists history
@@ -89,7 +89,7 @@ lists-come law config n source old release place (target ∷ targets) (Some item
     let rest = lists-come law config n source old release (suc place) targets lists history (λ k. subst (λ (p : ℕ). name_at source p ≡ option_map (λ (t : Target). t.name) (slice_get targets k)) (omega arith) (at (suc k))) h.1 parts.1 in
     let sum : Sum = h.0.0 in
     let w : Wanted = want source release config.settings target sum in
-    let heard : HasHeard config.settings.retries n target.path (walk_for config old w) (history place) item = h.0.2 in
+    let heard : ItemHasHeard config.settings.retries n target.path (walk_for config old w) (history place) item = h.0.2 in
     let over = over-at item.point parts.0 in
     let route : EndsInRoute config n place target.path (walk_for config old w) history over.0 =
     routed law config n place target.path (walk_for config old w) history over.0 (sym heard.stands ∙ over.1) heard.asks heard.logged in
@@ -103,13 +103,13 @@ lists-come law config n source old release place (target ∷ targets) (Some item
 
 -- ---- a source
 
-pub listing-verdict : (source : Source) (old : Old) (set : Admitted) (there : Bool) (lists : List (Option Standing)) (had_all : Result (Unit {0}) Staying) (verdict : Verdict2) → there ≡ is_there source old set
+pub listing-verdict : (source : Source) (old : Old) (set : AdmittedRelease) (there : Bool) (lists : List (Option Standing)) (had_all : Result (Unit {0}) Staying) (verdict : Verdict2) → there ≡ is_there source old set
     → verdict ≡ (settled_lists source set there lists had_all).verdict → verdict ≡ verdict_for source old (had set had_all)
 listing-verdict source old set true lists (Ok each) verdict is e = e ∙ sym (rw (← is) refl)
 listing-verdict source old set false lists (Ok each) verdict is e = e ∙ sym (rw (← is) refl)
 listing-verdict source old set there lists (Err why) verdict is e = e
 
-outcome-listing : (end : End) (ends : List End) (old : Option (List ℕ)) (config : Config) (set : Admitted) → admitted end old config.settings config.change config.now ≡ Ok set
+outcome-listing : (end : End) (ends : List End) (old : Option (List ℕ)) (config : Setup) (set : AdmittedRelease) → admitted end old config.settings config.change config.now ≡ Ok set
     → outcome end ends old config.settings config.change config.now ≡ had set (all_had ends)
 outcome-listing end ends old config set is = rw is (one (all_had ends))
   where
@@ -117,7 +117,7 @@ outcome-listing end ends old config set is = rw is (one (all_had ends))
     one (Ok each) = refl
     one (Err why) = refl
 
-outcome-refused : (end : End) (ends : List End) (old : Option (List ℕ)) (config : Config) (why : Staying) → admitted end old config.settings config.change config.now ≡ Err why
+outcome-refused : (end : End) (ends : List End) (old : Option (List ℕ)) (config : Setup) (why : Staying) → admitted end old config.settings config.change config.now ≡ Err why
     → outcome end ends old config.settings config.change config.now ≡ Err why
 outcome-refused end ends old config why is = rw is refl
 
@@ -154,20 +154,20 @@ sources-come law config n source old verdict history was = one was.slot was.open
           places = tt;
           is = was.told ∙ ap (λ (s : Settled). s.verdict) (sym settled) ∙ ap (verdict_for source old) (sym (outcome-refused came.end [] old.release config why came.came_to));
         }
-    one Closed h ready is = absurd h
+    one SettledSlot h ready is = absurd h
 
 -- ---- over a mirror
 
-abbrev route_end : (config : Config) (n : ℕ) (old : Old) (history : History) (l : ListEnd) → ListEndsInRoute config n old history l → RouteEnd
+abbrev route_end : (config : Setup) (n : ℕ) (old : Old) (history : History) (l : ListEnd) → ListEndsInRoute config n old history l → RouteEnd
 route_end config n old history l route = record { wanted = l.wanted; trails = route.told.trails; end = l.end }
 
-record RoutesOver (mirror : Mirror) (dir : Directory) (parts : Parts) (config : Config) (came : List ListEnd) : Type 0 where
+record RoutesOver (mirror : MirrorMap) (dir : Directory) (parts : PartFiles) (config : Setup) (came : List ListEnd) : Type 0 where
   lists : List RouteEnd
   names : map (λ l. l.wanted) lists ≡ map (λ l. l.wanted) came
   ends : map (λ l. l.end) lists ≡ map (λ l. l.end) came
   over : AreRoutesOver mirror dir parts config.settings.retries lists
 
-routes-over : (mirror : Mirror) (dir : Directory) (parts : Parts) (config : Config) (n : ℕ) (old : Old) (history : History) (came : List ListEnd)
+routes-over : (mirror : MirrorMap) (dir : Directory) (parts : PartFiles) (config : Setup) (n : ℕ) (old : Old) (history : History) (came : List ListEnd)
     → Each (ListEndsInRoute config n old history) came → Each (ListIsHeardFrom mirror dir parts config old history) came → RoutesOver mirror dir parts config came
 routes-over mirror dir parts config n old history [] routes heard = record { lists = []; names = refl; ends = refl; over = tt }
 routes-over mirror dir parts config n old history (l ∷ ls) routes heard =

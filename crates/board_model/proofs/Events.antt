@@ -13,7 +13,7 @@ use Rattle.host_queues.specs.Lanes.{changed_at}
 use Rattle.host_queues.proofs.Changes.{get-changed, get-other}
 use Rattle.update_model.specs.Points.{entry}
 use Rattle.update_model.specs.Releases.{release_text}
-use Rattle.update_model.specs.Trails.{Told}
+use Rattle.update_model.specs.Trails.{LaneAnswer}
 use Rattle.update_model.specs.Walks.{release_walk}
 use Rattle.update_model.specs.declared.ask.Ask.{Ask}
 use Rattle.update_model.specs.declared.ask.Closed.{Closed as closed_type}
@@ -22,9 +22,9 @@ use Rattle.update_model.specs.declared.settled.Verdict2.{Verdict2}
 use Rattle.board_model.specs.Boards.{Board, Asker, asker_of, first_ready, first_release, first_slots, heard_by, issued, issued_job, lane_with, no_verdict, settled_as, settled_of, took, took_from}
 use Rattle.board_model.specs.Keys.{key_at, path_at, same_key}
 use Rattle.board_model.specs.Laws.{BoardsStand}
-use Rattle.board_model.specs.Runs.{Answered, Event, Issue, Answer, Absorb, Settle, Note, World, answered, entry_of, sent_job, without_job, happens, note_of, noted, run, settle_as, settle_first, start, take_first, told_by}
+use Rattle.board_model.specs.Runs.{Answered, Event, Issue, Answer, Absorb, Settle, Note, BoardRun, answered, entry_of, sent_job, without_job, happens, note_of, noted, run, settle_as, settle_first, start, take_first, lane_answer_of}
 use Rattle.board_model.specs.Settling.{settled_in}
-use Rattle.board_model.specs.Slots.{Config, Slot, Asking, Closed, ask_of, item_in, item_at, joined, heard_at, is_ready}
+use Rattle.board_model.specs.Slots.{Setup, Slot, Asking, SettledSlot, ask_of, item_in, item_at, joined, heard_at, is_ready}
 use Rattle.board_model.specs.Stands.{History, IsOpen, SourceStands, StandsAt, AllStand, history_of, of_key}
 use Rattle.board_model.specs.declared.key.Key.{Key}
 use Rattle.board_model.proofs.Hearing.{none-heard, of-same, of-other, apart-source, apart-place}
@@ -33,7 +33,7 @@ use Rattle.board_model.proofs.Sources.{with_note, heard-open}
 
 -- ---- at the beginning
 
-pub first-slot : (config : Config) (sources : List Source) (olds : List Old) (n : ℕ) (source : Source) (old : Old)
+pub first-slot : (config : Setup) (sources : List Source) (olds : List Old) (n : ℕ) (source : Source) (old : Old)
     → slice_get sources n ≡ Some source → slice_get olds n ≡ Some old
     → slice_get (first_slots config sources olds) n ≡ Some (Asking old (first_release config source))
 first-slot config [] olds n source old s o = absurd (cc)
@@ -49,7 +49,7 @@ mapped-there f [] n x e = absurd (cc)
 mapped-there f (y ∷ ys) zero x e = let same : y ≡ x = cc in ap (λ z. Some (f z)) same
 mapped-there f (y ∷ ys) (suc n) x e = mapped-there f ys n x e
 
-start-stands : (config : Config) (olds : List Old) (lanes : ℕ) → AllStand config olds (start config olds lanes)
+start-stands : (config : Setup) (olds : List Old) (lanes : ℕ) → AllStand config olds (start config olds lanes)
 start-stands config olds lanes = record {
   config_is = refl;
   sources = λ n source old s o. record {
@@ -106,14 +106,14 @@ history-there : (n : ℕ) (notes : List Note) (note : Note) → nat_eq n note.ke
 history-there n notes note apart = fun_ext (λ place. of-other (record { source = n; place = place }) notes note (apart-source note.key (record { source = n; place = place }) apart))
 
 -- a source of which no item asks isn't closed where one does
-pub still-open : (config : Config) (n : ℕ) (source : Source) (old : Old) (slot : Slot) (verdict : Verdict2) (history : History) (place : ℕ) (ask : Ask)
+pub still-open : (config : Setup) (n : ℕ) (source : Source) (old : Old) (slot : Slot) (verdict : Verdict2) (history : History) (place : ℕ) (ask : Ask)
     → SourceStands config n source old slot verdict history → ask_of (item_in slot place) ≡ Some ask → IsOpen config n source old slot history
 still-open config n source old slot verdict history place ask (inl h) asks = h
 still-open config n source old slot verdict history place ask (inr h) asks =
-    let none : ask_of (item_in Closed place) ≡ Some ask = subst (λ (s : Slot). ask_of (item_in s place) ≡ Some ask) h.0 asks in
+    let none : ask_of (item_in SettledSlot place) ≡ Some ask = subst (λ (s : Slot). ask_of (item_in s place) ≡ Some ask) h.0 asks in
     absurd (cc)
 
-took-stands : (config : Config) (olds : List Old) (w : World) (jobs : List (Option Job)) (queue : List Answered) (number from : ℕ) (a : Asker) (told : Told) → AllStand config olds w → IsAsker w.board a
+took-stands : (config : Setup) (olds : List Old) (w : BoardRun) (jobs : List (Option Job)) (queue : List Answered) (number from : ℕ) (a : Asker) (told : LaneAnswer) → AllStand config olds w → IsAsker w.board a
     → AllStand config olds (record { board = took w.board number a from told; jobs = jobs; queue = queue; notes = w.notes ++ note_of a told ∷ [] })
 took-stands config olds w jobs queue number from a told h asker = record {
   config_is = h.config_is;
@@ -135,7 +135,7 @@ took-stands config olds w jobs queue number from a told h asker = record {
         let is : n ≡ a.key.source = grind (arith, nat_tests, here) in
         let slot_same : Some asker.slot ≡ Some at.slot = sym asker.slot_is ∙ ap (slice_get w.board.slots) (sym is) ∙ at.slot_is in
         let slot : asker.slot ≡ at.slot = cc in
-        let source_same : Some a.source ≡ Some source = sym asker.source ∙ ap (λ (c : Config). slice_get c.sources a.key.source) h.config_is ∙ ap (slice_get config.sources) (sym is) ∙ s in
+        let source_same : Some a.source ≡ Some source = sym asker.source ∙ ap (λ (c : Setup). slice_get c.sources a.key.source) h.config_is ∙ ap (slice_get config.sources) (sym is) ∙ s in
         let the_source : a.source ≡ source = cc in
         let asks : ask_of (item_in at.slot a.key.place) ≡ Some a.ask = subst (λ (x : Slot). ask_of (item_in x a.key.place) ≡ Some a.ask) slot asker.asks in
         let entry_is : entry_of (note_of a told) ≡ entry n (path_at source a.key.place) a.ask told =
@@ -151,14 +151,14 @@ took-stands config olds w jobs queue number from a told h asker = record {
           slot_is = ap (slice_get (heard_by w.board a told)) is
               ∙ get-changed (heard_at w.board.config a.source a.key.place told) w.board.slots a.key.source
               ∙ ap (option_map (heard_at w.board.config a.source a.key.place told)) (ap (slice_get w.board.slots) (sym is) ∙ at.slot_is)
-              ∙ ap (λ (c : Config). Some (heard_at c a.source a.key.place told at.slot)) h.config_is
+              ∙ ap (λ (c : Setup). Some (heard_at c a.source a.key.place told at.slot)) h.config_is
               ∙ ap (λ (x : Source). Some (heard_at config x a.key.place told at.slot)) the_source;
           verdict_is = at.verdict_is;
           stands = inl (subst (λ (x : History). IsOpen config n source old (heard_at config source a.key.place told at.slot) x) (sym history) heard);
         }
 
 -- where nothing is noted, the board stays
-kept-stands : (config : Config) (olds : List Old) (w : World) (jobs : List (Option Job)) (queue : List Answered) (board : Board) (notes : List Note) → board ≡ w.board → notes ≡ [] → AllStand config olds w
+kept-stands : (config : Setup) (olds : List Old) (w : BoardRun) (jobs : List (Option Job)) (queue : List Answered) (board : Board) (notes : List Note) → board ≡ w.board → notes ≡ [] → AllStand config olds w
     → AllStand config olds (record { board = board; jobs = jobs; queue = queue; notes = w.notes ++ notes })
 kept-stands config olds w jobs queue board notes b none h =
     let same : w.notes ≡ w.notes ++ notes = sym (append-nil w.notes) ∙ ap (λ ns. w.notes ++ ns) (sym none) in
@@ -169,15 +169,15 @@ kept-stands config olds w jobs queue board notes b none h =
     carried : {n : ℕ} {source : Source} {old : Old} → StandsAt config n source old w → StandsAt config n source old (record { board = w.board; jobs = jobs; queue = queue; notes = w.notes })
     carried at = record { slot = at.slot; verdict = at.verdict; slot_is = at.slot_is; verdict_is = at.verdict_is; stands = at.stands }
 
-absorb-stands : (config : Config) (olds : List Old) (w : World) (queue : List Answered) → AllStand config olds w → AllStand config olds (take_first w queue)
+absorb-stands : (config : Setup) (olds : List Old) (w : BoardRun) (queue : List Answered) → AllStand config olds w → AllStand config olds (take_first w queue)
 absorb-stands config olds w [] h = h
 absorb-stands config olds w (x ∷ queue) h = one (lane_with w.board.out x.job.no) (asker_of w.board x.job.no) refl
   where
     one : (from : Option ℕ) (asker : Option Asker) → asker_of w.board x.job.no ≡ asker
-        → AllStand config olds (record { board = took_from w.board x.job.no (told_by x) from asker; jobs = without_job from asker w.jobs; queue = queue; notes = w.notes ++ noted (told_by x) from asker })
+        → AllStand config olds (record { board = took_from w.board x.job.no (lane_answer_of x) from asker; jobs = without_job from asker w.jobs; queue = queue; notes = w.notes ++ noted (lane_answer_of x) from asker })
     one None asker e = kept-stands config olds w w.jobs queue w.board [] refl refl h
     one (Some from) None e = kept-stands config olds w w.jobs queue w.board [] refl refl h
-    one (Some from) (Some a) e = took-stands config olds w (changed_at from (λ (other : Option Job). None) w.jobs) queue x.job.no from a (told_by x) h (is-asker w.board x.job.no a e)
+    one (Some from) (Some a) e = took-stands config olds w (changed_at from (λ (other : Option Job). None) w.jobs) queue x.job.no from a (lane_answer_of x) h (is-asker w.board x.job.no a e)
 
 -- ---- a source is settled
 
@@ -199,7 +199,7 @@ ready-slot (slot ∷ slots) n e = elim (cases_Bool (is_ready slot)) [
         let same : suc k ≡ n = let q : k + 1 ≡ n = cc in omega arith in
         (found.0, ap (λ (m : ℕ). slice_get (slot ∷ slots) m) (sym same) ∙ found.1, found.2)
 
-settled-stands : (config : Config) (olds : List Old) (w : World) (m : ℕ) (settled : Settled) → AllStand config olds w → first_ready w.board.slots ≡ Some m → settled_of w.board m ≡ Some settled
+settled-stands : (config : Setup) (olds : List Old) (w : BoardRun) (m : ℕ) (settled : Settled) → AllStand config olds w → first_ready w.board.slots ≡ Some m → settled_of w.board m ≡ Some settled
     → AllStand config olds (record w { board = settled_as w.board m settled.verdict })
 settled-stands config olds w m settled h ready is = record {
   config_is = h.config_is;
@@ -212,7 +212,7 @@ settled-stands config olds w m settled h ready is = record {
     one n source old s o at (inr apart) = record {
       slot = at.slot;
       verdict = at.verdict;
-      slot_is = get-other (λ (slot : Slot). Closed) w.board.slots m n apart ∙ at.slot_is;
+      slot_is = get-other (λ (slot : Slot). SettledSlot) w.board.slots m n apart ∙ at.slot_is;
       verdict_is = get-other (λ (other : Verdict2). settled.verdict) w.board.verdicts m n apart ∙ at.verdict_is;
       stands = at.stands;
     }
@@ -224,16 +224,16 @@ settled-stands config olds w m settled h ready is = record {
         let is_ready_slot : is_ready at.slot ≡ true = subst (λ (x : Slot). is_ready x ≡ true) slot found.2 in
         let x = bound (slice_get w.board.config.sources m) _ settled is in
         let y = bound (slice_get w.board.slots m) _ settled x.2 in
-        let source_same : Some x.0 ≡ Some source = sym x.1 ∙ ap (λ (c : Config). slice_get c.sources m) h.config_is ∙ ap (slice_get config.sources) (sym same) ∙ s in
+        let source_same : Some x.0 ≡ Some source = sym x.1 ∙ ap (λ (c : Setup). slice_get c.sources m) h.config_is ∙ ap (slice_get config.sources) (sym same) ∙ s in
         let the_source : x.0 ≡ source = cc in
         let y_same : Some y.0 ≡ Some at.slot = sym y.1 ∙ ap (slice_get w.board.slots) (sym same) ∙ at.slot_is in
         let the_slot : y.0 ≡ at.slot = cc in
         let comes : settled_in source at.slot ≡ Some settled = subst (λ (z : Slot). settled_in source z ≡ Some settled) the_slot (subst (λ (z : Source). settled_in z y.0 ≡ Some settled) the_source y.2) in
         record {
-          slot = Closed;
+          slot = SettledSlot;
           verdict = settled.verdict;
-          slot_is = ap (slice_get (changed_at m (λ (slot : Slot). Closed) w.board.slots)) same ∙ get-changed (λ (slot : Slot). Closed) w.board.slots m
-              ∙ ap (option_map (λ (slot : Slot). Closed)) (ap (slice_get w.board.slots) (sym same) ∙ at.slot_is);
+          slot_is = ap (slice_get (changed_at m (λ (slot : Slot). SettledSlot) w.board.slots)) same ∙ get-changed (λ (slot : Slot). SettledSlot) w.board.slots m
+              ∙ ap (option_map (λ (slot : Slot). SettledSlot)) (ap (slice_get w.board.slots) (sym same) ∙ at.slot_is);
           verdict_is = ap (slice_get (changed_at m (λ (other : Verdict2). settled.verdict) w.board.verdicts)) same ∙ get-changed (λ (other : Verdict2). settled.verdict) w.board.verdicts m
               ∙ ap (option_map (λ (other : Verdict2). settled.verdict)) (ap (slice_get w.board.verdicts) (sym same) ∙ at.verdict_is);
           stands = inr (refl, record { slot = at.slot; open_slot = was-open at.slot at.stands is_ready_slot; ready = is_ready_slot; settled = settled; comes_to = comes; told = refl });
@@ -245,7 +245,7 @@ settled-stands config olds w m settled h ready is = record {
             let none : false ≡ true = subst (λ (x : Slot). is_ready x ≡ true) closed.0 r in
             absurd (cc)
 
-settle-stands : (config : Config) (olds : List Old) (w : World) → AllStand config olds w → AllStand config olds (happens w Settle)
+settle-stands : (config : Setup) (olds : List Old) (w : BoardRun) → AllStand config olds w → AllStand config olds (happens w Settle)
 settle-stands config olds w h = one (first_ready w.board.slots) refl
   where
     two : (n : ℕ) (settled : Option Settled) → first_ready w.board.slots ≡ Some n → settled_of w.board n ≡ settled → AllStand config olds (settle_as w n settled)
@@ -258,7 +258,7 @@ settle-stands config olds w h = one (first_ready w.board.slots) refl
 
 -- ---- all events
 
-answer-stands : (config : Config) (olds : List Old) (w : World) (method : ℕ) (closed : closed_type) (job : Option Job) → AllStand config olds w → AllStand config olds (answered w method closed job)
+answer-stands : (config : Setup) (olds : List Old) (w : BoardRun) (method : ℕ) (closed : closed_type) (job : Option Job) → AllStand config olds w → AllStand config olds (answered w method closed job)
 answer-stands config olds w method closed None h = h
 answer-stands config olds w method closed (Some job) h = one (list_any (λ (a : Answered). nat_eq a.job.no job.no) w.queue)
   where
@@ -270,19 +270,19 @@ answer-stands config olds w method closed (Some job) h = one (list_any (λ (a : 
             → StandsAt config n source old (record w { queue = w.queue ++ (record { job = job; lane = method; closed = closed }) ∷ [] })
         carried at = record { slot = at.slot; verdict = at.verdict; slot_is = at.slot_is; verdict_is = at.verdict_is; stands = at.stands }
 
-issue-stands : (config : Config) (olds : List Old) (w : World) (lane : ℕ) → AllStand config olds w → AllStand config olds (happens w (Issue lane))
+issue-stands : (config : Setup) (olds : List Old) (w : BoardRun) (lane : ℕ) → AllStand config olds w → AllStand config olds (happens w (Issue lane))
 issue-stands config olds w lane h = record { config_is = h.config_is; sources = λ n source old s o. carried (h.sources n source old s o); log = h.log }
   where
     carried : {n : ℕ} {source : Source} {old : Old} → StandsAt config n source old w → StandsAt config n source old (record w { board = issued w.board lane; jobs = sent_job lane (issued_job w.board lane) w.jobs })
     carried at = record { slot = at.slot; verdict = at.verdict; slot_is = at.slot_is; verdict_is = at.verdict_is; stands = at.stands }
 
-event-stands : (config : Config) (olds : List Old) (w : World) (event : Event) → AllStand config olds w → AllStand config olds (happens w event)
+event-stands : (config : Setup) (olds : List Old) (w : BoardRun) (event : Event) → AllStand config olds w → AllStand config olds (happens w event)
 event-stands config olds w (Issue lane) h = issue-stands config olds w lane h
 event-stands config olds w (Answer lane method closed) h = answer-stands config olds w method closed (joined (slice_get w.jobs lane)) h
 event-stands config olds w Absorb h = absorb-stands config olds w w.queue h
 event-stands config olds w Settle h = settle-stands config olds w h
 
-run-stands : (config : Config) (olds : List Old) (events : List Event) (w : World) → AllStand config olds w → AllStand config olds (run events w)
+run-stands : (config : Setup) (olds : List Old) (events : List Event) (w : BoardRun) → AllStand config olds w → AllStand config olds (run events w)
 run-stands config olds [] w h = h
 run-stands config olds (event ∷ events) w h = run-stands config olds events (happens w event) (event-stands config olds w event h)
 

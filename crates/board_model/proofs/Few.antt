@@ -27,8 +27,8 @@ use Rattle.update_model.specs.declared.wanted.Wanted.{Wanted}
 use Rattle.board_model.specs.CountLaws.{AsksAreFew, ChainsAreShort, ListedSizesFit, most_of, most_of_list, most_of_lists, most_of_release}
 use Rattle.board_model.specs.Keys.{keys_from, keys_in, named, places_from}
 use Rattle.board_model.specs.Runs.{Note, start as start_world}
-use Rattle.board_model.specs.Slots.{Config, Standing, Slot, Asking, Listing, Refused, Closed}
-use Rattle.board_model.specs.Stands.{HasHeard, History, IsOpen, ListStands, SourceStands, StandsAt, entries_of, history_of, of_key, tolds}
+use Rattle.board_model.specs.Slots.{Setup, Standing, Slot, Asking, Listing, Refused, SettledSlot}
+use Rattle.board_model.specs.Stands.{ItemHasHeard, History, IsOpen, ListStands, SourceStands, StandsAt, entries_of, history_of, of_key, lane_answers}
 use Rattle.board_model.specs.declared.key.Key.{Key}
 use Rattle.board_model.proofs.Making.{list-at}
 use Rattle.board_model.proofs.Resting.{olds-there, reached-stands}
@@ -55,14 +55,14 @@ all-heard sources (note ∷ notes) h =
 -- ---- one item
 
 -- what was heard is the front of a route
-heard-few : (retries n : ℕ) (path : List ℕ) (walk : Walk) (heard : List Note) (most : ℕ) → RunsStandInRoutes → entries_of heard ≡ ran retries n path (start retries walk) (tolds heard)
+heard-few : (retries n : ℕ) (path : List ℕ) (walk : Walk) (heard : List Note) (most : ℕ) → RunsStandInRoutes → entries_of heard ≡ ran retries n path (start retries walk) (lane_answers heard)
     → ((trails : List Trail) (end : End) → IsRoute retries walk trails end → length (entries n path trails) ≤ most) → length heard ≤ most
 heard-few retries n path walk heard most law logged few =
-    let found = law walk retries n path (tolds heard) in
+    let found = law walk retries n path (lane_answers heard) in
     let bound = few found.0 found.1 found.3 in
-    let whole : length (entries n path found.0) ≡ length (ran retries n path (start retries walk) (tolds heard)) + length found.2 =
-    ap length found.4 ∙ length-append (ran retries n path (start retries walk) (tolds heard)) found.2 in
-    let own : length heard ≡ length (ran retries n path (start retries walk) (tolds heard)) = sym (length-entries heard) ∙ ap length logged in
+    let whole : length (entries n path found.0) ≡ length (ran retries n path (start retries walk) (lane_answers heard)) + length found.2 =
+    ap length found.4 ∙ length-append (ran retries n path (start retries walk) (lane_answers heard)) found.2 in
+    let own : length heard ≡ length (ran retries n path (start retries walk) (lane_answers heard)) = sym (length-entries heard) ∙ ap length logged in
     omega (arith, bound, whole, own)
 
 -- an Index that is listed leads by few patches
@@ -93,12 +93,12 @@ few-links short (Some file) w (t ∷ trails) fits = one w.index refl
 -- ---- the items of a source
 
 -- what stands of a source, settled or not
-open-of : (config : Config) (n : ℕ) (source : Source) (old : Old) (slot : Slot) (verdict : Verdict2) (history : History) → SourceStands config n source old slot verdict history
+open-of : (config : Setup) (n : ℕ) (source : Source) (old : Old) (slot : Slot) (verdict : Verdict2) (history : History) → SourceStands config n source old slot verdict history
     → (s : Slot) × IsOpen config n source old s history
 open-of config n source old slot verdict history (inl h) = (slot, h)
 open-of config n source old slot verdict history (inr h) = (h.1.slot, h.1.open_slot)
 
-release-few : RunsStandInRoutes → ReleasesAskLittle → (config : Config) (n : ℕ) (source : Source) (old : Old) (slot : Slot) (history : History) → IsOpen config n source old slot history
+release-few : RunsStandInRoutes → ReleasesAskLittle → (config : Setup) (n : ℕ) (source : Source) (old : Old) (slot : Slot) (history : History) → IsOpen config n source old slot history
     → length (history 0) ≤ most_of_release config.settings.retries
 release-few law little config n source old (Asking kept release) history h =
     heard-few config.settings.retries n release_text (release_walk source) (history 0) (most_of_release config.settings.retries) law h.1.logged
@@ -109,7 +109,7 @@ release-few law little config n source old (Listing set there lists) history h =
 release-few law little config n source old (Refused why) history h =
     heard-few config.settings.retries n release_text (release_walk source) (history 0) (most_of_release config.settings.retries) law h.0.logged
     (λ trails end route. little source config.settings.retries n release_text trails end route)
-release-few law little config n source old Closed history h = absurd h
+release-few law little config n source old SettledSlot history h = absurd h
 
 none-few : (notes : List Note) (most : ℕ) → notes ≡ [] → length notes ≤ most
 none-few notes most none = let zero_is : length notes ≡ 0 = ap length none in omega (arith, zero_is)
@@ -135,7 +135,7 @@ pub record Premises : Type 0 where
   pub short : ChainsAreShort
   pub fit : ListedSizesFit
 
-list-few : Premises → (config : Config) (n : ℕ) (source : Source) (old : Old) (slot : Slot) (history : History) → IsOpen config n source old slot history
+list-few : Premises → (config : Setup) (n : ℕ) (source : Source) (old : Old) (slot : Slot) (history : History) → IsOpen config n source old slot history
     → (k : ℕ) (target : Target) → slice_get source.targets k ≡ Some target → length (history (suc k)) ≤ most_of_list config.settings.retries
 list-few p config n source old (Asking kept release) history h k target there = none-few (history (suc k)) (most_of_list config.settings.retries) (h.2 k)
 list-few p config n source old (Listing set all lists) history h k target there =
@@ -149,7 +149,7 @@ list-few p config n source old (Listing set all lists) history h k target there 
         let sum : Sum = l.0 in
         let w : Wanted = want source set.release config.settings target sum in
         let walk : Walk = target_walk (named old.lists target.name.0) (config.sizes target.name.0) w in
-        let heard : HasHeard config.settings.retries n target.path walk (history (1 + k)) item = l.2 in
+        let heard : ItemHasHeard config.settings.retries n target.path walk (history (1 + k)) item = l.2 in
         heard-few config.settings.retries n target.path walk (history (1 + k)) (most_of_list config.settings.retries) p.stand heard.logged
         (λ trails end route.
         let bound = p.lists (named old.lists target.name.0) (config.sizes target.name.0) w config.settings.retries n target.path trails end route in
@@ -157,7 +157,7 @@ list-few p config n source old (Listing set all lists) history h k target there 
         let more = mul-mono (11 * (config.settings.retries + 1)) (4 + links_in (named old.lists target.name.0) w trails) (4 + 2 ^ 64) (omega (arith, links)) in
         omega (arith, bound, more))
 list-few p config n source old (Refused why) history h k target there = none-few (history (suc k)) (most_of_list config.settings.retries) (h.1 k)
-list-few p config n source old Closed history h k target there = absurd h
+list-few p config n source old SettledSlot history h k target there = absurd h
 
 -- ---- all items
 

@@ -3,48 +3,48 @@ use Rattle.std.proofs.Common.{◌≡◌, ◌∙◌, ℕ, nat_eq, Bool, true, fal
 use Rattle.std.specs.Prelude.{if◌then◌else◌}
 use Rattle.std.proofs.lemmas.List.{append-nil, map-append}
 use Rattle.std.proofs.lemmas.Bool.Decides.{nat_tests}
-use Rattle.item_graph.specs.Items.{asked}
-use Rattle.update_model.specs.Points.{Point, Over, At, entry, entry_at, ran, run, start, step}
-use Rattle.update_model.specs.Trails.{Told}
+use Rattle.item_graph.specs.Refinement.{asked}
+use Rattle.update_model.specs.Points.{Point, Over, At, entry, entry_at, ran, run, start, point_after}
+use Rattle.update_model.specs.Trails.{LaneAnswer}
 use Rattle.update_model.specs.Walks.{Walk}
 use Rattle.update_model.specs.declared.ask.Ask.{Ask}
 use Rattle.board_model.specs.Keys.{same_key}
 use Rattle.board_model.specs.Runs.{Note, entry_of}
-use Rattle.board_model.specs.Slots.{Standing, stepped}
-use Rattle.board_model.specs.Stands.{AreAsked, HasHeard, of_key, tolds}
+use Rattle.board_model.specs.Slots.{Standing, item_after}
+use Rattle.board_model.specs.Stands.{AreAsked, ItemHasHeard, of_key, lane_answers}
 use Rattle.board_model.specs.declared.key.Key.{Key}
 
-run-more : (retries : ℕ) (p : Point) (ts : List Told) (t : Told) → run retries p (ts ++ t ∷ []) ≡ step retries (run retries p ts) t
+run-more : (retries : ℕ) (p : Point) (ts : List LaneAnswer) (t : LaneAnswer) → run retries p (ts ++ t ∷ []) ≡ point_after retries (run retries p ts) t
 run-more retries p [] t = refl
-run-more retries p (u ∷ ts) t = run-more retries (step retries p u) ts t
+run-more retries p (u ∷ ts) t = run-more retries (point_after retries p u) ts t
 
-ran-more : (retries source : ℕ) (path : List ℕ) (p : Point) (ts : List Told) (t : Told)
+ran-more : (retries source : ℕ) (path : List ℕ) (p : Point) (ts : List LaneAnswer) (t : LaneAnswer)
     → ran retries source path p (ts ++ t ∷ []) ≡ ran retries source path p ts ++ entry_at source path (run retries p ts) t
 ran-more retries source path p [] t = append-nil (entry_at source path p t)
 ran-more retries source path p (u ∷ ts) t =
-    ap (λ es. entry_at source path p u ++ es) (ran-more retries source path (step retries p u) ts t)
-    ∙ sym (append_assoc (entry_at source path p u) (ran retries source path (step retries p u) ts) (entry_at source path (run retries (step retries p u) ts) t))
+    ap (λ es. entry_at source path p u ++ es) (ran-more retries source path (point_after retries p u) ts t)
+    ∙ sym (append_assoc (entry_at source path p u) (ran retries source path (point_after retries p u) ts) (entry_at source path (run retries (point_after retries p u) ts) t))
 
-entry-asked : (source : ℕ) (path : List ℕ) (p : Point) (ask : Ask) (t : Told) → asked p ≡ Some ask → entry_at source path p t ≡ entry source path ask t ∷ []
+entry-asked : (source : ℕ) (path : List ℕ) (p : Point) (ask : Ask) (t : LaneAnswer) → asked p ≡ Some ask → entry_at source path p t ≡ entry source path ask t ∷ []
 entry-asked source path (Over end) ask t e = absurd (cc)
 entry-asked source path (At a left faults next) ask t e =
     let same : a ≡ ask = cc in
     ap (λ (x : Ask). entry source path x t ∷ []) same
 
-asked-more : (retries : ℕ) (p : Point) (heard : List Note) (note : Note) → AreAsked retries p heard → asked (run retries p (tolds heard)) ≡ Some note.ask → AreAsked retries p (heard ++ note ∷ [])
+asked-more : (retries : ℕ) (p : Point) (heard : List Note) (note : Note) → AreAsked retries p heard → asked (run retries p (lane_answers heard)) ≡ Some note.ask → AreAsked retries p (heard ++ note ∷ [])
 asked-more retries p [] note h is = (is, tt)
-asked-more retries p (x ∷ heard) note h is = (h.0, asked-more retries (step retries p x.told) heard note h.1 is)
+asked-more retries p (x ∷ heard) note h is = (h.0, asked-more retries (point_after retries p x.told) heard note h.1 is)
 
 -- the item that is asked, and the note that is taken of its answer
 pub heard-more : (retries source : ℕ) (path : List ℕ) (walk : Walk) (heard : List Note) (item : Standing) (ask : Ask) (note : Note)
-    → HasHeard retries source path walk heard item → asked item.point ≡ Some ask → note.ask ≡ ask → entry_of note ≡ entry source path ask note.told
-    → HasHeard retries source path walk (heard ++ note ∷ []) (stepped note.told item)
+    → ItemHasHeard retries source path walk heard item → asked item.point ≡ Some ask → note.ask ≡ ask → entry_of note ≡ entry source path ask note.told
+    → ItemHasHeard retries source path walk (heard ++ note ∷ []) (item_after note.told item)
 heard-more retries source path walk heard item ask note h asks same is =
     let p = start retries walk in
-    let ts = tolds heard in
-    let more : tolds (heard ++ note ∷ []) ≡ ts ++ note.told ∷ [] = map-append (λ (n : Note). n.told) heard (note ∷ []) in
-    let stands : step item.retries item.point note.told ≡ run retries p (ts ++ note.told ∷ []) =
-    ap (λ (r : ℕ). step r item.point note.told) h.repeats ∙ ap (λ (q : Point). step retries q note.told) h.stands ∙ sym (run-more retries p ts note.told) in
+    let ts = lane_answers heard in
+    let more : lane_answers (heard ++ note ∷ []) ≡ ts ++ note.told ∷ [] = map-append (λ (n : Note). n.told) heard (note ∷ []) in
+    let stands : point_after item.retries item.point note.told ≡ run retries p (ts ++ note.told ∷ []) =
+    ap (λ (r : ℕ). point_after r item.point note.told) h.repeats ∙ ap (λ (q : Point). point_after retries q note.told) h.stands ∙ sym (run-more retries p ts note.told) in
     let one : entry_at source path (run retries p ts) note.told ≡ entry_of note ∷ [] =
     entry-asked source path (run retries p ts) ask note.told (sym (ap asked h.stands) ∙ asks) ∙ ap (λ (e : _). e ∷ []) (sym is) in
     record {
@@ -56,7 +56,7 @@ heard-more retries source path walk heard item ask note h asks same is =
           ∙ sym (ran-more retries source path p ts note.told) ∙ sym (ap (ran retries source path p) more);
     }
 
-pub none-heard : (retries source : ℕ) (path : List ℕ) (walk : Walk) → HasHeard retries source path walk [] (record { retries = retries; point = start retries walk })
+pub none-heard : (retries source : ℕ) (path : List ℕ) (walk : Walk) → ItemHasHeard retries source path walk [] (record { retries = retries; point = start retries walk })
 none-heard retries source path walk = record { repeats = refl; stands = refl; asks = tt; logged = refl }
 
 -- ---- the notes of one item

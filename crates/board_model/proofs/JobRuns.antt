@@ -7,7 +7,7 @@ use Rattle.host_queues.specs.Lanes.{Queue, Lanes, changed_at, first, first_of, f
 use Rattle.host_queues.specs.Laws.{HostsKeepLanes, Done, Next}
 use Rattle.host_queues.proofs.Changes.{get-changed, get-other}
 use Rattle.uri_names.specs.Names.{host_key_of}
-use Rattle.update_model.specs.Trails.{Told}
+use Rattle.update_model.specs.Trails.{LaneAnswer}
 use Rattle.update_model.specs.declared.ask.Ask.{Ask}
 use Rattle.board_model.specs.Boards.{Asker, Board, asker_of, is_out_as, issued, job_for, put_ask, put_heard, put_items, put_out, took}
 use Rattle.board_model.specs.Jobs.{IsInLane, one_if, times_in, times_out, times_waiting}
@@ -90,7 +90,7 @@ mapped-some : {A B : Type 0} (f : A → B) (o : Option A) → is_some (option_ma
 mapped-some f None = refl
 mapped-some f (Some x) = refl
 
-took-once : (b : Board) (number from m : ℕ) (a : Asker) (told : Told) (asks : Asks b number a) → LanesStand b → slice_get b.out from ≡ Some (Some number)
+took-once : (b : Board) (number from m : ℕ) (a : Asker) (told : LaneAnswer) (asks : Asks b number a) → LanesStand b → slice_get b.out from ≡ Some (Some number)
     → times_waiting m b.lanes.queues + added m number a.key.place (slot_after b number a told asks) + times_out m (changed_at from (λ o. None) b.out)
     ≡ one_if (is_some (asker_of (took b number a from told) m))
 took-once b number from m a told asks h out = one (after-answer b number from m a told asks)
@@ -123,7 +123,7 @@ took-once b number from m a told asks h out = one (after-answer b number from m 
         omega (arith, asked, none)
 
 -- an item that waited asks the same as before
-pub took-same : (b : Board) (number from m : ℕ) (a : Asker) (told : Told) (asks : Asks b number a) (other : Asker) → asker_of b m ≡ Some other → nat_eq number m ≡ false
+pub took-same : (b : Board) (number from m : ℕ) (a : Asker) (told : LaneAnswer) (asks : Asks b number a) (other : Asker) → asker_of b m ≡ Some other → nat_eq number m ≡ false
     → asker_of (took b number a from told) m ≡ Some other
 took-same b number from m a told asks other is apart = one (after-answer b number from m a told asks)
   where
@@ -136,7 +136,7 @@ took-same b number from m a told asks other is apart = one (after-answer b numbe
     ]
 
 -- the lanes behind an answer
-lanes-after : (b : Board) (number from : ℕ) (a : Asker) (told : Told) (asks : Asks b number a)
+lanes-after : (b : Board) (number from : ℕ) (a : Asker) (told : LaneAnswer) (asks : Asks b number a)
     → (took b number a from told).lanes ≡ put_heard number a.key.place (Some (slot_after b number a told asks)) (freed_at from b.lanes)
 lanes-after b number from a told asks =
     ap (λ (s : Option Slot). put_heard number a.key.place s (freed_at from b.lanes))
@@ -157,11 +157,11 @@ freed-waits b from m lane (queue, there, some) = elim (cases_Bool (nat_eq lane f
         (q, is, subst (λ (n : ℕ). 1 ≤ n) (sym (ap (λ (x : Queue). times_in m x.waiting) same)) some)
 
 -- what asks as before was put nowhere
-not-put : (b : Board) (number from m : ℕ) (a : Asker) (told : Told) (asks : Asks b number a) → IsAsBefore b (took b number a from told) a number m (slot_after b number a told asks)
+not-put : (b : Board) (number from m : ℕ) (a : Asker) (told : LaneAnswer) (asks : Asks b number a) → IsAsBefore b (took b number a from told) a number m (slot_after b number a told asks)
     → (item : ℕ) (ask : Ask) → m + a.key.place ≡ number + item → ask_of (item_in (slot_after b number a told asks) item) ≡ Some ask → (a.key.place ≡ 0) ⊎ (m ≡ number) → ⊥
 not-put b number from m a told asks same item ask at is own = put-added m number a.key.place item (slot_after b number a told asks) ask at is own same.other same.none_added
 
-took-hosts : HostsKeepLanes → (b : Board) (number from m lane : ℕ) (a : Asker) (told : Told) (asks : Asks b number a) (other : Asker) → LanesStand b → slice_get b.out from ≡ Some (Some number)
+took-hosts : HostsKeepLanes → (b : Board) (number from m lane : ℕ) (a : Asker) (told : LaneAnswer) (asks : Asks b number a) (other : Asker) → LanesStand b → slice_get b.out from ≡ Some (Some number)
     → asker_of (took b number a from told) m ≡ Some other → IsInLane (took b number a from told) m lane
     → lane_of (put_heard number a.key.place (Some (slot_after b number a told asks)) (freed_at from b.lanes)) (host_key_of other.ask.uri) ≡ Some lane
 took-hosts kept b number from m lane a told asks other h out is (inl waits) =
@@ -239,7 +239,7 @@ took-hosts kept b number from m lane a told asks other h out is (inr sent_out) =
     (heard-keeps kept number a.key.place (slot_after b number a told asks) (freed_at from b.lanes) (host_key_of (asker.0).ask.uri) lane
     (kept b.lanes (Done from ∷ []) (host_key_of (asker.0).ask.uri) lane host))
 
-pub took-stands : HostsKeepLanes → (b : Board) (number from : ℕ) (a : Asker) (told : Told) → asker_of b number ≡ Some a → LanesStand b → slice_get b.out from ≡ Some (Some number)
+pub took-stands : HostsKeepLanes → (b : Board) (number from : ℕ) (a : Asker) (told : LaneAnswer) → asker_of b number ≡ Some a → LanesStand b → slice_get b.out from ≡ Some (Some number)
     → LanesStand (took b number a from told)
 took-stands kept b number from a told is h out =
     let asks = asker-asks b number a is in

@@ -18,7 +18,7 @@ use Rattle.update_model.specs.declared.settled.Verdict2.{Verdict2}
 use Rattle.board_model.specs.Boards.{Asker, Board, asker_of, first_board, first_ready, first_release, first_slots, put_ask, put_releases, settled_as}
 use Rattle.board_model.specs.Jobs.{IsInLane, one_if, times_in, times_waiting}
 use Rattle.board_model.specs.Keys.{key_at, keys_from, keys_in}
-use Rattle.board_model.specs.Slots.{Config, Standing, Slot, Asking, Listing, Refused, Closed, ask_of, has_ended, is_ready, item_at, item_in, joined}
+use Rattle.board_model.specs.Slots.{Setup, Standing, Slot, Asking, Listing, Refused, SettledSlot, ask_of, has_ended, is_ready, item_at, item_in, joined}
 use Rattle.board_model.specs.declared.key.Key.{Key}
 use Rattle.board_model.proofs.Askers.{asker-by, asker-none}
 use Rattle.board_model.proofs.Counting.{ask-count, ask-length, none-out, none-waits}
@@ -37,12 +37,12 @@ abbrev releases_among : ℕ → ℕ → List Source → ℕ
 releases_among m number [] = 0
 releases_among m number (source ∷ sources) = one_if (nat_eq number m) + releases_among m (number + length source.targets + 1) sources
 
-releases-length : (config : Config) (number : ℕ) (sources : List Source) (lanes : Lanes) → length (put_releases config number sources lanes).queues ≡ length lanes.queues
+releases-length : (config : Setup) (number : ℕ) (sources : List Source) (lanes : Lanes) → length (put_releases config number sources lanes).queues ≡ length lanes.queues
 releases-length config number [] lanes = refl
 releases-length config number (source ∷ sources) lanes =
     releases-length config (number + length source.targets + 1) sources (put_ask number (Some (first_ask source)) lanes) ∙ ask-length number (Some (first_ask source)) lanes
 
-releases-count : (config : Config) (m number : ℕ) (sources : List Source) (lanes : Lanes) → 1 ≤ length lanes.queues
+releases-count : (config : Setup) (m number : ℕ) (sources : List Source) (lanes : Lanes) → 1 ≤ length lanes.queues
     → times_waiting m (put_releases config number sources lanes).queues ≡ times_waiting m lanes.queues + releases_among m number sources
 releases-count config m number [] lanes some = omega arith
 releases-count config m number (source ∷ sources) lanes some =
@@ -51,7 +51,7 @@ releases-count config m number (source ∷ sources) lanes some =
     (subst (λ (k : ℕ). 1 ≤ k) (sym (ask-length number (Some (first_ask source)) lanes)) some) in
     omega (arith, here, rest)
 
-releases-flags : (config : Config) (number : ℕ) (sources : List Source) (lanes : Lanes) → flags (put_releases config number sources lanes).queues ≡ flags lanes.queues
+releases-flags : (config : Setup) (number : ℕ) (sources : List Source) (lanes : Lanes) → flags (put_releases config number sources lanes).queues ≡ flags lanes.queues
 releases-flags config number [] lanes = refl
 releases-flags config number (source ∷ sources) lanes =
     releases-flags config (number + length source.targets + 1) sources (put_ask number (Some (first_ask source)) lanes) ∙ ask-flags number (Some (first_ask source)) lanes
@@ -109,14 +109,14 @@ record IsPutRelease (lanes : Lanes) (number m lane : ℕ) (sources : List Source
   at : m ≡ number + base sources n
   lane_is : lane_of lanes (host_key_of (in_release_uri source)) ≡ Some lane
 
-releases-keep : HostsKeepLanes → (config : Config) (number : ℕ) (sources : List Source) (lanes : Lanes) (host : List ℕ) (lane : ℕ) → lane_of lanes host ≡ Some lane
+releases-keep : HostsKeepLanes → (config : Setup) (number : ℕ) (sources : List Source) (lanes : Lanes) (host : List ℕ) (lane : ℕ) → lane_of lanes host ≡ Some lane
     → lane_of (put_releases config number sources lanes) host ≡ Some lane
 releases-keep kept config number [] lanes host lane is = is
 releases-keep kept config number (source ∷ sources) lanes host lane is =
     releases-keep kept config (number + length source.targets + 1) sources (put_ask number (Some (first_ask source)) lanes) host lane
     (ask-keeps kept number (Some (first_ask source)) lanes host lane is)
 
-releases-wait : HostsKeepLanes → (config : Config) (number m lane : ℕ) (sources : List Source) (lanes : Lanes) → WaitsIn (put_releases config number sources lanes) m lane
+releases-wait : HostsKeepLanes → (config : Setup) (number m lane : ℕ) (sources : List Source) (lanes : Lanes) → WaitsIn (put_releases config number sources lanes) m lane
     → WaitsIn lanes m lane ⊎ IsPutRelease (put_releases config number sources lanes) number m lane sources
 releases-wait kept config number m lane [] lanes waits = inl waits
 releases-wait kept config number m lane (source ∷ sources) lanes waits =
@@ -151,7 +151,7 @@ old-there (x ∷ sources) (old ∷ olds) zero source each there = (old, refl)
 old-there (x ∷ sources) (old ∷ olds) (suc n) source each there = old-there sources olds n source (omega (arith, each)) there
 
 -- what asks on a new board
-first-asker : (config : Config) (olds : List Old) (lanes m : ℕ) (key : Key) → length olds ≡ length config.sources → key_at config.sources m ≡ Some key
+first-asker : (config : Setup) (olds : List Old) (lanes m : ℕ) (key : Key) → length olds ≡ length config.sources → key_at config.sources m ≡ Some key
     → (source : Source) × (slice_get config.sources key.source ≡ Some source)
     × ((key.place ≡ 0 → asker_of (first_board config olds lanes) m ≡ Some (record { key = key; source = source; ask = first_ask source }))
     × ((p : ℕ) → key.place ≡ suc p → asker_of (first_board config olds lanes) m ≡ None))
@@ -171,7 +171,7 @@ first-asker config olds lanes m key each is =
       ),
     )
 
-first-once : (config : Config) (olds : List Old) (lanes m : ℕ) → length olds ≡ length config.sources
+first-once : (config : Setup) (olds : List Old) (lanes m : ℕ) → length olds ≡ length config.sources
     → one_if (is_first (key_at config.sources m)) ≡ one_if (is_some (asker_of (first_board config olds lanes) m))
 first-once config olds lanes m each = one (key_at config.sources m) refl
   where
@@ -206,7 +206,7 @@ none-out-there zero lane number e = absurd (cc)
 none-out-there (suc lanes) zero number e = absurd (cc)
 none-out-there (suc lanes) (suc lane) number e = none-out-there lanes lane number e
 
-pub first-stands : HostsKeepLanes → (config : Config) (olds : List Old) (lanes : ℕ) → length olds ≡ length config.sources → 1 ≤ lanes → LanesStand (first_board config olds lanes)
+pub first-stands : HostsKeepLanes → (config : Setup) (olds : List Old) (lanes : ℕ) → length olds ≡ length config.sources → 1 ≤ lanes → LanesStand (first_board config olds lanes)
 first-stands kept config olds lanes each some = record {
   some = subst (λ (n : ℕ). 1 ≤ n) (sym (releases-length config 0 config.sources (no_hosts lanes) ∙ length-replicate lanes empty_queue)) some;
   once = λ m.
@@ -261,7 +261,7 @@ ready-asks (Asking old release) place e = absurd (cc)
 ready-asks (Listing set there lists) zero e = refl
 ready-asks (Listing set there lists) (suc place) e = all-ended lists place e
 ready-asks (Refused why) place e = refl
-ready-asks Closed place e = absurd (cc)
+ready-asks SettledSlot place e = absurd (cc)
 
 -- settling changes no ask
 pub settled-asks : (b : Board) (n m : ℕ) (verdict : Verdict2) → first_ready b.slots ≡ Some n → asker_of (settled_as b n verdict) m ≡ asker_of b m
@@ -270,13 +270,13 @@ settled-asks b n m verdict ready = one (key_at b.config.sources m) refl
     found : (slot : Slot) × (slice_get b.slots n ≡ Some slot) × (is_ready slot ≡ true)
     found = ready-slot b.slots n ready
 
-    item : (key : Key) → (nat_eq key.source n ≡ true) ⊎ (nat_eq key.source n ≡ false) → ask_of (item_at (changed_at n (λ slot. Closed) b.slots) key) ≡ ask_of (item_at b.slots key)
-    item key (inr other) = ap (λ (s : Option Slot). ask_of (option_and_then (λ slot. item_in slot key.place) s)) (get-other (λ (slot : Slot). Closed) b.slots n key.source other)
+    item : (key : Key) → (nat_eq key.source n ≡ true) ⊎ (nat_eq key.source n ≡ false) → ask_of (item_at (changed_at n (λ slot. SettledSlot) b.slots) key) ≡ ask_of (item_at b.slots key)
+    item key (inr other) = ap (λ (s : Option Slot). ask_of (option_and_then (λ slot. item_in slot key.place) s)) (get-other (λ (slot : Slot). SettledSlot) b.slots n key.source other)
     item key (inl is) =
         let same : key.source ≡ n = grind (arith, nat_tests, is) in
         let before : slice_get b.slots key.source ≡ Some found.0 = ap (slice_get b.slots) same ∙ found.1 in
-        let after : slice_get (changed_at n (λ slot. Closed) b.slots) key.source ≡ Some Closed =
-        ap (slice_get (changed_at n (λ slot. Closed) b.slots)) same ∙ get-changed (λ (slot : Slot). Closed) b.slots n ∙ ap (option_map (λ (slot : Slot). Closed)) found.1 in
+        let after : slice_get (changed_at n (λ slot. SettledSlot) b.slots) key.source ≡ Some SettledSlot =
+        ap (slice_get (changed_at n (λ slot. SettledSlot) b.slots)) same ∙ get-changed (λ (slot : Slot). SettledSlot) b.slots n ∙ ap (option_map (λ (slot : Slot). SettledSlot)) found.1 in
         ap (λ (s : Option Slot). ask_of (option_and_then (λ slot. item_in slot key.place) s)) after
         ∙ sym (ap (λ (s : Option Slot). ask_of (option_and_then (λ slot. item_in slot key.place) s)) before ∙ ready-asks found.0 key.place found.2)
 

@@ -13,9 +13,9 @@ use Rattle.update_model.specs.declared.ask.Closed.{Closed}
 use Rattle.update_model.specs.declared.settled.Settled.{Settled}
 use Rattle.board_model.specs.Boards.{Asker, Board, asker_of, first_ready, is_out, issued, issued_job, job_for, lane_with, put_out, settled_as, settled_of, took, took_from}
 use Rattle.board_model.specs.CallLaws.{JobsAlwaysStand}
-use Rattle.board_model.specs.Jobs.{AreToldOnce, job_out, one_if, times_out}
-use Rattle.board_model.specs.Runs.{Answered, Event, Issue, Answer, Absorb, Settle, World, answered, happens, note_of, noted, run, sent_job, settle_as, settle_first, start, take_first, told_by, without_job}
-use Rattle.board_model.specs.Slots.{Config, joined}
+use Rattle.board_model.specs.Jobs.{AreAnsweredOnce, job_out, one_if, times_out}
+use Rattle.board_model.specs.Runs.{Answered, Event, Issue, Answer, Absorb, Settle, BoardRun, answered, happens, note_of, noted, run, sent_job, settle_as, settle_first, start, take_first, lane_answer_of, without_job}
+use Rattle.board_model.specs.Slots.{Setup, joined}
 use Rattle.board_model.proofs.Counting.{out-cleared, out-lane, out-put, out-there}
 use Rattle.board_model.proofs.JobRuns.{LanesStand, first-asks, free-lane, issued-stands, out-alone, took-same, took-stands}
 use Rattle.board_model.proofs.JobStart.{first-stands, settled-asks, settled-stands}
@@ -23,12 +23,12 @@ use Rattle.board_model.proofs.Askers.{asker-asks}
 use Rattle.board_model.proofs.Reaching.{AreNumbers, event-numbers, lane-out, numbers-changed, numbers_of, start-numbers}
 
 -- what is out, and what was answered, is what its item asks
-pub record Stands (w : World) : Type 0 where
+pub record Stands (w : BoardRun) : Type 0 where
   pub lanes : LanesStand w.board
   pub numbers : AreNumbers w
   pub asked : (lane : ℕ) (job : Job) → slice_get w.jobs lane ≡ Some (Some job) → job_out w.board job.no ≡ Some job
   pub told : Each (λ (a : Answered). job_out w.board a.job.no ≡ Some a.job) w.queue
-  pub told_once : AreToldOnce w.queue
+  pub told_once : AreAnsweredOnce w.queue
 
 -- ---- what is out
 
@@ -104,7 +104,7 @@ record GoesOut (b : Board) (lane number : ℕ) (a : Asker) : Type 0 where
   job : issued_job b lane ≡ Some (job_for number a.ask)
   free : slice_get b.out lane ≡ Some None
 
-sent-stands : HostsKeepLanes → (w : World) (lane number : ℕ) (a : Asker) → Stands w → GoesOut w.board lane number a
+sent-stands : HostsKeepLanes → (w : BoardRun) (lane number : ℕ) (a : Asker) → Stands w → GoesOut w.board lane number a
     → Stands (record w { board = issued w.board lane; jobs = sent_job lane (issued_job w.board lane) w.jobs })
 sent-stands kept w lane number a h goes =
     let b = w.board in
@@ -127,7 +127,7 @@ sent-stands kept w lane number a h goes =
     }
 
 -- nothing goes out
-none-sent : HostsKeepLanes → (w : World) (lane : ℕ) → Stands w → issued_job w.board lane ≡ None
+none-sent : HostsKeepLanes → (w : BoardRun) (lane : ℕ) → Stands w → issued_job w.board lane ≡ None
     → Stands (record w { board = issued w.board lane; jobs = sent_job lane (issued_job w.board lane) w.jobs })
 none-sent kept w lane h none =
     let b = w.board in
@@ -142,7 +142,7 @@ none-sent kept w lane h none =
       told_once = h.told_once;
     }
 
-issue-stands : HostsKeepLanes → (w : World) (lane : ℕ) → Stands w → Stands (happens w (Issue lane))
+issue-stands : HostsKeepLanes → (w : BoardRun) (lane : ℕ) → Stands w → Stands (happens w (Issue lane))
 issue-stands kept w lane h = one (first_of w.board.lanes lane) refl
   where
     one : (o : Option ℕ) → first_of w.board.lanes lane ≡ o → Stands (happens w (Issue lane))
@@ -178,7 +178,7 @@ each-append : (queue : List Answered) (x : Answered) (P : Answered → Type 0) �
 each-append [] x P h new = (new, tt)
 each-append (a ∷ queue) x P h new = (h.0, each-append queue x P h.1 new)
 
-once-append : (queue : List Answered) (x : Answered) → AreToldOnce queue → list_any (λ (a : Answered). nat_eq a.job.no x.job.no) queue ≡ false → AreToldOnce (queue ++ x ∷ [])
+once-append : (queue : List Answered) (x : Answered) → AreAnsweredOnce queue → list_any (λ (a : Answered). nat_eq a.job.no x.job.no) queue ≡ false → AreAnsweredOnce (queue ++ x ∷ [])
 once-append [] x h new = (tt, tt)
 once-append (a ∷ queue) x h new =
     let first : nat_eq a.job.no x.job.no ≡ false = or-first (nat_eq a.job.no x.job.no) (list_any (λ (y : Answered). nat_eq y.job.no x.job.no) queue) new in
@@ -189,7 +189,7 @@ joined-some : (o : Option (Option Job)) (job : Job) → joined o ≡ Some job �
 joined-some None job e = absurd (cc)
 joined-some (Some o) job e = ap Some e
 
-answered-stands : (w : World) (method : ℕ) (closed : Closed) (lane : ℕ) → Stands w → (o : Option Job) → joined (slice_get w.jobs lane) ≡ o → Stands (answered w method closed o)
+answered-stands : (w : BoardRun) (method : ℕ) (closed : Closed) (lane : ℕ) → Stands w → (o : Option Job) → joined (slice_get w.jobs lane) ≡ o → Stands (answered w method closed o)
 answered-stands w method closed lane h None e = h
 answered-stands w method closed lane h (Some job) e = one (list_any (λ (a : Answered). nat_eq a.job.no job.no) w.queue) refl
   where
@@ -228,13 +228,13 @@ kept-told (a ∷ queue) b b' number kept apart h =
     let other : a.job.no ≢ number = apart.0 in
     (kept a.job.no a.job (not-same number a.job.no other) h.0, kept-told queue b b' number kept apart.1 h.1)
 
-taken-in : HostsKeepLanes → (w : World) (queue : List Answered) (x : Answered) (from : ℕ) (a : Asker) → Stands w → w.queue ≡ x ∷ queue
+taken-in : HostsKeepLanes → (w : BoardRun) (queue : List Answered) (x : Answered) (from : ℕ) (a : Asker) → Stands w → w.queue ≡ x ∷ queue
     → lane_with w.board.out x.job.no ≡ Some from → asker_of w.board x.job.no ≡ Some a
-    → Stands (record { board = took w.board x.job.no a from (told_by x); jobs = changed_at from (λ o. None) w.jobs; queue = queue; notes = w.notes ++ note_of a (told_by x) ∷ [] })
+    → Stands (record { board = took w.board x.job.no a from (lane_answer_of x); jobs = changed_at from (λ o. None) w.jobs; queue = queue; notes = w.notes ++ note_of a (lane_answer_of x) ∷ [] })
 taken-in kept w queue x from a h waits out is =
     let b = w.board in
     let number = x.job.no in
-    let b' : Board = took b number a from (told_by x) in
+    let b' : Board = took b number a from (lane_answer_of x) in
     let there = lane-out b.out number from out in
     let asks = asker-asks b number a is in
     let keeps : (m : ℕ) (job : Job) → nat_eq number m ≡ false → job_out b m ≡ Some job → job_out b' m ≡ Some job =
@@ -245,12 +245,12 @@ taken-in kept w queue x from a h waits out is =
     let none : one_if (nat_eq number m) ≡ 0 = ap one_if apart in
     let found = out-lane m (changed_at from (λ o. None) b.out) (omega (arith, was, cleared, none)) in
     ap (λ (o : Option ℕ). is_some o) found.1)
-    (λ y e. took-same b number from m a (told_by x) asks y e apart) in
+    (λ y e. took-same b number from m a (lane_answer_of x) asks y e apart) in
     let first : Each (λ (y : Answered). job_out b y.job.no ≡ Some y.job) (x ∷ queue) = subst (λ (q : List Answered). Each (λ (y : Answered). job_out b y.job.no ≡ Some y.job) q) waits h.told in
-    let once : AreToldOnce (x ∷ queue) = subst AreToldOnce waits h.told_once in
+    let once : AreAnsweredOnce (x ∷ queue) = subst AreAnsweredOnce waits h.told_once in
     let numbers : changed_at from (λ o. None) b.out ≡ numbers_of (changed_at from (λ o. None) w.jobs) = ap (changed_at from (λ o. None)) h.numbers ∙ sym (numbers-changed from None w.jobs) in
     record {
-      lanes = took-stands kept b number from a (told_by x) is h.lanes there;
+      lanes = took-stands kept b number from a (lane_answer_of x) is h.lanes there;
       numbers = numbers;
       asked = λ lane job e.
           let before = cleared-jobs from lane job w.jobs e in
@@ -270,25 +270,25 @@ taken-in kept w queue x from a h waits out is =
       told_once = once.1;
     }
 
-absorb-stands : HostsKeepLanes → (w : World) (queue : List Answered) → Stands w → w.queue ≡ queue → Stands (take_first w queue)
+absorb-stands : HostsKeepLanes → (w : BoardRun) (queue : List Answered) → Stands w → w.queue ≡ queue → Stands (take_first w queue)
 absorb-stands kept w [] h is = h
 absorb-stands kept w (x ∷ queue) h waits = one (lane_with w.board.out x.job.no) (asker_of w.board x.job.no) refl refl
   where
-    rest : AreToldOnce (x ∷ queue)
-    rest = subst AreToldOnce waits h.told_once
+    rest : AreAnsweredOnce (x ∷ queue)
+    rest = subst AreAnsweredOnce waits h.told_once
 
     told : Each (λ (y : Answered). job_out w.board y.job.no ≡ Some y.job) (x ∷ queue)
     told = subst (λ (q : List Answered). Each (λ (y : Answered). job_out w.board y.job.no ≡ Some y.job) q) waits h.told
 
     one : (from : Option ℕ) (asker : Option Asker) → lane_with w.board.out x.job.no ≡ from → asker_of w.board x.job.no ≡ asker
-        → Stands (record { board = took_from w.board x.job.no (told_by x) from asker; jobs = without_job from asker w.jobs; queue = queue; notes = w.notes ++ noted (told_by x) from asker })
+        → Stands (record { board = took_from w.board x.job.no (lane_answer_of x) from asker; jobs = without_job from asker w.jobs; queue = queue; notes = w.notes ++ noted (lane_answer_of x) from asker })
     one None asker f e = record { lanes = h.lanes; numbers = h.numbers; asked = h.asked; told = told.1; told_once = rest.1 }
     one (Some from) None f e = record { lanes = h.lanes; numbers = h.numbers; asked = h.asked; told = told.1; told_once = rest.1 }
     one (Some from) (Some a) f e = taken-in kept w queue x from a h waits f e
 
 -- ---- a source is settled
 
-settle-stands : (w : World) → Stands w → Stands (happens w Settle)
+settle-stands : (w : BoardRun) → Stands w → Stands (happens w Settle)
 settle-stands w h = one (first_ready w.board.slots) refl
   where
     three : (n : ℕ) (settled : Settled) → first_ready w.board.slots ≡ Some n → Stands (settle_as w n (Some settled))
@@ -312,13 +312,13 @@ settle-stands w h = one (first_ready w.board.slots) refl
 
 -- ---- all events
 
-event-stands : HostsKeepLanes → (w : World) (event : Event) → Stands w → Stands (happens w event)
+event-stands : HostsKeepLanes → (w : BoardRun) (event : Event) → Stands w → Stands (happens w event)
 event-stands kept w (Issue lane) h = issue-stands kept w lane h
 event-stands kept w (Answer lane method closed) h = answered-stands w method closed lane h (joined (slice_get w.jobs lane)) refl
 event-stands kept w Absorb h = absorb-stands kept w w.queue h refl
 event-stands kept w Settle h = settle-stands w h
 
-run-stands : HostsKeepLanes → (events : List Event) (w : World) → Stands w → Stands (run events w)
+run-stands : HostsKeepLanes → (events : List Event) (w : BoardRun) → Stands w → Stands (run events w)
 run-stands kept [] w h = h
 run-stands kept (event ∷ events) w h = run-stands kept events (happens w event) (event-stands kept w event h)
 
@@ -327,7 +327,7 @@ no-jobs zero lane job e = absurd (cc)
 no-jobs (suc lanes) zero job e = absurd (cc)
 no-jobs (suc lanes) (suc lane) job e = no-jobs lanes lane job e
 
-pub world-stands : HostsKeepLanes → (config : Config) (olds : List Old) (lanes : ℕ) (events : List Event) → length olds ≡ length config.sources → 1 ≤ lanes
+pub world-stands : HostsKeepLanes → (config : Setup) (olds : List Old) (lanes : ℕ) (events : List Event) → length olds ≡ length config.sources → 1 ≤ lanes
     → Stands (run events (start config olds lanes))
 world-stands kept config olds lanes events each some =
     run-stands kept events (start config olds lanes) (record {

@@ -13,15 +13,15 @@ use Rattle.acq_base.specs.declared.plan.Target.{Target}
 use Rattle.acq_base.specs.declared.sum.Sum.{Sum}
 use Rattle.acq_base.specs.declared.uri.ListName.{ListName}
 use Rattle.acq_base.proofs.Lists.{first-or-rest}
-use Rattle.item_graph.specs.Items.{asked}
-use Rattle.item_graph.specs.Laws.{IsToldRoute, PointsEndInRoutes}
+use Rattle.item_graph.specs.Refinement.{asked}
+use Rattle.item_graph.specs.Laws.{IsHeardRoute, PointsEndInRoutes}
 use Rattle.release_file.specs.Release.{listed_sum}
 use Rattle.release_file.specs.declared.release.Release.{Release}
 use Rattle.update_model.specs.Faults.{IsListed, ListsEndAsListed}
 use Rattle.update_model.specs.Files.{sum_of_body}
 use Rattle.update_model.specs.Laws.{HeldSetsAreFound, IsHad}
-use Rattle.update_model.specs.Next.{Holds, Leaves}
-use Rattle.update_model.specs.Outcomes.{Admitted, Directory, Outcome, Staying, all_had}
+use Rattle.update_model.specs.Next.{HasWholeSet, OutcomeLeaves}
+use Rattle.update_model.specs.Outcomes.{AdmittedRelease, Directory, Outcome, Staying, all_had}
 use Rattle.update_model.specs.Points.{Point, Over, At}
 use Rattle.update_model.specs.Walks.{Walk, target_walk}
 use Rattle.update_model.specs.Wanted.{want}
@@ -34,8 +34,8 @@ use Rattle.board_model.specs.Keys.{named}
 use Rattle.board_model.specs.Laws.{SetsThereAreHeld}
 use Rattle.board_model.specs.SetLaws.{ChangesLeaveOutcomes}
 use Rattle.board_model.specs.Settling.{drop_of, drops_of, end_in, end_of, ends_in, had, outcome_in, put_of, puts_of, set_there, settled_in, settled_lists, staying_verdict, unchanged}
-use Rattle.board_model.specs.Slots.{Config, Standing, Slot, Asking, Listing, Refused, Closed, has_ended, is_ready}
-use Rattle.board_model.specs.Stands.{HasHeard, History, IsOpen, ListStands, ListsStand, tolds}
+use Rattle.board_model.specs.Slots.{Setup, Standing, Slot, Asking, Listing, Refused, SettledSlot, has_ended, is_ready}
+use Rattle.board_model.specs.Stands.{ItemHasHeard, History, IsOpen, ListStands, ListsStand, lane_answers}
 
 -- ---- elements by their places
 
@@ -82,7 +82,7 @@ not-release source k b distinct bk same =
 
 -- ---- one list
 
-pub list-at : (config : Config) (n : ℕ) (source : Source) (old : Old) (release : Release) (place : ℕ) (targets : List Target) (lists : List (Option Standing)) (history : History) (k : ℕ) (target : Target)
+pub list-at : (config : Setup) (n : ℕ) (source : Source) (old : Old) (release : Release) (place : ℕ) (targets : List Target) (lists : List (Option Standing)) (history : History) (k : ℕ) (target : Target)
     → ListsStand config n source old release place targets lists history → slice_get targets k ≡ Some target
     → (list : Option Standing) × (slice_get lists k ≡ Some list) × ListStands config n source old release target (history (place + k)) list
 list-at config n source old release place [] lists history k target h e = absurd (cc)
@@ -244,12 +244,12 @@ stands-untouched source release bytes lists k target item sum distinct there lis
 
 -- ---- a set that is put
 
-record IsPut (config : Config) (n : ℕ) (source : Source) (old : Old) (set : Admitted) (lists : List (Option Standing)) (history : History) : Type 0 where
+record IsPut (config : Setup) (n : ℕ) (source : Source) (old : Old) (set : AdmittedRelease) (lists : List (Option Standing)) (history : History) : Type 0 where
   lists_stand : ListsStand config n source old set.release 1 source.targets lists history
   ended : list_all has_ended lists ≡ true
   had_all : all_had (ends_in lists) ≡ Ok tt
 
-put-list : PointsEndInRoutes → ListsEndAsListed → (config : Config) (n : ℕ) (source : Source) (old : Old) (set : Admitted) (lists : List (Option Standing)) (history : History) (before after : Directory)
+put-list : PointsEndInRoutes → ListsEndAsListed → (config : Setup) (n : ℕ) (source : Source) (old : Old) (set : AdmittedRelease) (lists : List (Option Standing)) (history : History) (before after : Directory)
     → IsPut config n source old set lists history → IsPlanned source → IsInstalled source old before
     → AreMade source (set_there source set lists false) before after → (k : ℕ) (target : Target) → slice_get source.targets k ≡ Some target
     → option_map sum_of (after target.name.0) ≡ listed_sum set.release target.path
@@ -281,9 +281,9 @@ put-list routes listed config n source old set lists history before after p plan
     one (Some item) list_is h =
         let sum : Sum = h.0 in
         let ended = ended-at lists k item p.ended list_is in
-        let heard : HasHeard config.settings.retries n target.path (target_walk (named old.lists target.name.0) (config.sizes target.name.0) (want source set.release config.settings target sum)) (history (1 + k)) item = h.2 in
+        let heard : ItemHasHeard config.settings.retries n target.path (target_walk (named old.lists target.name.0) (config.sizes target.name.0) (want source set.release config.settings target sum)) (history (1 + k)) item = h.2 in
         let walk : Walk = target_walk (named old.lists target.name.0) (config.sizes target.name.0) (want source set.release config.settings target sum) in
-        let told : IsToldRoute config.settings.retries walk (tolds (history (1 + k))) ended.0 = routes config.settings.retries walk (tolds (history (1 + k))) ended.0 (sym heard.stands ∙ ended.1) in
+        let told : IsHeardRoute config.settings.retries walk (lane_answers (history (1 + k))) ended.0 = routes config.settings.retries walk (lane_answers (history (1 + k))) ended.0 (sym heard.stands ∙ ended.1) in
         two item sum ended.0 list_is h.1 ended.1
         (listed (named old.lists target.name.0) (config.sizes target.name.0) (want source set.release config.settings target sum) config.settings.retries told.trails ended.0 told.route
         (had-at lists k item ended.0 tt p.had_all list_is ended.1))
@@ -295,7 +295,7 @@ same-after source settled before after none made name = made.others name (λ c. 
 keep-all : (source : Source) (before after : Directory) → ((name : List ℕ) → after name ≡ before name) → Each (λ name. after name ≡ before name) (names_of source)
 keep-all source before after same = (same source.release_name.0, each-by (λ name. after name ≡ before name) (map (λ (t : Target). t.name.0) source.targets) (λ k name e. same name))
 
-holds-still : (source : Source) (set : Admitted) (before after : Directory) → ((name : List ℕ) → after name ≡ before name) → Holds before source set → Holds after source set
+holds-still : (source : Source) (set : AdmittedRelease) (before after : Directory) → ((name : List ℕ) → after name ≡ before name) → HasWholeSet before source set → HasWholeSet after source set
 holds-still source set before after same h = record {
   release_file = same source.release_name.0 ∙ h.release_file;
   lists = each-by (λ target. option_map sum_of (after target.name.0) ≡ listed_sum set.release target.path) source.targets
@@ -306,25 +306,25 @@ pub changes-leave : PointsEndInRoutes → ListsEndAsListed → SetsThereAreHeld 
 changes-leave routes listed there_held found config n source old slot history settled outcome before after open_slot ready is_settled is_outcome planned installed made =
     one slot open_slot ready is_settled is_outcome
   where
-    listing : (set : Admitted) (there : Bool) (lists : List (Option Standing)) → IsOpen config n source old (Listing set there lists) history → list_all has_ended lists ≡ true
-        → (had_all : Result (Unit {0}) Staying) → all_had (ends_in lists) ≡ had_all → settled_lists source set there lists had_all ≡ settled → had set had_all ≡ outcome → Leaves outcome source before after
+    listing : (set : AdmittedRelease) (there : Bool) (lists : List (Option Standing)) → IsOpen config n source old (Listing set there lists) history → list_all has_ended lists ≡ true
+        → (had_all : Result (Unit {0}) Staying) → all_had (ends_in lists) ≡ had_all → settled_lists source set there lists had_all ≡ settled → had set had_all ≡ outcome → OutcomeLeaves outcome source before after
     listing set there lists h ended (Err why) had_is s o =
         let same : (name : List ℕ) → after name ≡ before name = same-after source settled before after (ap (touched source) (sym s)) made in
-        subst (λ (x : Outcome). Leaves x source before after) o (keep-all source before after same)
+        subst (λ (x : Outcome). OutcomeLeaves x source before after) o (keep-all source before after same)
     listing set true lists h ended (Ok u) had_is s o =
         let same : (name : List ℕ) → after name ≡ before name = same-after source settled before after (ap (touched source) (sym s)) made in
         let held = sym (there_held before source old set installed.release installed.lists) ∙ sym h.1 in
-        subst (λ (x : Outcome). Leaves x source before after) o (holds-still source set before after same ((found before source set).0 held))
+        subst (λ (x : Outcome). OutcomeLeaves x source before after) o (holds-still source set before after same ((found before source set).0 held))
     listing set false lists h ended (Ok u) had_is s o =
         let done : AreMade source (set_there source set lists false) before after = subst (λ (x : Settled). AreMade source x before after) (sym s) made in
         let p : IsPut config n source old set lists history = record { lists_stand = h.2; ended = ended; had_all = had_is } in
-        subst (λ (x : Outcome). Leaves x source before after) o (record {
+        subst (λ (x : Outcome). OutcomeLeaves x source before after) o (record {
           release_file = done.release;
           lists = each-by (λ target. option_map sum_of (after target.name.0) ≡ listed_sum set.release target.path) source.targets
               (put-list routes listed config n source old set lists history before after p planned installed done);
         })
 
-    one : (slot : Slot) → IsOpen config n source old slot history → is_ready slot ≡ true → settled_in source slot ≡ Some settled → outcome_in slot ≡ Some outcome → Leaves outcome source before after
+    one : (slot : Slot) → IsOpen config n source old slot history → is_ready slot ≡ true → settled_in source slot ≡ Some settled → outcome_in slot ≡ Some outcome → OutcomeLeaves outcome source before after
     one (Asking kept release) h r s o = absurd (cc)
     one (Listing set there lists) h r s o =
         let is : settled_lists source set there lists (all_had (ends_in lists)) ≡ settled = cc in
@@ -334,5 +334,5 @@ changes-leave routes listed there_held found config n source old slot history se
         let is : Err why ≡ outcome = cc in
         let put : unchanged (staying_verdict why) ≡ settled = cc in
         let same : (name : List ℕ) → after name ≡ before name = same-after source settled before after (ap (touched source) (sym put)) made in
-        subst (λ (x : Outcome). Leaves x source before after) is (keep-all source before after same)
-    one Closed h r s o = absurd h
+        subst (λ (x : Outcome). OutcomeLeaves x source before after) is (keep-all source before after same)
+    one SettledSlot h r s o = absurd h

@@ -9,8 +9,8 @@ use Rattle.acq_base.specs.declared.plan.Target.{Target}
 use Rattle.acq_base.specs.declared.uri.ListName.{ListName}
 use Rattle.host_queues.specs.Lanes.{changed_at}
 use Rattle.host_queues.proofs.Changes.{get-changed}
-use Rattle.item_graph.specs.Items.{asked}
-use Rattle.update_model.specs.Outcomes.{Admitted, Staying, all_had}
+use Rattle.item_graph.specs.Refinement.{asked}
+use Rattle.update_model.specs.Outcomes.{AdmittedRelease, Staying, all_had}
 use Rattle.update_model.specs.Points.{Point, Over, At}
 use Rattle.update_model.specs.declared.ask.Ask.{Ask}
 use Rattle.update_model.specs.declared.ask.Body.{Body}
@@ -21,10 +21,10 @@ use Rattle.update_model.specs.declared.settled.Settled.{Settled}
 use Rattle.update_model.proofs.Carried.{behind-distinct}
 use Rattle.update_model.proofs.Existence.{front-distinct}
 use Rattle.board_model.specs.Keys.{name_at}
-use Rattle.board_model.specs.NameLaws.{RestsOn, SettledPutsRest, SettledSourcesFree, StagedAsksRest}
+use Rattle.board_model.specs.NameLaws.{RestsOn, SettledPutsAreWanted, SettledSourcesFree, StagedAsksAreWanted}
 use Rattle.board_model.specs.Settling.{end_in, end_of, ends_in, put_of, puts_of, settled_in, settled_lists}
-use Rattle.board_model.specs.Slots.{Standing, Slot, Asking, Listing, Refused, Closed, ask_of, item_in, joined}
-use Rattle.board_model.specs.Uses.{PartUse, Whole, or_use, rests, use_among, use_at, use_by, use_from, use_in, use_under, use_while}
+use Rattle.board_model.specs.Slots.{Standing, Slot, Asking, Listing, Refused, SettledSlot, ask_of, item_in, joined}
+use Rattle.board_model.specs.Uses.{WantedPart, Whole, or_use, wanted_part, use_among, use_at, use_by, use_from, use_in, use_under, use_while}
 use Rattle.board_model.proofs.Askers.{Asks, asker-asks}
 use Rattle.board_model.proofs.Making.{get-name}
 use Rattle.board_model.proofs.Places.{bound}
@@ -111,7 +111,7 @@ under-at sizes (x ∷ sources) (y ∷ slots) name zero k source slot target apar
     let own : AllPairs (λ a b. a ≢ b) (names_of x) = front-distinct (names_of x) (flat_map names_of sources) apart in
     let there : slice_get x.targets k ≡ Some target = subst (λ (z : Source). slice_get z.targets k ≡ Some target) (sym source_same) t in
     let found = among-at sizes y 0 x.targets name k target (behind-distinct (x.release_name.0 ∷ []) (map (λ (z : Target). z.name.0) x.targets) own) there is in
-    ap (λ (o : Option PartUse). or_use o (use_under sizes sources slots name)) found
+    ap (λ (o : Option WantedPart). or_use o (use_under sizes sources slots name)) found
     ∙ ap (λ (p : ℕ). use_in (sizes name) p y) (omega arith) ∙ ap (use_in (sizes name) k) slot_same
 under-at sizes (x ∷ sources) (y ∷ slots) name (suc n) k source slot target apart s l t is =
     let among = name-among sources n k source target s t in
@@ -119,7 +119,7 @@ under-at sizes (x ∷ sources) (y ∷ slots) name (suc n) k source slot target a
     let at = get-name x.targets i z [] e in
     let fits = at.0 in
     apart-across (names_of x) (flat_map names_of sources) (suc i) among.0 [] apart (omega (arith, fits)) among.1 (at.1 ∙ same ∙ sym is ∙ sym among.2)) in
-    ap (λ (o : Option PartUse). or_use o (use_under sizes sources slots name)) none
+    ap (λ (o : Option WantedPart). or_use o (use_under sizes sources slots name)) none
     ∙ under-at sizes sources slots name n k source slot target (behind-distinct (names_of x) (flat_map names_of sources) apart) s l t is
 
 -- ---- what a staged ask goes on behind
@@ -136,19 +136,19 @@ slot-use : (size k : ℕ) (slot : Slot) (ask : Ask) → ask_of (item_in slot (su
 slot-use size k (Asking old release) ask e = absurd (cc)
 slot-use size k (Listing set there lists) ask e = asked-use size (joined (slice_get lists k)) ask e
 slot-use size k (Refused why) ask e = absurd (cc)
-slot-use size k Closed ask e = absurd (cc)
+slot-use size k SettledSlot ask e = absurd (cc)
 
-pub staged-rest : StagedAsksRest
+pub staged-rest : StagedAsksAreWanted
 staged-rest b number a name apart is stage named = one a.key.place asks.asks named
   where
     asks : Asks b number a
     asks = asker-asks b number a is
 
-    one : (place : ℕ) → ask_of (item_in asks.slot place) ≡ Some a.ask → name_at a.source place ≡ Some name → rests b name.0 ≡ use_from a.ask.from
+    one : (place : ℕ) → ask_of (item_in asks.slot place) ≡ Some a.ask → name_at a.source place ≡ Some name → wanted_part b name.0 ≡ use_from a.ask.from
     one zero asked named = absurd (cc)
     one (suc k) asked named = two (slice_get a.source.targets k) refl named
       where
-        two : (o : Option Target) → slice_get a.source.targets k ≡ o → option_map (λ (target : Target). target.name) o ≡ Some name → rests b name.0 ≡ use_from a.ask.from
+        two : (o : Option Target) → slice_get a.source.targets k ≡ o → option_map (λ (target : Target). target.name) o ≡ Some name → wanted_part b name.0 ≡ use_from a.ask.from
         two None there e = absurd (cc)
         two (Some target) there e =
             let same : target.name ≡ name = cc in
@@ -181,42 +181,42 @@ got-use size (Some item) body e sum is = one item.point e
         let same : end ≡ Got (Staged sum) = let here : end ≡ Got body = cc in here ∙ ap Got is in
         ap (λ (x : End). use_at size (Over x)) same
 
-pub puts-rest : SettledPutsRest
+pub puts-rest : SettledPutsAreWanted
 puts-rest b n settled apart is =
     let p = bound (slice_get b.config.sources n) _ settled is in
     let q = bound (slice_get b.slots n) _ settled p.2 in
     one p.0 q.0 p.1 q.1 q.2
   where
-    listing : (source : Source) (set : Admitted) (there : Bool) (lists : List (Option Standing)) → slice_get b.config.sources n ≡ Some source → slice_get b.slots n ≡ Some (Listing set there lists)
-        → (had_all : Result (Unit {0}) Staying) → settled_lists source set there lists had_all ≡ settled → Each (RestsOn (rests b)) settled.puts
-    listing source set there lists s l (Err why) e = subst (λ (x : Settled). Each (RestsOn (rests b)) x.puts) e tt
-    listing source set true lists s l (Ok u) e = subst (λ (x : Settled). Each (RestsOn (rests b)) x.puts) e tt
+    listing : (source : Source) (set : AdmittedRelease) (there : Bool) (lists : List (Option Standing)) → slice_get b.config.sources n ≡ Some source → slice_get b.slots n ≡ Some (Listing set there lists)
+        → (had_all : Result (Unit {0}) Staying) → settled_lists source set there lists had_all ≡ settled → Each (RestsOn (wanted_part b)) settled.puts
+    listing source set there lists s l (Err why) e = subst (λ (x : Settled). Each (RestsOn (wanted_part b)) x.puts) e tt
+    listing source set true lists s l (Ok u) e = subst (λ (x : Settled). Each (RestsOn (wanted_part b)) x.puts) e tt
     listing source set false lists s l (Ok u) e =
-        subst (λ (x : Settled). Each (RestsOn (rests b)) x.puts) e
-        (puts-each (RestsOn (rests b)) source.targets lists (λ k target list body t list_is got. two k target list body t list_is got))
+        subst (λ (x : Settled). Each (RestsOn (wanted_part b)) x.puts) e
+        (puts-each (RestsOn (wanted_part b)) source.targets lists (λ k target list body t list_is got. two k target list body t list_is got))
       where
-        two : (k : ℕ) (target : Target) (list : Option Standing) (body : Body) → slice_get source.targets k ≡ Some target → slice_get lists k ≡ Some list → end_in list ≡ Some (Got body) → RestsOn (rests b) (target.name, body)
+        two : (k : ℕ) (target : Target) (list : Option Standing) (body : Body) → slice_get source.targets k ≡ Some target → slice_get lists k ≡ Some list → end_in list ≡ Some (Got body) → RestsOn (wanted_part b) (target.name, body)
         two k target list (Bytes bytes) t list_is got = tt
         two k target list (Staged sum) t list_is got =
             under-at b.config.sizes b.config.sources b.slots target.name.0 n k source (Listing set false lists) target apart s l t refl
             ∙ ap (λ (o : Option (Option Standing)). use_by (b.config.sizes target.name.0) (joined o)) list_is
             ∙ got-use (b.config.sizes target.name.0) list (Staged sum) got sum refl
 
-    one : (source : Source) (slot : Slot) → slice_get b.config.sources n ≡ Some source → slice_get b.slots n ≡ Some slot → settled_in source slot ≡ Some settled → Each (RestsOn (rests b)) settled.puts
+    one : (source : Source) (slot : Slot) → slice_get b.config.sources n ≡ Some source → slice_get b.slots n ≡ Some slot → settled_in source slot ≡ Some settled → Each (RestsOn (wanted_part b)) settled.puts
     one source (Asking old release) s l e = absurd (cc)
     one source (Listing set there lists) s l e =
         let came : settled_lists source set there lists (all_had (ends_in lists)) ≡ settled = cc in
         listing source set there lists s l (all_had (ends_in lists)) came
-    one source (Refused why) s l e = subst (λ (x : Option Settled). Each (RestsOn (rests b)) (puts_in x)) e tt
+    one source (Refused why) s l e = subst (λ (x : Option Settled). Each (RestsOn (wanted_part b)) (puts_in x)) e tt
       where
         puts_in : Option Settled → List (ListName × Body)
         puts_in None = []
         puts_in (Some x) = x.puts
-    one source Closed s l e = absurd (cc)
+    one source SettledSlot s l e = absurd (cc)
 
 pub sources-free : SettledSourcesFree
 sources-free b n k source target settled verdict apart is s t =
     let p = bound (slice_get b.config.sources n) _ settled is in
     let q = bound (slice_get b.slots n) _ settled p.2 in
-    let closed : slice_get (changed_at n (λ slot. Closed) b.slots) n ≡ Some Closed = get-changed (λ (slot : Slot). Closed) b.slots n ∙ ap (option_map (λ (slot : Slot). Closed)) q.1 in
-    under-at b.config.sizes b.config.sources (changed_at n (λ slot. Closed) b.slots) target.name.0 n k source Closed target apart s closed t refl
+    let closed : slice_get (changed_at n (λ slot. SettledSlot) b.slots) n ≡ Some SettledSlot = get-changed (λ (slot : Slot). SettledSlot) b.slots n ∙ ap (option_map (λ (slot : Slot). SettledSlot)) q.1 in
+    under-at b.config.sizes b.config.sources (changed_at n (λ slot. SettledSlot) b.slots) target.name.0 n k source SettledSlot target apart s closed t refl

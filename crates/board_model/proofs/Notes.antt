@@ -8,14 +8,14 @@ use Rattle.acq_base.specs.declared.installed.Old.{Old}
 use Rattle.acq_base.specs.declared.plan.Source.{Source}
 use Rattle.release_file.specs.Release.{release_of}
 use Rattle.update_model.specs.Laws.{SetsAreAdmissible}
-use Rattle.update_model.specs.Outcomes.{Admitted, outcome}
+use Rattle.update_model.specs.Outcomes.{AdmittedRelease, outcome}
 use Rattle.update_model.specs.declared.ask.Closed.{Closed as Answer_of}
 use Rattle.update_model.specs.declared.settled.Settled.{Settled}
 use Rattle.board_model.specs.Boards.{Asker, asker_of, first_ready, lane_with, settled_of, took_from}
 use Rattle.board_model.specs.Jobs.{one_if}
 use Rattle.board_model.specs.Keys.{key_at, same_key}
-use Rattle.board_model.specs.Runs.{Answered, Event, Issue, Answer, Absorb, Settle, Note, World, answered, happens, noted, note_of, run, settle_as, settle_first, take_first, told_by, without_job}
-use Rattle.board_model.specs.Slots.{Config, joined}
+use Rattle.board_model.specs.Runs.{Answered, Event, Issue, Answer, Absorb, Settle, Note, BoardRun, answered, happens, noted, note_of, run, settle_as, settle_first, take_first, lane_answer_of, without_job}
+use Rattle.board_model.specs.Slots.{Setup, joined}
 use Rattle.board_model.specs.Stands.{HasCome, entries_of, of_key}
 use Rattle.board_model.specs.declared.key.Key.{Key}
 use Rattle.board_model.proofs.Askers.{asker-asks}
@@ -26,7 +26,7 @@ use Rattle.board_model.proofs.Askers.{asker-asks}
 abbrev pub IsKnown : List Source → Note → Type 0
 IsKnown sources note = (number : ℕ) × (key_at sources number ≡ Some note.key)
 
-pub record AllKnown (config : Config) (w : World) : Type 0 where
+pub record AllKnown (config : Setup) (w : BoardRun) : Type 0 where
   pub config_is : w.board.config ≡ config
   pub known : Each (IsKnown config.sources) w.notes
 
@@ -38,26 +38,26 @@ each-nil : (P : Note → Type 0) (notes : List Note) → Each P notes → Each P
 each-nil P [] h = tt
 each-nil P (n ∷ notes) h = (h.0, each-nil P notes h.1)
 
-take-known : (config : Config) (w : World) (queue : List Answered) → AllKnown config w → AllKnown config (take_first w queue)
+take-known : (config : Setup) (w : BoardRun) (queue : List Answered) → AllKnown config w → AllKnown config (take_first w queue)
 take-known config w [] h = h
 take-known config w (x ∷ queue) h = one (lane_with w.board.out x.job.no) (asker_of w.board x.job.no) refl
   where
-    same-config : (from : Option ℕ) (asker : Option Asker) → (took_from w.board x.job.no (told_by x) from asker).config ≡ config
+    same-config : (from : Option ℕ) (asker : Option Asker) → (took_from w.board x.job.no (lane_answer_of x) from asker).config ≡ config
     same-config None asker = h.config_is
     same-config (Some from) None = h.config_is
     same-config (Some from) (Some a) = h.config_is
 
     one : (from : Option ℕ) (asker : Option Asker) → asker_of w.board x.job.no ≡ asker
-        → AllKnown config (record { board = took_from w.board x.job.no (told_by x) from asker; jobs = without_job from asker w.jobs; queue = queue; notes = w.notes ++ noted (told_by x) from asker })
+        → AllKnown config (record { board = took_from w.board x.job.no (lane_answer_of x) from asker; jobs = without_job from asker w.jobs; queue = queue; notes = w.notes ++ noted (lane_answer_of x) from asker })
     one None asker is = record { config_is = same-config None asker; known = each-nil (IsKnown config.sources) w.notes h.known }
     one (Some from) None is = record { config_is = same-config (Some from) None; known = each-nil (IsKnown config.sources) w.notes h.known }
     one (Some from) (Some a) is = record {
       config_is = same-config (Some from) (Some a);
-      known = each-append (IsKnown config.sources) w.notes (note_of a (told_by x)) h.known
-          (x.job.no, ap (λ (c : Config). key_at c.sources x.job.no) (sym h.config_is) ∙ (asker-asks w.board x.job.no a is).key_is);
+      known = each-append (IsKnown config.sources) w.notes (note_of a (lane_answer_of x)) h.known
+          (x.job.no, ap (λ (c : Setup). key_at c.sources x.job.no) (sym h.config_is) ∙ (asker-asks w.board x.job.no a is).key_is);
     }
 
-settle-known : (config : Config) (w : World) → AllKnown config w → AllKnown config (happens w Settle)
+settle-known : (config : Setup) (w : BoardRun) → AllKnown config w → AllKnown config (happens w Settle)
 settle-known config w h = one (first_ready w.board.slots)
   where
     two : (n : ℕ) (settled : Option Settled) → AllKnown config (settle_as w n settled)
@@ -68,7 +68,7 @@ settle-known config w h = one (first_ready w.board.slots)
     one None = h
     one (Some n) = two n (settled_of w.board n)
 
-answered-known : (config : Config) (w : World) (method : ℕ) (closed : Answer_of) (job : Option Job) → AllKnown config w → AllKnown config (answered w method closed job)
+answered-known : (config : Setup) (w : BoardRun) (method : ℕ) (closed : Answer_of) (job : Option Job) → AllKnown config w → AllKnown config (answered w method closed job)
 answered-known config w method closed None h = h
 answered-known config w method closed (Some job) h = one (list_any (λ (a : Answered). nat_eq a.job.no job.no) w.queue)
   where
@@ -76,13 +76,13 @@ answered-known config w method closed (Some job) h = one (list_any (λ (a : Answ
     one true = h
     one false = record { config_is = h.config_is; known = h.known }
 
-event-known : (config : Config) (w : World) (event : Event) → AllKnown config w → AllKnown config (happens w event)
+event-known : (config : Setup) (w : BoardRun) (event : Event) → AllKnown config w → AllKnown config (happens w event)
 event-known config w (Issue lane) h = record { config_is = h.config_is; known = h.known }
 event-known config w (Answer lane method closed) h = answered-known config w method closed (joined (slice_get w.jobs lane)) h
 event-known config w Absorb h = take-known config w w.queue h
 event-known config w Settle h = settle-known config w h
 
-pub run-known : (config : Config) (events : List Event) (w : World) → AllKnown config w → AllKnown config (run events w)
+pub run-known : (config : Setup) (events : List Event) (w : BoardRun) → AllKnown config w → AllKnown config (run events w)
 run-known config [] w h = h
 run-known config (event ∷ events) w h = run-known config events (happens w event) (event-known config w event h)
 
@@ -126,7 +126,7 @@ length-entries (note ∷ notes) = ap suc (length-entries notes)
 -- ---- a set that has come
 
 -- its bytes read as its Release
-pub read-of : SetsAreAdmissible → (config : Config) (n : ℕ) (source : Source) (old : Old) (heard : List Note) (set : Admitted) → HasCome config n source old heard (Ok set) → release_of set.bytes ≡ Ok set.release
+pub read-of : SetsAreAdmissible → (config : Setup) (n : ℕ) (source : Source) (old : Old) (heard : List Note) (set : AdmittedRelease) → HasCome config n source old heard (Ok set) → release_of set.bytes ≡ Ok set.release
 read-of law config n source old heard set h =
     let made : outcome h.end [] old.release config.settings config.change config.now ≡ Ok set = rw h.came_to refl in
     ((law h.end [] old.release config.settings config.change config.now set).0 made).1

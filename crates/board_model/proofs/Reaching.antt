@@ -11,8 +11,8 @@ use Rattle.update_model.specs.declared.ask.Closed.{Closed}
 use Rattle.update_model.specs.declared.settled.Settled.{Settled}
 use Rattle.board_model.specs.Boards.{Asker, absorbed, asker_of, first_ready, is_out_as, issued_job, lane_with, put_out, settled_of, took_from}
 use Rattle.board_model.specs.Reached.{NewBoardsAreReached, IssuedBoardsAreReached, AbsorbedBoardsAreReached, SettledBoardsAreReached}
-use Rattle.board_model.specs.Runs.{Answered, Event, Issue, Answer, Absorb, Settle, World, answered, happens, note_of, run, sent_job, settle_as, settle_first, start, take_first, told_by, without_job}
-use Rattle.board_model.specs.Slots.{Config, joined}
+use Rattle.board_model.specs.Runs.{Answered, Event, Issue, Answer, Absorb, Settle, BoardRun, answered, happens, note_of, run, sent_job, settle_as, settle_first, start, take_first, lane_answer_of, without_job}
+use Rattle.board_model.specs.Slots.{Setup, joined}
 
 -- ---- the numbers of the jobs
 
@@ -30,24 +30,24 @@ numbers-none zero = refl
 numbers-none (suc lanes) = ap (λ xs. None ∷ xs) (numbers-none lanes)
 
 -- what is out are the numbers of the jobs
-abbrev pub AreNumbers : World → Type 0
+abbrev pub AreNumbers : BoardRun → Type 0
 AreNumbers w = w.board.out ≡ numbers_of w.jobs
 
 sent-numbers : (lane : ℕ) (job : Option Job) (out : List (Option ℕ)) (jobs : List (Option Job)) → out ≡ numbers_of jobs → put_out lane job out ≡ numbers_of (sent_job lane job jobs)
 sent-numbers lane None out jobs h = h
 sent-numbers lane (Some job) out jobs h = ap (changed_at lane (λ o. Some job.no)) h ∙ sym (numbers-changed lane (Some job) jobs)
 
-take-numbers : (w : World) (queue : List Answered) → AreNumbers w → AreNumbers (take_first w queue)
+take-numbers : (w : BoardRun) (queue : List Answered) → AreNumbers w → AreNumbers (take_first w queue)
 take-numbers w [] h = h
 take-numbers w (x ∷ queue) h = one (lane_with w.board.out x.job.no) (asker_of w.board x.job.no)
   where
     one : (from : Option ℕ) (asker : Option Asker)
-        → (took_from w.board x.job.no (told_by x) from asker).out ≡ numbers_of (without_job from asker w.jobs)
+        → (took_from w.board x.job.no (lane_answer_of x) from asker).out ≡ numbers_of (without_job from asker w.jobs)
     one None asker = h
     one (Some from) None = h
     one (Some from) (Some a) = ap (changed_at from (λ o. None)) h ∙ sym (numbers-changed from None w.jobs)
 
-settle-numbers : (w : World) → AreNumbers w → AreNumbers (happens w Settle)
+settle-numbers : (w : BoardRun) → AreNumbers w → AreNumbers (happens w Settle)
 settle-numbers w h = one (first_ready w.board.slots)
   where
     two : (n : ℕ) (settled : Option Settled) → AreNumbers (settle_as w n settled)
@@ -58,7 +58,7 @@ settle-numbers w h = one (first_ready w.board.slots)
     one None = h
     one (Some n) = two n (settled_of w.board n)
 
-answered-numbers : (w : World) (method : ℕ) (closed : Closed) (job : Option Job) → AreNumbers w → AreNumbers (answered w method closed job)
+answered-numbers : (w : BoardRun) (method : ℕ) (closed : Closed) (job : Option Job) → AreNumbers w → AreNumbers (answered w method closed job)
 answered-numbers w method closed None h = h
 answered-numbers w method closed (Some job) h = one (list_any (λ (a : Answered). nat_eq a.job.no job.no) w.queue)
   where
@@ -66,22 +66,22 @@ answered-numbers w method closed (Some job) h = one (list_any (λ (a : Answered)
     one true = h
     one false = h
 
-pub event-numbers : (w : World) (event : Event) → AreNumbers w → AreNumbers (happens w event)
+pub event-numbers : (w : BoardRun) (event : Event) → AreNumbers w → AreNumbers (happens w event)
 event-numbers w (Issue lane) h = sent-numbers lane (issued_job w.board lane) w.board.out w.jobs h
 event-numbers w (Answer lane method closed) h = answered-numbers w method closed (joined (slice_get w.jobs lane)) h
 event-numbers w Absorb h = take-numbers w w.queue h
 event-numbers w Settle h = settle-numbers w h
 
-pub run-numbers : (events : List Event) (w : World) → AreNumbers w → AreNumbers (run events w)
+pub run-numbers : (events : List Event) (w : BoardRun) → AreNumbers w → AreNumbers (run events w)
 run-numbers [] w h = h
 run-numbers (event ∷ events) w h = run-numbers events (happens w event) (event-numbers w event h)
 
-pub start-numbers : (config : Config) (olds : List Old) (lanes : ℕ) → AreNumbers (start config olds lanes)
+pub start-numbers : (config : Setup) (olds : List Old) (lanes : ℕ) → AreNumbers (start config olds lanes)
 start-numbers config olds lanes = numbers-none lanes
 
 -- ---- runs
 
-pub run-then : (events more : List Event) (w : World) → run (events ++ more) w ≡ run more (run events w)
+pub run-then : (events more : List Event) (w : BoardRun) → run (events ++ more) w ≡ run more (run events w)
 run-then [] more w = refl
 run-then (event ∷ events) more w = run-then events more (happens w event)
 
@@ -126,7 +126,7 @@ issued-reached config olds notes b lane r = record {
   some = r.some;
   events = r.events ++ Issue lane ∷ [];
   jobs = sent_job lane (issued_job b lane) r.jobs;
-  leads = run-then r.events (Issue lane ∷ []) (start config olds r.lanes) ∙ ap (λ (w : World). happens w (Issue lane)) r.leads;
+  leads = run-then r.events (Issue lane ∷ []) (start config olds r.lanes) ∙ ap (λ (w : BoardRun). happens w (Issue lane)) r.leads;
 }
 
 pub settled-reached : SettledBoardsAreReached
@@ -136,22 +136,22 @@ settled-reached config olds notes b n settled r first is = record {
   some = r.some;
   events = r.events ++ Settle ∷ [];
   jobs = r.jobs;
-  leads = run-then r.events (Settle ∷ []) (start config olds r.lanes) ∙ ap (λ (w : World). happens w Settle) r.leads
+  leads = run-then r.events (Settle ∷ []) (start config olds r.lanes) ∙ ap (λ (w : BoardRun). happens w Settle) r.leads
       ∙ ap (settle_first w) first ∙ ap (settle_as w n) is;
 }
   where
-    w : World
+    w : BoardRun
     w = record { board = b; jobs = r.jobs; queue = []; notes = notes }
 
 -- the only answer that waits is taken in
-taken : (w : World) (number from method : ℕ) (closed : Closed) (a : Asker) (job : Job) → job.no ≡ number → lane_with w.board.out number ≡ Some from → asker_of w.board number ≡ Some a
+taken : (w : BoardRun) (number from method : ℕ) (closed : Closed) (a : Asker) (job : Job) → job.no ≡ number → lane_with w.board.out number ≡ Some from → asker_of w.board number ≡ Some a
     → take_first w (record { job = job; lane = method; closed = closed } ∷ [])
     ≡ record { board = absorbed w.board method number closed; jobs = changed_at from (λ other. None) w.jobs; queue = []; notes = w.notes ++ note_of a (record { lane = method; closed = closed }) ∷ [] }
 taken w number from method closed a job same out is = rw same (rw out (rw is refl))
 
 pub absorbed-reached : AbsorbedBoardsAreReached
 absorbed-reached config olds notes b method number from closed a r out is =
-    let w : World = record { board = b; jobs = r.jobs; queue = []; notes = notes } in
+    let w : BoardRun = record { board = b; jobs = r.jobs; queue = []; notes = notes } in
     let numbers : b.out ≡ numbers_of r.jobs = subst AreNumbers r.leads (run-numbers r.events (start config olds r.lanes) (start-numbers config olds r.lanes)) in
     let there = job-there r.jobs from number (ap (λ (outs : List (Option ℕ)). slice_get outs from) (sym numbers) ∙ lane-out b.out number from out) in
     let waits : Answered = record { job = there.0; lane = method; closed = closed } in
@@ -163,7 +163,7 @@ absorbed-reached config olds notes b method number from closed a r out is =
       events = r.events ++ Answer from method closed ∷ Absorb ∷ [];
       jobs = changed_at from (λ other. None) r.jobs;
       leads = run-then r.events (Answer from method closed ∷ Absorb ∷ []) (start config olds r.lanes)
-          ∙ ap (λ (x : World). happens (happens x (Answer from method closed)) Absorb) r.leads
-          ∙ ap (λ (x : World). happens x Absorb) answered_w
+          ∙ ap (λ (x : BoardRun). happens (happens x (Answer from method closed)) Absorb) r.leads
+          ∙ ap (λ (x : BoardRun). happens x Absorb) answered_w
           ∙ taken (record w { queue = waits ∷ [] }) number from method closed a there.0 there.2 out is;
     }

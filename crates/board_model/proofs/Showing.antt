@@ -8,10 +8,10 @@ use Rattle.acq_base.specs.declared.uri.Uri.{Uri}
 use Rattle.pdiff_index.specs.declared.index.Step.{Step}
 use Rattle.update_model.specs.Files.{fitting, served}
 use Rattle.update_model.specs.Obtained.{first_uri, is_resumed, list_cause}
-use Rattle.update_model.specs.Points.{Point, Over, At, lead, run, start, step}
+use Rattle.update_model.specs.Points.{Point, Over, At, lead, run, start, point_after}
 use Rattle.update_model.specs.Reach.{On, Stop, may_move, moved}
 use Rattle.update_model.specs.Releases.{release_end, release_limit}
-use Rattle.update_model.specs.Trails.{Leads, Told, less}
+use Rattle.update_model.specs.Trails.{Leads, LaneAnswer, less}
 use Rattle.update_model.specs.Walks.{Walk, Finish, Try, after_in_release, candidates_walk, fitting_body, got_else, index_walk, list_ask, on_some, patches_walk, patched_walk, plain_walk, release_walk, resume_walk, target_walk, whole_ask}
 use Rattle.update_model.specs.Wanted.{chain, edited_by}
 use Rattle.update_model.specs.declared.ask.Ask.{Ask}
@@ -29,8 +29,8 @@ use Rattle.board_model.specs.CauseLaws.{IsLast, IsShown, LastAnswersShowCauses, 
 use Rattle.board_model.specs.Ends.{ListEnd, ListEndsInRoute, walk_for}
 use Rattle.board_model.specs.Keys.{named}
 use Rattle.board_model.specs.Runs.{Note}
-use Rattle.board_model.specs.Slots.{Config}
-use Rattle.board_model.specs.Stands.{AreAsked, History, tolds}
+use Rattle.board_model.specs.Slots.{Setup}
+use Rattle.board_model.specs.Stands.{AreAsked, History, lane_answers}
 
 -- ---- walks that show their ends
 
@@ -50,18 +50,18 @@ abbrev ShowsAt : Shows → Point → Type 0
 ShowsAt R (Over end) = Unit {0}
 ShowsAt R (At ask left retries next) = (e : Ending) → LastIs R e (next e) × ShowsAll R (next e)
 
-record Shown (R : Shows) (t : Told) (p : Point) : Type 0 where
+record Shown (R : Shows) (t : LaneAnswer) (p : Point) : Type 0 where
   now : ShowsAt R p
   over : (end : End) → p ≡ Over end → R (ending_of t) end
 
-start-shows : (R : Shows) (retries : ℕ) (t : Told) (walk : Walk) → LastIs R (ending_of t) walk → ShowsAll R walk → Shown R t (start retries walk)
+start-shows : (R : Shows) (retries : ℕ) (t : LaneAnswer) (walk : Walk) → LastIs R (ending_of t) walk → ShowsAll R walk → Shown R t (start retries walk)
 start-shows R retries t (Finish last) is all = record { now = tt; over = λ end e. let same : last ≡ end = cc in subst (R (ending_of t)) same is }
 start-shows R retries t (Try ask next) is all = record { now = all; over = λ end e. absurd (cc) }
 
-at-shows : (R : Shows) (t : Told) (ask : Ask) (left retries : ℕ) (next : Ending → Walk) → ShowsAt R (At ask left retries next) → Shown R t (At ask left retries next)
+at-shows : (R : Shows) (t : LaneAnswer) (ask : Ask) (left retries : ℕ) (next : Ending → Walk) → ShowsAt R (At ask left retries next) → Shown R t (At ask left retries next)
 at-shows R t ask left retries next h = record { now = h; over = λ end e. absurd (cc) }
 
-step-shows : (R : Shows) (retries : ℕ) (ask : Ask) (left faults : ℕ) (next : Ending → Walk) (t : Told) → ShowsAt R (At ask left faults next) → Shown R t (step retries (At ask left faults next) t)
+step-shows : (R : Shows) (retries : ℕ) (ask : Ask) (left faults : ℕ) (next : Ending → Walk) (t : LaneAnswer) → ShowsAt R (At ask left faults next) → Shown R t (point_after retries (At ask left faults next) t)
 step-shows R retries ask left faults next t h = one t.closed faults
   where
     ends : (closed : Closed) (e : Ending) → closing t.lane closed ≡ e → Shown R (record { lane = t.lane; closed = closed }) (start retries (next e))
@@ -86,23 +86,23 @@ step-shows R retries ask left faults next t h = one t.closed faults
     one (closings.Garbled at) faults = ends (closings.Garbled at) (Garbled at) refl
 
 -- what was heard last, if anything was
-run-shows : (R : Shows) (retries : ℕ) (p : Point) (notes : List Note) (end : End) → ShowsAt R p → AreAsked retries p notes → run retries p (tolds notes) ≡ Over end
+run-shows : (R : Shows) (retries : ℕ) (p : Point) (notes : List Note) (end : End) → ShowsAt R p → AreAsked retries p notes → run retries p (lane_answers notes) ≡ Over end
     → (p ≡ Over end) ⊎ ((note : Note) × IsLast note notes × R (ending_of note.told) end)
 run-shows R retries p [] end h asks over = inl over
 run-shows R retries (Over last) (note ∷ notes) end h asks over = let none = asks.0 in absurd (cc)
 run-shows R retries (At ask left faults next) (note ∷ notes) end h asks over =
     let shown = step-shows R retries ask left faults next note.told h in
-    one notes shown.over asks.1 (run-shows R retries (step retries (At ask left faults next) note.told) notes end shown.now asks.1 over)
+    one notes shown.over asks.1 (run-shows R retries (point_after retries (At ask left faults next) note.told) notes end shown.now asks.1 over)
   where
     here : (rest : List Note) (q : Point) → AreAsked retries q rest → q ≡ Over end → rest ≡ []
     here [] q asks over = refl
     here (x ∷ rest) (Over last) asks over = let none = asks.0 in absurd (cc)
     here (x ∷ rest) (At a l f n) asks over = absurd (cc)
 
-    one : (rest : List Note) → ((e : End) → step retries (At ask left faults next) note.told ≡ Over e → R (ending_of note.told) e) → AreAsked retries (step retries (At ask left faults next) note.told) rest
-        → (step retries (At ask left faults next) note.told ≡ Over end) ⊎ ((n : Note) × IsLast n rest × R (ending_of n.told) end)
+    one : (rest : List Note) → ((e : End) → point_after retries (At ask left faults next) note.told ≡ Over e → R (ending_of note.told) e) → AreAsked retries (point_after retries (At ask left faults next) note.told) rest
+        → (point_after retries (At ask left faults next) note.told ≡ Over end) ⊎ ((n : Note) × IsLast n rest × R (ending_of n.told) end)
         → (At ask left faults next ≡ Over end) ⊎ ((n : Note) × IsLast n (note ∷ rest) × R (ending_of n.told) end)
-    one rest last asks (inl ended) = inr (note, ([], ap (λ ns. note ∷ ns) (here rest (step retries (At ask left faults next) note.told) asks ended)), last end ended)
+    one rest last asks (inl ended) = inr (note, ([], ap (λ ns. note ∷ ns) (here rest (point_after retries (At ask left faults next) note.told) asks ended)), last end ended)
     one rest last asks (inr (n, (front, is), shows)) = inr (n, (note ∷ front, ap (λ ns. note ∷ ns) is), shows)
 
 -- ---- a list
@@ -226,7 +226,7 @@ releases-shown retries n path source heard item end h over =
 
 -- ---- a source
 
-lists-shown : (config : Config) (n : ℕ) (old : Old) (history : History) (lists : List ListEnd) → Each (ListEndsInRoute config n old history) lists → Each (IsShown history) lists
+lists-shown : (config : Setup) (n : ℕ) (old : Old) (history : History) (lists : List ListEnd) → Each (ListEndsInRoute config n old history) lists → Each (IsShown history) lists
 lists-shown config n old history [] routes = tt
 lists-shown config n old history (l ∷ lists) routes = (
   (λ cause is.

@@ -9,15 +9,15 @@ use Rattle.acq_base.specs.declared.sum.Sum.{Sum}
 use Rattle.host_queues.specs.Lanes.{changed_at}
 use Rattle.release_file.specs.Release.{listed_sum}
 use Rattle.release_file.specs.declared.release.Release.{Release}
-use Rattle.update_model.specs.Outcomes.{Admitted, Staying, admitted}
+use Rattle.update_model.specs.Outcomes.{AdmittedRelease, Staying, admitted}
 use Rattle.update_model.specs.Points.{Point, Over, At, entry}
 use Rattle.update_model.specs.Releases.{release_text}
 use Rattle.update_model.specs.Walks.{release_walk}
 use Rattle.update_model.specs.declared.ask.Ask.{Ask}
 use Rattle.board_model.specs.Keys.{named, path_at, target_path}
 use Rattle.board_model.specs.Runs.{Note, entry_of}
-use Rattle.board_model.specs.Slots.{Config, Standing, Slot, Asking, Listing, Refused, Closed, ask_of, item_in, joined, first_list, listed, after_release, released, heard_at, stepped, begun}
-use Rattle.board_model.specs.Stands.{History, HasHeard, HasCome, ListsUnheard, ListStands, ListsStand, IsOpen, walk_of}
+use Rattle.board_model.specs.Slots.{Setup, Standing, Slot, Asking, Listing, Refused, SettledSlot, ask_of, item_in, joined, first_list, listed, after_release, released, heard_at, item_after, begun}
+use Rattle.board_model.specs.Stands.{History, ItemHasHeard, HasCome, ListsUnheard, ListStands, ListsStand, IsOpen, walk_of}
 use Rattle.board_model.proofs.Hearing.{heard-more, none-heard}
 
 -- one more note at a place
@@ -33,7 +33,7 @@ off-place history other place note e = rw e refl
 -- ---- lists
 
 -- lists begin with nothing heard
-begun-stand : (config : Config) (n : ℕ) (source : Source) (old : Old) (release : Release) (place : ℕ) (targets : List Target) (history : History)
+begun-stand : (config : Setup) (n : ℕ) (source : Source) (old : Old) (release : Release) (place : ℕ) (targets : List Target) (history : History)
     → ((p : ℕ) → history (place + p) ≡ []) → ListsStand config n source old release place targets (map (first_list config source release (named old.lists)) targets) history
 begun-stand config n source old release place [] history none = refl
 begun-stand config n source old release place (target ∷ targets) history none = (
@@ -47,10 +47,10 @@ begun-stand config n source old release place (target ∷ targets) history none 
     one : (sum : Option Sum) → listed_sum release target.path ≡ sum
         → ListStands config n source old release target (history place) (option_map (λ s. begun config (walk_of config source old release target s)) sum)
     one None e = (e, here)
-    one (Some s) e = (s, e, subst (λ (notes : List Note). HasHeard config.settings.retries n target.path (walk_of config source old release target s) notes (begun config (walk_of config source old release target s))) (sym here) (none-heard config.settings.retries n target.path (walk_of config source old release target s)))
+    one (Some s) e = (s, e, subst (λ (notes : List Note). ItemHasHeard config.settings.retries n target.path (walk_of config source old release target s) notes (begun config (walk_of config source old release target s))) (sym here) (none-heard config.settings.retries n target.path (walk_of config source old release target s)))
 
 -- lists look at their own places alone
-lists-same : (config : Config) (n : ℕ) (source : Source) (old : Old) (release : Release) (place : ℕ) (targets : List Target) (lists : List (Option Standing)) (a b : History)
+lists-same : (config : Setup) (n : ℕ) (source : Source) (old : Old) (release : Release) (place : ℕ) (targets : List Target) (lists : List (Option Standing)) (a b : History)
     → ((p : ℕ) → b (place + p) ≡ a (place + p)) → ListsStand config n source old release place targets lists a → ListsStand config n source old release place targets lists b
 lists-same config n source old release place [] lists a b same h = h
 lists-same config n source old release place (target ∷ targets) [] a b same h = absurd h
@@ -61,49 +61,49 @@ lists-same config n source old release place (target ∷ targets) (list ∷ list
     )
 
 -- a list hears an answer
-list-heard : (config : Config) (n : ℕ) (source : Source) (old : Old) (release : Release) (target : Target) (notes : List Note) (list : Option Standing) (ask : Ask) (note : Note)
+list-heard : (config : Setup) (n : ℕ) (source : Source) (old : Old) (release : Release) (target : Target) (notes : List Note) (list : Option Standing) (ask : Ask) (note : Note)
     → ListStands config n source old release target notes list → ask_of list ≡ Some ask → note.ask ≡ ask → entry_of note ≡ entry n target.path ask note.told
-    → ListStands config n source old release target (notes ++ note ∷ []) (option_map (stepped note.told) list)
+    → ListStands config n source old release target (notes ++ note ∷ []) (option_map (item_after note.told) list)
 list-heard config n source old release target notes None ask note h asks same is = absurd (cc)
 list-heard config n source old release target notes (Some item) ask note h asks same is =
     (h.0, h.1, heard-more config.settings.retries n target.path (walk_of config source old release target h.0) notes item ask note h.2 asks same is)
 
-lists-heard : (config : Config) (n : ℕ) (source : Source) (old : Old) (release : Release) (place : ℕ) (targets : List Target) (lists : List (Option Standing)) (history : History)
+lists-heard : (config : Setup) (n : ℕ) (source : Source) (old : Old) (release : Release) (place : ℕ) (targets : List Target) (lists : List (Option Standing)) (history : History)
     (k : ℕ) (ask : Ask) (note : Note)
     → ListsStand config n source old release place targets lists history
     → ask_of (joined (slice_get lists k)) ≡ Some ask → note.ask ≡ ask → entry_of note ≡ entry n (target_path (slice_get targets k)) ask note.told
-    → ListsStand config n source old release place targets (changed_at k (option_map (stepped note.told)) lists) (with_note history (place + k) note)
+    → ListsStand config n source old release place targets (changed_at k (option_map (item_after note.told)) lists) (with_note history (place + k) note)
 lists-heard config n source old release place [] lists history k ask note h asks same is =
     let none : ask_of (joined (slice_get [] k)) ≡ Some ask = subst (λ (ls : List (Option Standing)). ask_of (joined (slice_get ls k)) ≡ Some ask) h asks in
     absurd (cc)
 lists-heard config n source old release place (target ∷ targets) [] history k ask note h asks same is = absurd h
 lists-heard config n source old release place (target ∷ targets) (list ∷ lists) history zero ask note h asks same is =
     let here : with_note history (place + 0) note place ≡ history place ++ note ∷ [] = at-place history place (place + 0) note (grind (arith, nat_tests)) in (
-      subst (λ (notes : List Note). ListStands config n source old release target notes (option_map (stepped note.told) list)) (sym here)
+      subst (λ (notes : List Note). ListStands config n source old release target notes (option_map (item_after note.told) list)) (sym here)
           (list-heard config n source old release target (history place) list ask note h.0 asks same is),
       lists-same config n source old release (suc place) targets lists history (with_note history (place + 0) note) (λ p. off-place history (suc place + p) (place + 0) note (grind (arith, nat_tests))) h.1,
     )
 lists-heard config n source old release place (target ∷ targets) (list ∷ lists) history (suc k) ask note h asks same is =
     let here : with_note history (place + suc k) note place ≡ history place = off-place history place (place + suc k) note (grind (arith, nat_tests)) in
-    let rest : ListsStand config n source old release (suc place) targets (changed_at k (option_map (stepped note.told)) lists) (with_note history (suc place + k) note) =
+    let rest : ListsStand config n source old release (suc place) targets (changed_at k (option_map (item_after note.told)) lists) (with_note history (suc place + k) note) =
     lists-heard config n source old release (suc place) targets lists history k ask note h.1 asks same is in
     let moved : suc place + k ≡ place + suc k = omega arith in (
       subst (λ (notes : List Note). ListStands config n source old release target notes list) (sym here) h.0,
-      subst (λ (x : ℕ). ListsStand config n source old release (suc place) targets (changed_at k (option_map (stepped note.told)) lists) (with_note history x note)) moved rest,
+      subst (λ (x : ℕ). ListsStand config n source old release (suc place) targets (changed_at k (option_map (item_after note.told)) lists) (with_note history x note)) moved rest,
     )
 
 -- ---- the Release
 
 -- a Release that may be installed, or may not
-came-open : (config : Config) (n : ℕ) (source : Source) (old : Old) (history : History) (came : Result Admitted Staying)
+came-open : (config : Setup) (n : ℕ) (source : Source) (old : Old) (history : History) (came : Result AdmittedRelease Staying)
     → HasCome config n source old (history 0) came → ListsUnheard history → IsOpen config n source old (listed config source old came) history
 came-open config n source old history (Ok set) h none =
     (h, refl, begun-stand config n source old set.release 1 source.targets history (λ p. subst (λ (x : ℕ). history x ≡ []) (omega arith) (none p)))
 came-open config n source old history (Err why) h none = (h, none)
 
 -- a Release after one answer
-released-open : (config : Config) (n : ℕ) (source : Source) (old : Old) (item : Standing) (history : History) (point : Point) → item.point ≡ point
-    → HasHeard config.settings.retries n release_text (release_walk source) (history 0) item → ListsUnheard history
+released-open : (config : Setup) (n : ℕ) (source : Source) (old : Old) (item : Standing) (history : History) (point : Point) → item.point ≡ point
+    → ItemHasHeard config.settings.retries n release_text (release_walk source) (history 0) item → ListsUnheard history
     → IsOpen config n source old (after_release config source old item point) history
 released-open config n source old item history (Over end) is h none =
     came-open config n source old history (admitted end old.release config.settings config.change config.now)
@@ -113,24 +113,24 @@ released-open config n source old item history (At ask left faults next) is h no
 -- ---- one answer
 
 -- an item that asks hears an answer
-pub heard-open : (config : Config) (n : ℕ) (source : Source) (old : Old) (slot : Slot) (history : History) (place : ℕ) (ask : Ask) (note : Note)
+pub heard-open : (config : Setup) (n : ℕ) (source : Source) (old : Old) (slot : Slot) (history : History) (place : ℕ) (ask : Ask) (note : Note)
     → IsOpen config n source old slot history → ask_of (item_in slot place) ≡ Some ask → note.ask ≡ ask → entry_of note ≡ entry n (path_at source place) ask note.told
     → IsOpen config n source old (heard_at config source place note.told slot) (with_note history place note)
 heard-open config n source old (Asking kept release) history zero ask note h asks same is =
-    let more : HasHeard config.settings.retries n release_text (release_walk source) (history 0 ++ note ∷ []) (stepped note.told release) =
+    let more : ItemHasHeard config.settings.retries n release_text (release_walk source) (history 0 ++ note ∷ []) (item_after note.told release) =
     heard-more config.settings.retries n release_text (release_walk source) (history 0) release ask note h.1 asks same is in
-    let opened : IsOpen config n source old (released config source old (stepped note.told release)) (with_note history 0 note) =
-    released-open config n source old (stepped note.told release) (with_note history 0 note) (stepped note.told release).point refl
-    (subst (λ (notes : List Note). HasHeard config.settings.retries n release_text (release_walk source) notes (stepped note.told release)) (sym (at-place history 0 0 note refl)) more)
+    let opened : IsOpen config n source old (released config source old (item_after note.told release)) (with_note history 0 note) =
+    released-open config n source old (item_after note.told release) (with_note history 0 note) (item_after note.told release).point refl
+    (subst (λ (notes : List Note). ItemHasHeard config.settings.retries n release_text (release_walk source) notes (item_after note.told release)) (sym (at-place history 0 0 note refl)) more)
     (λ p. off-place history (suc p) 0 note (grind (arith, nat_tests)) ∙ h.2 p) in
-    subst (λ (o : Old). IsOpen config n source old (released config source o (stepped note.told release)) (with_note history 0 note)) (sym h.0) opened
+    subst (λ (o : Old). IsOpen config n source old (released config source o (item_after note.told release)) (with_note history 0 note)) (sym h.0) opened
 heard-open config n source old (Asking kept release) history (suc k) ask note h asks same is = absurd (cc)
 heard-open config n source old (Listing set there lists) history zero ask note h asks same is = absurd (cc)
 heard-open config n source old (Listing set there lists) history (suc k) ask note h asks same is = (
   subst (λ (notes : List Note). HasCome config n source old notes (Ok set)) (sym (off-place history 0 (suc k) note (grind (arith, nat_tests)))) h.0,
   h.1,
-  subst (λ (x : ℕ). ListsStand config n source old set.release 1 source.targets (changed_at k (option_map (stepped note.told)) lists) (with_note history x note)) (omega arith)
+  subst (λ (x : ℕ). ListsStand config n source old set.release 1 source.targets (changed_at k (option_map (item_after note.told)) lists) (with_note history x note)) (omega arith)
       (lists-heard config n source old set.release 1 source.targets lists history k ask note h.2 asks same is),
 )
 heard-open config n source old (Refused why) history place ask note h asks same is = absurd (cc)
-heard-open config n source old Closed history place ask note h asks same is = absurd h
+heard-open config n source old SettledSlot history place ask note h asks same is = absurd h

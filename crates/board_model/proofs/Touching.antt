@@ -12,7 +12,7 @@ use Rattle.acq_base.specs.declared.uri.ListName.{ListName}
 use Rattle.acq_base.proofs.Lists.{first-or-rest}
 use Rattle.release_file.specs.Release.{listed_sum}
 use Rattle.release_file.specs.declared.release.Release.{Release}
-use Rattle.update_model.specs.Outcomes.{Admitted, Staying, all_had}
+use Rattle.update_model.specs.Outcomes.{AdmittedRelease, Staying, all_had}
 use Rattle.update_model.specs.declared.ask.Body.{Body}
 use Rattle.update_model.specs.declared.end.End.{End}
 use Rattle.update_model.specs.declared.end.End.TheVariants.{Got, Stands, Ended}
@@ -21,7 +21,7 @@ use Rattle.board_model.specs.Changes.{touched}
 use Rattle.board_model.specs.Runs.{Note}
 use Rattle.board_model.specs.SetLaws.{TouchedAreApart, TouchedAreOwn}
 use Rattle.board_model.specs.Settling.{drop_of, drops_of, end_in, ends_in, put_of, puts_of, set_there, settled_in, settled_lists, staying_verdict, unchanged}
-use Rattle.board_model.specs.Slots.{Config, Standing, Slot, Asking, Listing, Refused, Closed}
+use Rattle.board_model.specs.Slots.{Setup, Standing, Slot, Asking, Listing, Refused, SettledSlot}
 use Rattle.board_model.specs.Stands.{History, IsOpen, ListStands, ListsStand}
 use Rattle.board_model.proofs.Making.{IsDropOf, IsPutOf, drop-of, get-name, list-at, none-in, not-release, put-of, same-place}
 
@@ -39,7 +39,7 @@ touched-own source slot settled is name c = one slot is
     none : touched source settled ≡ [] → Contains (names_of source) name
     none e = absurd (none-in name (subst (λ (ns : List (List ℕ)). Contains ns name) e c))
 
-    put : (set : Admitted) (lists : List (Option Standing)) → set_there source set lists false ≡ settled → Contains (names_of source) name
+    put : (set : AdmittedRelease) (lists : List (Option Standing)) → set_there source set lists false ≡ settled → Contains (names_of source) name
     put set lists s = elim (first-or-rest source.release_name.0 _ name (subst (λ (x : Settled). Contains (touched source x) name) (sym s) c)) [
       | inl here ↦ (0, omega arith, here)
       | inr rest ↦ elim (Contains-append_cases (map (λ (put : ListName × Body). put.0.0) (puts_of source.targets lists)) (map (λ (name : ListName). name.0) (drops_of set.release source.targets)) name rest) [
@@ -48,7 +48,7 @@ touched-own source slot settled is name c = one slot is
       ]
     ]
 
-    listing : (set : Admitted) (there : Bool) (lists : List (Option Standing)) (had_all : Result (Unit {0}) Staying) → settled_lists source set there lists had_all ≡ settled → Contains (names_of source) name
+    listing : (set : AdmittedRelease) (there : Bool) (lists : List (Option Standing)) (had_all : Result (Unit {0}) Staying) → settled_lists source set there lists had_all ≡ settled → Contains (names_of source) name
     listing set there lists (Err why) s = none (ap (touched source) (sym s))
     listing set true lists (Ok u) s = none (ap (touched source) (sym s))
     listing set false lists (Ok u) s = put set lists s
@@ -63,7 +63,7 @@ touched-own source slot settled is name c = one slot is
         or_settled : Option Settled → Settled
         or_settled None = settled
         or_settled (Some x) = x
-    one Closed e = absurd (cc)
+    one SettledSlot e = absurd (cc)
 
 -- ---- no name is touched twice
 
@@ -128,7 +128,7 @@ drops-apart release (t ∷ targets) h = one (listed_sum release t.path) (drops-a
     one None rest = ((λ c. let d = drop-of release targets t.name.0 c in first-alone t targets d.k d.target h d.there d.named_so), rest)
 
 -- no list is put and dropped
-put-or-drop : (config : Config) (n : ℕ) (source : Source) (old : Old) (release : Release) (lists : List (Option Standing)) (history : History) (name : List ℕ) → AllPairs (λ a b. a ≢ b) (names_of source)
+put-or-drop : (config : Setup) (n : ℕ) (source : Source) (old : Old) (release : Release) (lists : List (Option Standing)) (history : History) (name : List ℕ) → AllPairs (λ a b. a ≢ b) (names_of source)
     → ListsStand config n source old release 1 source.targets lists history → IsPutOf source.targets lists name → IsDropOf release source.targets name → ⊥
 put-or-drop config n source old release lists history name distinct h p d =
     let place : p.k ≡ d.k = same-place source p.k d.k p.target d.target distinct p.there d.there (p.named_so ∙ sym d.named_so) in
@@ -153,7 +153,7 @@ touched-apart config n source old slot history settled open_slot is planned = on
     targets_apart : AllPairs (λ a b. a ≢ b) (target_names source.targets)
     targets_apart = tail-pairs source.release_name.0 (target_names source.targets) planned.distinct
 
-    put : (set : Admitted) (lists : List (Option Standing)) → ListsStand config n source old set.release 1 source.targets lists history → AreApart (touched source (set_there source set lists false))
+    put : (set : AdmittedRelease) (lists : List (Option Standing)) → ListsStand config n source old set.release 1 source.targets lists history → AreApart (touched source (set_there source set lists false))
     put set lists h = (
       (λ c. elim (Contains-append_cases (map (λ (put : ListName × Body). put.0.0) (puts_of source.targets lists)) (map (λ (name : ListName). name.0) (drops_of set.release source.targets)) source.release_name.0 c) [
         | inl puts ↦ let p = put-of source.targets lists source.release_name.0 puts in not-release source p.k p.target planned.distinct p.there (sym p.named_so)
@@ -164,7 +164,7 @@ touched-apart config n source old slot history settled open_slot is planned = on
           (λ name a b. put-or-drop config n source old set.release lists history name planned.distinct h (put-of source.targets lists name a) (drop-of set.release source.targets name b)),
     )
 
-    listing : (set : Admitted) (there : Bool) (lists : List (Option Standing)) (had_all : Result (Unit {0}) Staying) → ListsStand config n source old set.release 1 source.targets lists history
+    listing : (set : AdmittedRelease) (there : Bool) (lists : List (Option Standing)) (had_all : Result (Unit {0}) Staying) → ListsStand config n source old set.release 1 source.targets lists history
         → settled_lists source set there lists had_all ≡ settled → AllPairs (λ a b. a ≢ b) (touched source settled)
     listing set there lists (Err why) h s = nothing (ap (touched source) (sym s))
     listing set true lists (Ok u) h s = nothing (ap (touched source) (sym s))
@@ -178,4 +178,4 @@ touched-apart config n source old slot history settled open_slot is planned = on
     one (Refused why) h e =
         let came : unchanged (staying_verdict why) ≡ settled = cc in
         nothing (ap (touched source) (sym came))
-    one Closed h e = absurd h
+    one SettledSlot h e = absurd h

@@ -10,10 +10,10 @@ use Rattle.pdiff_index.specs.declared.index.Step.{Step}
 use Rattle.release_file.specs.Release.{same_sum}
 use Rattle.update_model.specs.Files.{fitting, served, sum_of_body}
 use Rattle.update_model.specs.Obtained.{first_uri, is_resumed, list_cause}
-use Rattle.update_model.specs.Points.{Point, Over, At, lead, run, start, step}
+use Rattle.update_model.specs.Points.{Point, Over, At, lead, run, start, point_after}
 use Rattle.update_model.specs.Reach.{On, Stop, may_move, moved}
 use Rattle.update_model.specs.Releases.{in_release_uri, release_end, release_limit}
-use Rattle.update_model.specs.Trails.{Leads, Told, less}
+use Rattle.update_model.specs.Trails.{Leads, LaneAnswer, less}
 use Rattle.update_model.specs.Walks.{Walk, Finish, Try, after_in_release, candidates_walk, got_else, index_walk, list_ask, on_some, patches_walk, patched_walk, plain_walk, release_walk, resume_walk, target_walk, whole_ask}
 use Rattle.update_model.specs.Wanted.{chain, edited_by, patch_uri}
 use Rattle.update_model.specs.declared.ask.Ask.{Ask}
@@ -26,17 +26,17 @@ use Rattle.update_model.specs.declared.ask.Ending.TheVariants.{Served, TooBig, A
 use Rattle.update_model.specs.declared.end.End.{End}
 use Rattle.update_model.specs.declared.end.End.TheVariants.{Got, Stands, Ended}
 use Rattle.update_model.specs.declared.wanted.Wanted.{Wanted}
-use Rattle.board_model.specs.Uses.{PartUse, Whole, Free, BeginsWell, Falls, IsLastFile, UsesWell, use_at, use_from, use_of_end, use_while}
+use Rattle.board_model.specs.Uses.{WantedPart, Whole, Free, BeginsWell, Falls, IsLastFile, UsesWell, use_at, use_from, use_of_end, use_while}
 
 -- ---- walks
 
-some-uses : {A : Type 0} (size : ℕ) (before : PartUse) (e : Ending) (o : Option A) (goes : A → Walk) (other : Walk)
+some-uses : {A : Type 0} (size : ℕ) (before : WantedPart) (e : Ending) (o : Option A) (goes : A → Walk) (other : Walk)
     → ((x : A) → IsLastFile e (goes x) × UsesWell size before (goes x)) → IsLastFile e other × UsesWell size before other
     → IsLastFile e (on_some o goes other) × UsesWell size before (on_some o goes other)
 some-uses size before e None goes other h k = k
 some-uses size before e (Some x) goes other h k = h x
 
-got-uses : (size : ℕ) (before : PartUse) (w : Wanted) (e : Ending) (other : Walk) → IsLastFile e other → UsesWell size before other
+got-uses : (size : ℕ) (before : WantedPart) (w : Wanted) (e : Ending) (other : Walk) → IsLastFile e other → UsesWell size before other
     → IsLastFile e (got_else w e other) × UsesWell size before (got_else w e other)
 got-uses size before w (Served body) other last uses = one body (same_sum (sum_of_body body) w.sum) last
   where
@@ -52,17 +52,17 @@ got-uses size before w (Garbled at) other last uses = (last, uses)
 got-uses size before w (Dead lane from to) other last uses = (last, uses)
 
 -- an ask for the whole list may come at any time
-whole-begins : (size : ℕ) (before : PartUse) (uri : Uri) (w : Wanted) → BeginsWell size before (list_ask uri w 0)
+whole-begins : (size : ℕ) (before : WantedPart) (uri : Uri) (w : Wanted) → BeginsWell size before (list_ask uri w 0)
 whole-begins size before uri w = record { falls = inr refl; below = inl refl; staged = λ e. refl }
 
 -- one for what is held in memory as long as nothing was asked for the list
 held-begins : (size : ℕ) (uri : Uri) (max : ℕ) → BeginsWell size (use_from size) (whole_ask uri max)
 held-begins size uri max = record { falls = inl refl; below = inl refl; staged = λ e. refl }
 
-plain-uses : (size : ℕ) (before : PartUse) (w : Wanted) → UsesWell size before (plain_walk w)
+plain-uses : (size : ℕ) (before : WantedPart) (w : Wanted) → UsesWell size before (plain_walk w)
 plain-uses size before w = (whole-begins size before w.uri w, λ e. got-uses size Free w e (Finish (Ended (list_cause w e))) tt tt)
 
-candidates-use : (size : ℕ) (before : PartUse) (w : Wanted) (o : Option Uri) → UsesWell size before (candidates_walk w o)
+candidates-use : (size : ℕ) (before : WantedPart) (w : Wanted) (o : Option Uri) → UsesWell size before (candidates_walk w o)
 candidates-use size before w None = plain-uses size before w
 candidates-use size before w (Some uri) = (whole-begins size before uri w, λ e. got-uses size Free w e (plain_walk w) tt (plain-uses size Free w))
 
@@ -150,39 +150,39 @@ release-uses source = (held-begins 0 (in_release_uri source) release_limit, afte
 -- ---- points
 
 -- what is asked now and later uses the partial file well
-abbrev pub UsesAt : ℕ → PartUse → Point → Type 0
+abbrev pub UsesAt : ℕ → WantedPart → Point → Type 0
 UsesAt size before (Over end) = Unit {0}
 UsesAt size before (At ask left retries next) =
     BeginsWell size before ask × ((e : Ending) → IsLastFile e (next e) × UsesWell size (use_while size ask) (next e))
 
-pub start-uses : (size retries : ℕ) (before : PartUse) (walk : Walk) → UsesWell size before walk → UsesAt size before (start retries walk)
+pub start-uses : (size retries : ℕ) (before : WantedPart) (walk : Walk) → UsesWell size before walk → UsesAt size before (start retries walk)
 start-uses size retries before (Finish end) h = tt
 start-uses size retries before (Try ask next) h = h
 
 -- where an answer leads, the file that was served whole is wanted, or no more than before
-abbrev pub WholeBy : Closed → PartUse → Type 0
+abbrev pub WholeBy : Closed → WantedPart → Type 0
 WholeBy closed after = (sum : Sum) × (closed ≡ closings.Served (Staged sum)) × (after ≡ Whole sum)
 
-pub record Led (size : ℕ) (was before : PartUse) (closed : Closed) (p : Point) : Type 0 where
-  pub now : PartUse
+pub record Led (size : ℕ) (was before : WantedPart) (closed : Closed) (p : Point) : Type 0 where
+  pub now : WantedPart
   pub lower : Falls was now
   pub uses : UsesAt size now p
   pub falls : Falls before (use_at size p) ⊎ WholeBy closed (use_at size p)
 
-end-falls : (size : ℕ) (before : PartUse) (closed : Closed) (e : Ending) (end : End) → IsLastFile e (Finish end)
+end-falls : (size : ℕ) (before : WantedPart) (closed : Closed) (e : Ending) (end : End) → IsLastFile e (Finish end)
     → ((sum : Sum) → e ≡ Served (Staged sum) → closed ≡ closings.Served (Staged sum)) → Falls before (use_of_end end) ⊎ WholeBy closed (use_of_end end)
 end-falls size before closed e (Got (Bytes bytes)) last told = inl (inr refl)
 end-falls size before closed e (Got (Staged sum)) last told = inr (sum, told sum last, refl)
 end-falls size before closed e Stands last told = inl (inr refl)
 end-falls size before closed e (Ended cause) last told = inl (inr refl)
 
-stop-led : (size retries : ℕ) (was : PartUse) (ask : Ask) (closed : Closed) (e : Ending) (walk : Walk) → Falls was (use_while size ask) → IsLastFile e walk → UsesWell size (use_while size ask) walk
+stop-led : (size retries : ℕ) (was : WantedPart) (ask : Ask) (closed : Closed) (e : Ending) (walk : Walk) → Falls was (use_while size ask) → IsLastFile e walk → UsesWell size (use_while size ask) walk
     → ((sum : Sum) → e ≡ Served (Staged sum) → closed ≡ closings.Served (Staged sum)) → Led size was (use_while size ask) closed (start retries walk)
 stop-led size retries was ask closed e (Finish end) lower last uses told = record { now = Free; lower = inr refl; uses = tt; falls = end-falls size (use_while size ask) closed e end last told }
 stop-led size retries was ask closed e (Try next_ask next) lower last uses told = record { now = use_while size ask; lower = lower; uses = uses; falls = inl uses.0.falls }
 
 -- on to another place with the same ask
-on-led : (size left retries : ℕ) (before : PartUse) (ask : Ask) (to : Uri) (next : Ending → Walk) (closed : Closed) → UsesAt size before (At ask left retries next)
+on-led : (size left retries : ℕ) (before : WantedPart) (ask : Ask) (to : Uri) (next : Ending → Walk) (closed : Closed) → UsesAt size before (At ask left retries next)
     → (n : ℕ) → Led size before (use_while size ask) closed (At (record ask { uri = to }) n retries next)
 on-led size left retries before ask to next closed h n = record {
   now = before;
@@ -191,7 +191,7 @@ on-led size left retries before ask to next closed h n = record {
   falls = inl (inl refl);
 }
 
-pub step-uses : (size retries : ℕ) (before : PartUse) (p : Point) (t : Told) → UsesAt size before p → Led size before (use_at size p) t.closed (step retries p t)
+pub step-uses : (size retries : ℕ) (before : WantedPart) (p : Point) (t : LaneAnswer) → UsesAt size before p → Led size before (use_at size p) t.closed (point_after retries p t)
 step-uses size retries before (Over end) t h = record { now = before; lower = inl refl; uses = tt; falls = inl (inl refl) }
 step-uses size retries before (At ask left faults next) t h = one t.closed faults
   where
@@ -216,14 +216,14 @@ step-uses size retries before (At ask left faults next) t h = one t.closed fault
     one closings.TooBig faults = ends closings.TooBig TooBig (λ sum e. absurd (cc))
     one (closings.Garbled at) faults = ends (closings.Garbled at) (Garbled at) (λ sum e. absurd (cc))
 
-pub falls-on : (a b c : PartUse) → Falls a b → Falls b c → Falls a c
+pub falls-on : (a b c : WantedPart) → Falls a b → Falls b c → Falls a c
 falls-on a b c h (inr free) = inr free
 falls-on a b c (inl same) (inl next) = inl (next ∙ same)
 falls-on a b c (inr free) (inl next) = inr (next ∙ free)
 
-pub run-uses : (size retries : ℕ) (first before : PartUse) (p : Point) (ts : List Told) → Falls first before → UsesAt size before p
-    → (now : PartUse) × Falls first now × UsesAt size now (run retries p ts)
+pub run-uses : (size retries : ℕ) (first before : WantedPart) (p : Point) (ts : List LaneAnswer) → Falls first before → UsesAt size before p
+    → (now : WantedPart) × Falls first now × UsesAt size now (run retries p ts)
 run-uses size retries first before p [] lower h = (before, lower, h)
 run-uses size retries first before p (t ∷ ts) lower h =
     let led = step-uses size retries before p t h in
-    run-uses size retries first led.now (step retries p t) ts (falls-on first before led.now lower led.lower) led.uses
+    run-uses size retries first led.now (point_after retries p t) ts (falls-on first before led.now lower led.lower) led.uses

@@ -1,11 +1,11 @@
 -- What was heard, and a mirror.
 use Rattle.std.specs.Prelude.{ℕ, zero, suc, List, [], ◌∷◌, slice_get, Option, Some, None, option_and_then}
 use Rattle.std.specs.List.{AllByRecursion as Each}
-use Rattle.acq_base.specs.Mirror.{World as Mirror, answer_at}
+use Rattle.acq_base.specs.Mirror.{MirrorMap, answer_at}
 use Rattle.acq_base.specs.declared.plan.Source.{Source}
 use Rattle.acq_base.specs.declared.uri.ListName.{ListName}
-use Rattle.update_model.specs.Outcomes.{Parts}
-use Rattle.update_model.specs.Trails.{Says, answered}
+use Rattle.update_model.specs.Outcomes.{PartFiles}
+use Rattle.update_model.specs.Trails.{IsFaultOr, answered}
 use Rattle.update_model.specs.declared.ask.Closed.{Closed}
 use Rattle.update_model.specs.declared.ask.Closed.TheVariants.{Fault}
 use Rattle.board_model.specs.Keys.{name_at}
@@ -14,19 +14,19 @@ use Rattle.board_model.specs.Stands.{of_key}
 use Rattle.board_model.specs.declared.key.Key.{Key}
 
 -- the partial file of an item's list; a Release has none
-abbrev pub part_of : Parts → Option ListName → List ℕ
+abbrev pub part_of : PartFiles → Option ListName → List ℕ
 part_of parts None = []
 part_of parts (Some name) = parts name.0
 
-abbrev pub part_at : Parts → List Source → Key → List ℕ
+abbrev pub part_at : PartFiles → List Source → Key → List ℕ
 part_at parts sources key = part_of parts (option_and_then (λ source. name_at source key.place) (slice_get sources key.source))
 
 -- an answer is a fault, or the mirror's to what was asked
-abbrev pub IsMirrors : Mirror → Parts → List Source → Note → Type 0
-IsMirrors mirror parts sources note = Says note.told.closed (answered (part_at parts sources note.key) note.ask (answer_at mirror note.ask.uri))
+abbrev pub IsMirrors : MirrorMap → PartFiles → List Source → Note → Type 0
+IsMirrors mirror parts sources note = IsFaultOr note.told.closed (answered (part_at parts sources note.key) note.ask (answer_at mirror note.ask.uri))
 
 -- so is all that was heard
-abbrev pub Agrees : Mirror → Parts → List Source → List Note → Type 0
+abbrev pub Agrees : MirrorMap → PartFiles → List Source → List Note → Type 0
 Agrees mirror parts sources notes = Each (IsMirrors mirror parts sources) notes
 
 -- one answer: a fault where as many may follow, or any other

@@ -8,7 +8,7 @@ use Rattle.host_queues.specs.Lanes.{Lanes, changed_at, no_hosts, put_for, first_
 use Rattle.uri_names.specs.Names.{host_key_of}
 use Rattle.update_model.specs.Obtained.{◌>>=◌}
 use Rattle.update_model.specs.Points.{entry}
-use Rattle.update_model.specs.Trails.{Told}
+use Rattle.update_model.specs.Trails.{LaneAnswer}
 use Rattle.update_model.specs.Walks.{release_walk}
 use Rattle.update_model.specs.declared.ask.Ask.{Ask}
 use Rattle.update_model.specs.declared.ask.Closed.{Closed as Answer}
@@ -20,10 +20,10 @@ use Rattle.update_model.specs.declared.settled.Verdict2.TheVariants.{Older}
 use Rattle.board_model.specs.Keys.{key_at, path_at, name_at}
 use Rattle.board_model.specs.declared.key.Key.{Key}
 use Rattle.board_model.specs.Settling.{settled_in}
-use Rattle.board_model.specs.Slots.{Config, Slot, Asking, Closed, items_in, item_in, item_at, ask_of, Standing, begun, heard_at, is_ready}
+use Rattle.board_model.specs.Slots.{Setup, Slot, Asking, SettledSlot, items_in, item_in, item_at, ask_of, Standing, begun, heard_at, is_ready}
 
 pub record Board : Type 0 where
-  pub config : Config
+  pub config : Setup
   pub slots : List Slot
   -- the numbers of the items whose asks wait for their hosts
   pub lanes : Lanes
@@ -50,22 +50,22 @@ abbrev pub put_items : ℕ → List (Option Standing) → Lanes → Lanes
 put_items number [] lanes = lanes
 put_items number (item ∷ items) lanes = put_items (suc number) items (put_ask number (ask_of item) lanes)
 
-abbrev pub first_release : Config → Source → Standing
+abbrev pub first_release : Setup → Source → Standing
 first_release config source = begun config (release_walk source)
 
 -- each Release is asked for
-abbrev pub first_slots : Config → List Source → List Old → List Slot
+abbrev pub first_slots : Setup → List Source → List Old → List Slot
 first_slots config [] olds = []
 first_slots config (source ∷ sources) [] = []
 first_slots config (source ∷ sources) (old ∷ olds) = Asking old (first_release config source) ∷ first_slots config sources olds
 
 -- and waits for its host
-abbrev pub put_releases : Config → ℕ → List Source → Lanes → Lanes
+abbrev pub put_releases : Setup → ℕ → List Source → Lanes → Lanes
 put_releases config number [] lanes = lanes
 put_releases config number (source ∷ sources) lanes =
     put_releases config (number + length source.targets + 1) sources (put_ask number (ask_of (Some (first_release config source))) lanes)
 
-abbrev pub first_board : Config → List Old → ℕ → Board
+abbrev pub first_board : Setup → List Old → ℕ → Board
 first_board config olds lanes = record {
   config = config;
   slots = first_slots config config.sources olds;
@@ -136,11 +136,11 @@ put_heard number place None lanes = lanes
 put_heard number zero (Some slot) lanes = put_items number (items_in slot) lanes
 put_heard number (suc place) (Some slot) lanes = put_ask number (ask_of (item_in slot (suc place))) lanes
 
-abbrev pub heard_by : Board → Asker → Told → List Slot
+abbrev pub heard_by : Board → Asker → LaneAnswer → List Slot
 heard_by b a told = changed_at a.key.source (heard_at b.config a.source a.key.place told) b.slots
 
 -- an item hears the answer to its job, which was out from a lane
-abbrev pub took : Board → ℕ → Asker → ℕ → Told → Board
+abbrev pub took : Board → ℕ → Asker → ℕ → LaneAnswer → Board
 took b number a from told = record b {
   slots = heard_by b a told;
   lanes = put_heard number a.key.place (slice_get (heard_by b a told) a.key.source) (freed_at from b.lanes);
@@ -148,7 +148,7 @@ took b number a from told = record b {
   asks = b.asks ++ entry a.key.source (path_at a.source a.key.place) a.ask told ∷ [];
 }
 
-abbrev pub took_from : Board → ℕ → Told → Option ℕ → Option Asker → Board
+abbrev pub took_from : Board → ℕ → LaneAnswer → Option ℕ → Option Asker → Board
 took_from b number told (Some from) (Some a) = took b number a from told
 took_from b number told None a = b
 took_from b number told (Some from) None = b
@@ -173,7 +173,7 @@ settled_of b n = do
 
 abbrev pub settled_as : Board → ℕ → Verdict2 → Board
 settled_as b n verdict = record b {
-  slots = changed_at n (λ slot. Closed) b.slots;
+  slots = changed_at n (λ slot. SettledSlot) b.slots;
   settled = b.settled ++ n ∷ [];
   verdicts = changed_at n (λ other. verdict) b.verdicts;
 }

@@ -6,7 +6,7 @@ use Rattle.acq_base.specs.declared.plan.Source.{Source}
 use Rattle.update_model.specs.Obtained.{list_cause}
 use Rattle.update_model.specs.Points.{Over}
 use Rattle.update_model.specs.Releases.{release_end}
-use Rattle.update_model.specs.Trails.{Told}
+use Rattle.update_model.specs.Trails.{LaneAnswer}
 use Rattle.update_model.specs.Walks.{release_walk, target_walk}
 use Rattle.update_model.specs.declared.ask.Closed.{Closed}
 use Rattle.update_model.specs.declared.ask.Closed.TheVariants.{Served, Moved, Absent, TooBig, Garbled, Fault}
@@ -19,8 +19,8 @@ use Rattle.update_model.specs.declared.settled.Verdict2.{Verdict2}
 use Rattle.update_model.specs.declared.wanted.Wanted.{Wanted}
 use Rattle.board_model.specs.Ends.{ComesTo, ListEnd}
 use Rattle.board_model.specs.Runs.{Note}
-use Rattle.board_model.specs.Slots.{Config, Standing}
-use Rattle.board_model.specs.Stands.{HasHeard, History}
+use Rattle.board_model.specs.Slots.{Setup, Standing}
+use Rattle.board_model.specs.Stands.{ItemHasHeard, History}
 
 -- how a trail has ended whose last answer this is: a move that isn't followed is lost, and a fault that isn't asked again dead
 abbrev pub closing : ℕ → Closed → Ending
@@ -31,7 +31,7 @@ closing lane TooBig = endings.TooBig
 closing lane (Garbled at) = endings.Garbled at
 closing lane (Fault before after) = endings.Dead lane before after
 
-abbrev pub ending_of : Told → Ending
+abbrev pub ending_of : LaneAnswer → Ending
 ending_of told = closing told.lane told.closed
 
 -- the last of what an item heard
@@ -42,14 +42,14 @@ IsLast note notes = (front : List Note) × (notes ≡ front ++ note ∷ [])
 abbrev pub LastAnswersShowCauses : Type 0
 LastAnswersShowCauses =
     (retries n : ℕ) (path : List ℕ) (installed : Option (List ℕ)) (part : ℕ) (w : Wanted) (heard : List Note) (item : Standing) (cause : Cause)
-    → HasHeard retries n path (target_walk installed part w) heard item → item.point ≡ Over (Ended cause)
+    → ItemHasHeard retries n path (target_walk installed part w) heard item → item.point ≡ Over (Ended cause)
     → (note : Note) × IsLast note heard × (cause ≡ list_cause w (ending_of note.told))
 
 -- and a Release comes to what its last answer shows, InRelease's or its own
 abbrev pub LastAnswersShowReleases : Type 0
 LastAnswersShowReleases =
     (retries n : ℕ) (path : List ℕ) (source : Source) (heard : List Note) (item : Standing) (end : End)
-    → HasHeard retries n path (release_walk source) heard item → item.point ≡ Over end
+    → ItemHasHeard retries n path (release_walk source) heard item → item.point ≡ Over end
     → (note : Note) × IsLast note heard × (end ≡ release_end (ending_of note.told))
 
 -- ---- a source
@@ -63,5 +63,5 @@ IsShown history l =
 -- so a source comes to what the last answer to its Release shows, and those to its lists
 abbrev pub LastAnswersShowOutcomes : Type 0
 LastAnswersShowOutcomes =
-    (config : Config) (n : ℕ) (source : Source) (old : Old) (history : History) (verdict : Verdict2) (came : ComesTo config n source old history verdict)
+    (config : Setup) (n : ℕ) (source : Source) (old : Old) (history : History) (verdict : Verdict2) (came : ComesTo config n source old history verdict)
     → ((note : Note) × IsLast note (history 0) × (came.end ≡ release_end (ending_of note.told))) × Each (IsShown history) came.lists

@@ -12,7 +12,7 @@ use Rattle.update_model.specs.declared.wanted.Wanted.{Wanted}
 use Rattle.board_model.specs.Boards.{Board}
 use Rattle.board_model.specs.Reached.{Reached}
 use Rattle.board_model.specs.Runs.{Note}
-use Rattle.board_model.specs.Slots.{Config}
+use Rattle.board_model.specs.Slots.{Setup}
 
 -- the most entries that the log has of a Release, and of a list: a patch Index of fewer than 2^64 bytes leads by at most as
 -- many patches
@@ -31,7 +31,7 @@ most_of retries [] = 0
 most_of retries (source ∷ sources) = most_of_release retries + most_of_lists retries source.targets + most_of retries sources
 
 -- the most entries that the log of a whole run has
-abbrev pub most_asks : Config → ℕ
+abbrev pub most_asks : Setup → ℕ
 most_asks config = most_of config.settings.retries config.sources
 
 -- a patch Index of fewer than 2^64 bytes leads by at most as many patches
@@ -44,7 +44,7 @@ ListedSizesFit = (bytes path : List ℕ) (release : Release) (sum : Sum) → rel
 
 -- whatever is answered, the log has no more entries than that
 abbrev pub AsksAreFew : Type 0
-AsksAreFew = (config : Config) (olds : List Old) (notes : List Note) (b : Board) → Reached config olds notes b → length b.asks ≤ most_asks config
+AsksAreFew = (config : Setup) (olds : List Old) (notes : List Note) (b : Board) → Reached config olds notes b → length b.asks ≤ most_asks config
 
 -- so it has, where patch Indexes and Releases are read as they are
 abbrev pub AsksAreFewByReading : Type 0

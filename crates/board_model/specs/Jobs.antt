@@ -5,7 +5,7 @@ use Rattle.acq_base.specs.declared.fetch.Job.{Job}
 use Rattle.host_queues.specs.Lanes.{Queue, lane_of}
 use Rattle.uri_names.specs.Names.{host_key_of}
 use Rattle.board_model.specs.Boards.{Asker, Board, asker_of, is_out, is_out_as, job_for}
-use Rattle.board_model.specs.Runs.{Answered, World}
+use Rattle.board_model.specs.Runs.{Answered, BoardRun}
 
 -- the job that is out under a number: what its item asks
 abbrev pub job_out : Board → ℕ → Option Job
@@ -44,13 +44,13 @@ IsInLane b number lane =
 -- ---- all jobs
 
 -- no two of these answers are to one job
-abbrev pub AreToldOnce : List Answered → Type 0
-AreToldOnce [] = Unit {0}
-AreToldOnce (a ∷ queue) = Each (λ (other : Answered). other.job.no ≢ a.job.no) queue × AreToldOnce queue
+abbrev pub AreAnsweredOnce : List Answered → Type 0
+AreAnsweredOnce [] = Unit {0}
+AreAnsweredOnce (a ∷ queue) = Each (λ (other : Answered). other.job.no ≢ a.job.no) queue × AreAnsweredOnce queue
 
 -- Each item that asks waits or is out, once, in the lane of the host that it asks, and no other number does. What is out is
 -- what its item asks, and so is what was answered, once, and isn't taken in yet.
-pub record JobsStand (w : World) : Type 0 where
+pub record JobsStand (w : BoardRun) : Type 0 where
   pub once : (number : ℕ) → times_waiting number w.board.lanes.queues + times_out number w.board.out ≡ one_if (is_some (asker_of w.board number))
   pub hosts : (number lane : ℕ) (a : Asker) → asker_of w.board number ≡ Some a → IsInLane w.board number lane
       → lane_of w.board.lanes (host_key_of a.ask.uri) ≡ Some lane
@@ -58,4 +58,4 @@ pub record JobsStand (w : World) : Type 0 where
   pub numbers : w.board.out ≡ map (option_map (λ (job : Job). job.no)) w.jobs
   pub asked : (lane : ℕ) (job : Job) → slice_get w.jobs lane ≡ Some (Some job) → job_out w.board job.no ≡ Some job
   pub told : Each (λ (a : Answered). job_out w.board a.job.no ≡ Some a.job) w.queue
-  pub told_once : AreToldOnce w.queue
+  pub told_once : AreAnsweredOnce w.queue

@@ -11,32 +11,32 @@ use Rattle.update_model.specs.declared.settled.Settled.{Settled}
 use Rattle.update_model.specs.declared.settled.Verdict2.{Verdict2}
 use Rattle.board_model.specs.Boards.{Asker, Board, asker_of, settled_as, settled_of}
 use Rattle.board_model.specs.Keys.{name_at}
-use Rattle.board_model.specs.Slots.{Config}
-use Rattle.board_model.specs.Uses.{Free, PartUse, Whole, rests, use_from}
+use Rattle.board_model.specs.Slots.{Setup}
+use Rattle.board_model.specs.Uses.{Free, WantedPart, Whole, wanted_part, use_from}
 
 -- no two files of a plan share a name
-abbrev pub AreNamedApart : Config → Type 0
+abbrev pub AreNamedApart : Setup → Type 0
 AreNamedApart config = AllPairs (λ a b. a ≢ b) (flat_map names_of config.sources)
 
 -- an ask that goes into a partial file goes on behind just what is wanted of that
-abbrev pub StagedAsksRest : Type 0
-StagedAsksRest =
+abbrev pub StagedAsksAreWanted : Type 0
+StagedAsksAreWanted =
     (b : Board) (number : ℕ) (a : Asker) (name : ListName)
     → AreNamedApart b.config → asker_of b number ≡ Some a → a.ask.stage ≡ true → name_at a.source a.key.place ≡ Some name
-    → rests b name.0 ≡ use_from a.ask.from
+    → wanted_part b name.0 ≡ use_from a.ask.from
 
 -- a staged file that is put is wanted whole
-abbrev pub RestsOn : (List ℕ → PartUse) → ListName × Body → Type 0
+abbrev pub RestsOn : (List ℕ → WantedPart) → ListName × Body → Type 0
 RestsOn use_under (name, Bytes bytes) = Unit {0}
 RestsOn use_under (name, Staged sum) = use_under name.0 ≡ Whole sum
 
-abbrev pub SettledPutsRest : Type 0
-SettledPutsRest =
-    (b : Board) (n : ℕ) (settled : Settled) → AreNamedApart b.config → settled_of b n ≡ Some settled → Each (RestsOn (rests b)) settled.puts
+abbrev pub SettledPutsAreWanted : Type 0
+SettledPutsAreWanted =
+    (b : Board) (n : ℕ) (settled : Settled) → AreNamedApart b.config → settled_of b n ≡ Some settled → Each (RestsOn (wanted_part b)) settled.puts
 
 -- and nothing more once its source is settled
 abbrev pub SettledSourcesFree : Type 0
 SettledSourcesFree =
     (b : Board) (n k : ℕ) (source : Source) (target : Target) (settled : Settled) (verdict : Verdict2)
     → AreNamedApart b.config → settled_of b n ≡ Some settled → slice_get b.config.sources n ≡ Some source → slice_get source.targets k ≡ Some target
-    → rests (settled_as b n verdict) target.name.0 ≡ Free
+    → wanted_part (settled_as b n verdict) target.name.0 ≡ Free

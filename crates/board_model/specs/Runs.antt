@@ -5,14 +5,14 @@ use Rattle.acq_base.specs.declared.fetch.Job.{Job}
 use Rattle.acq_base.specs.declared.installed.Old.{Old}
 use Rattle.host_queues.specs.Lanes.{changed_at}
 use Rattle.update_model.specs.Points.{entry}
-use Rattle.update_model.specs.Trails.{Told}
+use Rattle.update_model.specs.Trails.{LaneAnswer}
 use Rattle.update_model.specs.declared.ask.Ask.{Ask}
 use Rattle.update_model.specs.declared.ask.Closed.{Closed}
 use Rattle.update_model.specs.declared.log.Asked.{Asked}
 use Rattle.update_model.specs.declared.settled.Settled.{Settled}
 use Rattle.board_model.specs.Boards.{Board, Asker, absorbed, asker_of, first_board, first_ready, issued, issued_job, lane_with, settled_as, settled_of}
 use Rattle.board_model.specs.Keys.{path_at}
-use Rattle.board_model.specs.Slots.{Config, joined}
+use Rattle.board_model.specs.Slots.{Setup, joined}
 use Rattle.board_model.specs.declared.key.Key.{Key}
 
 -- an answer of a method to a job, which waits to be taken in
@@ -26,14 +26,14 @@ pub record Note : Type 0 where
   pub key : Key
   pub path : List ℕ
   pub ask : Ask
-  pub told : Told
+  pub told : LaneAnswer
 
 -- the log's entry of it
 abbrev pub entry_of : Note → Asked
 entry_of note = entry note.key.source note.path note.ask note.told
 
 -- a board, the job that each lane has out, the answers that wait, and those that were taken in
-pub record World : Type 0 where
+pub record BoardRun : Type 0 where
   pub board : Board
   pub jobs : List (Option Job)
   pub queue : List Answered
@@ -53,21 +53,21 @@ sent_job lane None jobs = jobs
 sent_job lane (Some job) jobs = changed_at lane (λ other. Some job) jobs
 
 -- a job is answered once
-abbrev pub answered : World → ℕ → Closed → Option Job → World
+abbrev pub answered : BoardRun → ℕ → Closed → Option Job → BoardRun
 answered w method closed None = w
 answered w method closed (Some job) =
     if list_any (λ (a : Answered). a.job.no == job.no) w.queue
     then w
     else record w { queue = w.queue ++ (record { job = job; lane = method; closed = closed }) ∷ [] }
 
-abbrev pub told_by : Answered → Told
-told_by a = record { lane = a.lane; closed = a.closed }
+abbrev pub lane_answer_of : Answered → LaneAnswer
+lane_answer_of a = record { lane = a.lane; closed = a.closed }
 
-abbrev pub note_of : Asker → Told → Note
+abbrev pub note_of : Asker → LaneAnswer → Note
 note_of asker told = record { key = asker.key; path = path_at asker.source asker.key.place; ask = asker.ask; told = told }
 
 -- what is noted of an answer: nothing of one to a job that isn't out
-abbrev pub noted : Told → Option ℕ → Option Asker → List Note
+abbrev pub noted : LaneAnswer → Option ℕ → Option Asker → List Note
 noted told (Some from) (Some asker) = note_of asker told ∷ []
 noted told None asker = []
 noted told (Some from) None = []
@@ -78,34 +78,34 @@ without_job (Some from) (Some asker) jobs = changed_at from (λ other. None) job
 without_job None asker jobs = jobs
 without_job (Some from) None jobs = jobs
 
-abbrev pub take_first : World → List Answered → World
+abbrev pub take_first : BoardRun → List Answered → BoardRun
 take_first w [] = w
 take_first w (a ∷ queue) = record {
   board = absorbed w.board a.lane a.job.no a.closed;
   jobs = without_job (lane_with w.board.out a.job.no) (asker_of w.board a.job.no) w.jobs;
   queue = queue;
-  notes = w.notes ++ noted (told_by a) (lane_with w.board.out a.job.no) (asker_of w.board a.job.no);
+  notes = w.notes ++ noted (lane_answer_of a) (lane_with w.board.out a.job.no) (asker_of w.board a.job.no);
 }
 
-abbrev pub settle_as : World → ℕ → Option Settled → World
+abbrev pub settle_as : BoardRun → ℕ → Option Settled → BoardRun
 settle_as w n None = w
 settle_as w n (Some settled) = record w { board = settled_as w.board n settled.verdict }
 
-abbrev pub settle_first : World → Option ℕ → World
+abbrev pub settle_first : BoardRun → Option ℕ → BoardRun
 settle_first w None = w
 settle_first w (Some n) = settle_as w n (settled_of w.board n)
 
-abbrev pub happens : World → Event → World
+abbrev pub happens : BoardRun → Event → BoardRun
 happens w (Issue lane) = record w { board = issued w.board lane; jobs = sent_job lane (issued_job w.board lane) w.jobs }
 happens w (Answer lane method closed) = answered w method closed (joined (slice_get w.jobs lane))
 happens w Absorb = take_first w w.queue
 happens w Settle = settle_first w (first_ready w.board.slots)
 
 -- events one after another
-abbrev pub run : List Event → World → World
+abbrev pub run : List Event → BoardRun → BoardRun
 run [] w = w
 run (event ∷ events) w = run events (happens w event)
 
 -- a board at its beginning, and nothing asked
-abbrev pub start : Config → List Old → ℕ → World
+abbrev pub start : Setup → List Old → ℕ → BoardRun
 start config olds lanes = record { board = first_board config olds lanes; jobs = replicate lanes None; queue = []; notes = [] }

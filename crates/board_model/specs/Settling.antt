@@ -7,7 +7,7 @@ use Rattle.acq_base.specs.declared.sum.Sum.{Sum}
 use Rattle.acq_base.specs.declared.uri.ListName.{ListName}
 use Rattle.release_file.specs.Release.{listed_sum}
 use Rattle.release_file.specs.declared.release.Release.{Release}
-use Rattle.update_model.specs.Outcomes.{Admitted, Staying, Older, Kept, Outcome, all_had}
+use Rattle.update_model.specs.Outcomes.{AdmittedRelease, Staying, Older, Kept, Outcome, all_had}
 use Rattle.update_model.specs.Points.{Point, Over, At}
 use Rattle.update_model.specs.declared.ask.Body.{Body}
 use Rattle.update_model.specs.declared.end.End.{End}
@@ -16,7 +16,7 @@ use Rattle.update_model.specs.declared.settled.Held.{Held}
 use Rattle.update_model.specs.declared.settled.Settled.{Settled}
 use Rattle.update_model.specs.declared.settled.Verdict2.{Verdict2}
 use Rattle.update_model.specs.declared.settled.Verdict2.TheVariants as verdicts
-use Rattle.board_model.specs.Slots.{Standing, Slot, Asking, Listing, Refused, Closed}
+use Rattle.board_model.specs.Slots.{Standing, Slot, Asking, Listing, Refused, SettledSlot}
 
 -- ---- what it comes to
 
@@ -31,7 +31,7 @@ end_in item = option_and_then (λ (i : Standing). end_of i.point) item
 abbrev pub ends_in : List (Option Standing) → List End
 ends_in lists = filter_map end_in lists
 
-abbrev pub had : Admitted → Result (Unit {0}) Staying → Outcome
+abbrev pub had : AdmittedRelease → Result (Unit {0}) Staying → Outcome
 had set (Ok each) = Ok set
 had set (Err why) = Err why
 
@@ -40,7 +40,7 @@ abbrev pub outcome_in : Slot → Option Outcome
 outcome_in (Asking old release) = None
 outcome_in (Listing set there lists) = Some (had set (all_had (ends_in lists)))
 outcome_in (Refused why) = Some (Err why)
-outcome_in Closed = None
+outcome_in SettledSlot = None
 
 -- ---- what is told of it
 
@@ -49,7 +49,7 @@ abbrev pub held_lists : Release → List Target → List (ListName × Sum)
 held_lists release targets = filter_map (λ target. option_map (λ sum. (target.name, sum)) (listed_sum release target.path)) targets
 
 -- what a set is known by
-abbrev pub held_of : Source → Admitted → Held
+abbrev pub held_of : Source → AdmittedRelease → Held
 held_of source set = record { release = sum_of set.bytes; date = set.release.date; lists = held_lists set.release source.targets }
 
 abbrev pub staying_verdict : Staying → Verdict2
@@ -81,7 +81,7 @@ abbrev pub unchanged : Verdict2 → Settled
 unchanged verdict = record { verdict = verdict; release = None; puts = []; drops = [] }
 
 -- a set that is there already changes nothing; another one is put whole, but for lists that stand
-abbrev pub set_there : Source → Admitted → List (Option Standing) → Bool → Settled
+abbrev pub set_there : Source → AdmittedRelease → List (Option Standing) → Bool → Settled
 set_there source set lists true = unchanged (verdicts.Hit (held_of source set))
 set_there source set lists false = record {
   verdict = verdicts.Installed (held_of source set);
@@ -90,7 +90,7 @@ set_there source set lists false = record {
   drops = drops_of set.release source.targets;
 }
 
-abbrev pub settled_lists : Source → Admitted → Bool → List (Option Standing) → Result (Unit {0}) Staying → Settled
+abbrev pub settled_lists : Source → AdmittedRelease → Bool → List (Option Standing) → Result (Unit {0}) Staying → Settled
 settled_lists source set there lists (Ok each) = set_there source set lists there
 settled_lists source set there lists (Err why) = unchanged (staying_verdict why)
 
@@ -99,4 +99,4 @@ abbrev pub settled_in : Source → Slot → Option Settled
 settled_in source (Asking old release) = None
 settled_in source (Listing set there lists) = Some (settled_lists source set there lists (all_had (ends_in lists)))
 settled_in source (Refused why) = Some (unchanged (staying_verdict why))
-settled_in source Closed = None
+settled_in source SettledSlot = None

@@ -18,71 +18,71 @@ use Rattle.board_model.specs.Boards.{Board}
 use Rattle.board_model.specs.Slots.{Slot, Asking, Listing, Standing, joined}
 
 -- what is wanted of a list's partial file: that its first bytes stay, or all of it, of this sum, or nothing
-pub data PartUse : Type 0 where
-  Resumes : (size : ℕ) → PartUse
-  Whole : (sum : Sum) → PartUse
-  Free : PartUse
+pub data WantedPart : Type 0 where
+  Resumes : (size : ℕ) → WantedPart
+  Whole : (sum : Sum) → WantedPart
+  Free : WantedPart
 
 -- as many bytes are wanted, if any
-abbrev pub use_from : ℕ → PartUse
+abbrev pub use_from : ℕ → WantedPart
 use_from zero = Free
 use_from (suc n) = Resumes (suc n)
 
 -- nothing else is wanted than before
-abbrev pub Falls : PartUse → PartUse → Type 0
+abbrev pub Falls : WantedPart → WantedPart → Type 0
 Falls before after = (after ≡ before) ⊎ (after ≡ Free)
 
 -- ---- an item
 
 -- while an ask is answered, where the partial file had this size: what is resumed, or all of it if the list isn't asked yet
-abbrev pub use_while : ℕ → Ask → PartUse
+abbrev pub use_while : ℕ → Ask → WantedPart
 use_while size ask = if ask.stage then use_from ask.from else use_from size
 
 -- behind its asks the file that came is wanted
-abbrev pub use_of_end : End → PartUse
+abbrev pub use_of_end : End → WantedPart
 use_of_end (Got (Staged sum)) = Whole sum
 use_of_end (Got (Bytes bytes)) = Free
 use_of_end Stands = Free
 use_of_end (Ended cause) = Free
 
-abbrev pub use_at : ℕ → Point → PartUse
+abbrev pub use_at : ℕ → Point → WantedPart
 use_at size (Over end) = use_of_end end
 use_at size (At ask left retries next) = use_while size ask
 
 -- an item that isn't there wants nothing
-abbrev pub use_by : ℕ → Option Standing → PartUse
+abbrev pub use_by : ℕ → Option Standing → WantedPart
 use_by size None = Free
 use_by size (Some item) = use_at size item.point
 
 -- ---- a board
 
 -- a list that isn't asked for yet may be resumed
-abbrev pub use_in : ℕ → ℕ → Slot → PartUse
+abbrev pub use_in : ℕ → ℕ → Slot → WantedPart
 use_in size place (Asking old release) = use_from size
 use_in size place (Listing set there lists) = use_by size (joined (slice_get lists place))
 use_in size place other = Free
 
-abbrev pub or_use : Option PartUse → PartUse → PartUse
+abbrev pub or_use : Option WantedPart → WantedPart → WantedPart
 or_use None other = other
 or_use (Some found) other = found
 
 -- the use of the first of these lists that has this name
-abbrev pub use_among : (List ℕ → ℕ) → Slot → ℕ → List Target → List ℕ → Option PartUse
+abbrev pub use_among : (List ℕ → ℕ) → Slot → ℕ → List Target → List ℕ → Option WantedPart
 use_among sizes slot place [] name = None
 use_among sizes slot place (target ∷ targets) name =
     if bytes_eq target.name.0 name then Some (use_in (sizes name) place slot) else use_among sizes slot (suc place) targets name
 
-abbrev pub use_under : (List ℕ → ℕ) → List Source → List Slot → List ℕ → PartUse
+abbrev pub use_under : (List ℕ → ℕ) → List Source → List Slot → List ℕ → WantedPart
 use_under sizes [] slots name = Free
 use_under sizes (source ∷ sources) [] name = Free
 use_under sizes (source ∷ sources) (slot ∷ slots) name = or_use (use_among sizes slot 0 source.targets name) (use_under sizes sources slots name)
 
 -- what is wanted of the partial file under a name
-abbrev pub rests : Board → List ℕ → PartUse
-rests b name = use_under b.config.sizes b.config.sources b.slots name
+abbrev pub wanted_part : Board → List ℕ → WantedPart
+wanted_part b name = use_under b.config.sizes b.config.sources b.slots name
 
 -- the partial file of this name was just served whole
-abbrev pub IsWholeOf : Option ListName → Closed → List ℕ → PartUse → Type 0
+abbrev pub IsWholeOf : Option ListName → Closed → List ℕ → WantedPart → Type 0
 IsWholeOf (Some staged) (closed.Served (Staged sum)) name wanted = (name ≡ staged.0) × (wanted ≡ Whole sum)
 IsWholeOf staged answer name wanted = ⊥
 
@@ -90,7 +90,7 @@ IsWholeOf staged answer name wanted = ⊥
 
 -- An ask wants no more than was wanted before it. It begins at the file's front or below its limit, and is resumed only where
 -- it goes into the partial file.
-pub record BeginsWell (size : ℕ) (before : PartUse) (ask : Ask) : Type 0 where
+pub record BeginsWell (size : ℕ) (before : WantedPart) (ask : Ask) : Type 0 where
   pub falls : Falls before (use_while size ask)
   pub below : (ask.from ≡ 0) ⊎ (ask.from < ask.max)
   pub staged : ask.stage ≡ false → ask.from ≡ 0
@@ -101,7 +101,7 @@ IsLastFile ending (Finish (Got (Staged sum))) = ending ≡ endings.Served (Stage
 IsLastFile ending (Finish other) = Unit {0}
 IsLastFile ending (Try ask next) = Unit {0}
 
-abbrev pub UsesWell : ℕ → PartUse → Walk → Type 0
+abbrev pub UsesWell : ℕ → WantedPart → Walk → Type 0
 UsesWell size before (Finish end) = Unit {0}
 UsesWell size before (Try ask next) =
     BeginsWell size before ask × ((ending : Ending) → IsLastFile ending (next ending) × UsesWell size (use_while size ask) (next ending))

@@ -25,7 +25,7 @@ pub fn jobs_stand()
     ensures jobs { law.JobsAlwaysStand }
     ensures out { law.OutNumbersAsk }
     ensures none { law.NoneGoesOutExactly }
-    ensures idle { law.IdleBoardsAskNothing }
+    ensures idle { law.BoardsWithoutJobsAskNothing }
     ensures quiet { law.QuietBoardsAreReady }
 {
     lanes_are_queues();
@@ -33,18 +33,18 @@ pub fn jobs_stand()
 
 /// What is asked is a whole file, or what is behind all that its partial file had. Behind each call no more is wanted of
 /// a partial file than before it, but of the one that was just served whole.
-pub fn boards_rest()
+pub fn wanted_parts_fall()
     ensures begin { law.AsksBeginWell }
-    ensures new { law.NewBoardsRest }
-    ensures absorbed { law.AbsorbedBoardsRest }
-    ensures settled { law.SettledBoardsRest }
+    ensures new { law.NewBoardsWantParts }
+    ensures absorbed { law.AbsorbedBoardsWantParts }
+    ensures settled { law.SettledBoardsWantParts }
 {}
 
 /// Where no two files of the plan share a name, an ask that goes into a partial file goes on behind just what is wanted of
 /// that, a staged file that is put is wanted whole, and nothing is wanted any more once its source is settled.
-pub fn named_lists_rest()
-    ensures asks { name.StagedAsksRest }
-    ensures puts { name.SettledPutsRest }
+pub fn staged_parts_are_wanted()
+    ensures asks { name.StagedAsksAreWanted }
+    ensures puts { name.SettledPutsAreWanted }
     ensures free { name.SettledSourcesFree }
 {}
 

@@ -4,7 +4,7 @@ use Rattle.acq_base.specs.declared.plan.Source.{Source}
 use Rattle.acq_base.specs.declared.plan.Target.{Target}
 use Rattle.acq_base.specs.declared.sum.Sum.{Sum}
 use Rattle.acq_base.specs.declared.uri.ListName.{ListName}
-use Rattle.update_model.specs.Outcomes.{Admitted, Staying, all_had}
+use Rattle.update_model.specs.Outcomes.{AdmittedRelease, Staying, all_had}
 use Rattle.update_model.specs.declared.ask.Body.{Body}
 use Rattle.update_model.specs.declared.end.End.{End}
 use Rattle.update_model.specs.declared.settled.Settled.{Settled}
@@ -30,7 +30,7 @@ abbrev pub dropped_list : (List ℕ → Option Sum) → Target → Option ListNa
 dropped_list sums target = drop_of target (sums target.path)
 
 -- what a source comes to that has a new set
-abbrev pub changed_set : Source → Admitted → List (Option End) → Bool → Settled
+abbrev pub changed_set : Source → AdmittedRelease → List (Option End) → Bool → Settled
 changed_set source set ends true = unchanged (Hit (held_of source set))
 changed_set source set ends false = record {
   verdict = Installed (held_of source set);

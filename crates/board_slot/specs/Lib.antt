@@ -1,4 +1,4 @@
 -- Cited by the public clauses:
-pub mod Parts
+pub mod Refinement
 -- cited by the clauses of this crate's own functions alone:
 pub mod Ended

@@ -5,14 +5,14 @@ ghost use Rattle.update_model.specs.Outcomes.{admitted};
 ghost use Rattle.board_model.specs.Slots as model;
 ghost use Rattle.board_source.specs.Listed.{standing_of};
 ghost use Rattle.board_source.specs.Names.{NamesDiffer};
-ghost use Rattle.board_source.specs.Parts.{config_of, found_of};
+ghost use Rattle.board_source.specs.Refinement.{config_of, found_of};
 ghost use Rattle.acq_base.specs.declared.plan.Source.{Source as AnySource};
-ghost use Rattle.board_slot.specs.Parts.{slot_of};
+ghost use Rattle.board_slot.specs.Refinement.{slot_of};
 ghost use Rattle.board_slot.specs.declared.slot.Slot.TheVariants as slots;
 
 use crate::slot::{Asking, Listing, Slot};
 use acq_base::{NoMemory, Old, Source};
-use board_source::{Admission, Begun, Found, Setup, admit, begin_lists};
+use board_source::{Admission, AdmittedRelease, NewLists, Setup, admit, begin_lists};
 use kept_hooks::Judge;
 use std::alloc::Global;
 use update_model::{Closed, End};
@@ -39,11 +39,11 @@ pub fn hear_release(
     }
     let Asking { old, mut release } = asking;
     release.answer(alloc, lane, closed)?;
-    after_release(alloc, judge, setup, source, Asking { old, release })
+    judge_release(alloc, judge, setup, source, Asking { old, release })
 }
 
 /// A source whose Release has heard an answer: it asks on, or it has ended.
-fn after_release(
+fn judge_release(
     alloc: Global,
     judge: &Judge,
     setup: &Setup,
@@ -87,12 +87,12 @@ fn listing(
     setup: &Setup,
     source: &Source,
     old: Old,
-    found: Found,
+    found: AdmittedRelease,
 ) -> Result<Slot, NoMemory>
     requires { NamesDiffer source.now }
     ensures { IfOk result (λ slot. slot_of slot ≡ model.listed (config_of setup.now) source.now old (Ok (found_of found))) }
 {
-    let Begun { lists, there } = begin_lists(alloc, setup, source, old, &found)?;
+    let NewLists { lists, there } = begin_lists(alloc, setup, source, old, &found)?;
     Ok(Slot::Listing(Listing {
         found,
         there,
@@ -108,7 +108,7 @@ pub fn hear_list(
     lane: u32,
     closed: Closed,
 ) -> Result<Slot, NoMemory>
-    ensures { (config : model.Config) (source : AnySource) → IfOk result (λ slot. slot_of slot
+    ensures { (config : model.Setup) (source : AnySource) → IfOk result (λ slot. slot_of slot
         ≡ model.heard_at config source place (record { lane = lane; closed = closed }) (slot_of (slots.Listing listing))) }
 {
     if place == 0 {

@@ -6,11 +6,11 @@ ghost use Rattle.std.specs.Cmp.Lexicographic.{slice_cmp};
 ghost use Rattle.std.specs.Ordering.{nat_cmp};
 ghost use Rattle.release_file.specs.Release.{listed_sum};
 ghost use Rattle.board_model.specs.Settling.{held_of};
-ghost use Rattle.board_source.specs.Parts.{found_of};
+ghost use Rattle.board_source.specs.Refinement.{found_of};
 ghost use Rattle.board_slot.specs.Ended.{held_list};
 
 use acq_base::{ListName, NoMemory, Row, Source, Sum, Target, Text, TryCopy, sum_of};
-use board_source::Found;
+use board_source::AdmittedRelease;
 use std::alloc::Global;
 use std::collections::BTreeMap;
 use update_model::Held;
@@ -19,7 +19,7 @@ use update_model::Held;
 pub fn held(
     alloc: Global,
     source: &Source,
-    found: &Found,
+    found: &AdmittedRelease,
     sums: &BTreeMap<Text, Sum>,
 ) -> Result<Held, NoMemory>
     requires { (path : List ℕ) → get (slice_cmp nat_cmp) sums.now path ≡ listed_sum found.now.release path }

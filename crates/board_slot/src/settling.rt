@@ -2,9 +2,9 @@
 
 ghost use Rattle.std.specs.Prelude.{◌≡◌, IfOk, Some};
 ghost use Rattle.board_model.specs.Settling.{settled_in, unchanged as unchanged_with};
-ghost use Rattle.board_source.specs.Parts.{found_of};
+ghost use Rattle.board_source.specs.Refinement.{found_of};
 ghost use Rattle.board_slot.specs.Ended.{changed_set};
-ghost use Rattle.board_slot.specs.Parts.{slot_of};
+ghost use Rattle.board_slot.specs.Refinement.{slot_of};
 ghost use Rattle.board_slot.specs.declared.slot.Slot.TheVariants as slots;
 
 use crate::changes::{drops, puts};
@@ -13,7 +13,7 @@ use crate::held::held;
 use crate::slot::Listing;
 use crate::sums::sums_by_path;
 use acq_base::{NoMemory, Row, Source};
-use board_source::Found;
+use board_source::AdmittedRelease;
 use std::alloc::Global;
 use update_model::{End, Settled, Verdict2};
 
@@ -49,7 +49,7 @@ pub fn settle_lists(alloc: Global, source: &Source, listing: Listing) -> Result<
 fn settle_set(
     alloc: Global,
     source: &Source,
-    found: Found,
+    found: AdmittedRelease,
     there: bool,
     ends: Vec<Option<End>>,
 ) -> Result<Settled, NoMemory>

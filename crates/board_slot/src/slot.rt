@@ -6,13 +6,13 @@ ghost use Rattle.board_model.specs.Settling.{settled_in};
 ghost use Rattle.board_model.specs.Slots as model;
 ghost use Rattle.board_source.specs.Listed.{standing_of, standings};
 ghost use Rattle.board_source.specs.Names.{NamesDiffer};
-ghost use Rattle.board_source.specs.Parts.{config_of};
-ghost use Rattle.board_slot.specs.Parts.{slot_of};
+ghost use Rattle.board_source.specs.Refinement.{config_of};
+ghost use Rattle.board_slot.specs.Refinement.{slot_of};
 
 use crate::hearing::{hear_list, hear_release};
 use crate::settling::{settle_lists, unchanged};
 use acq_base::{NoMemory, Old, Source};
-use board_source::{Found, Lists, Setup, Staying};
+use board_source::{AdmittedRelease, Lists, Setup, Staying};
 use item_graph::Item;
 use kept_hooks::Judge;
 use std::alloc::Global;
@@ -29,7 +29,7 @@ pub struct Asking {
 /// A source whose Release may be installed, with its lists.
 #[derive(Drop)]
 pub struct Listing {
-    pub found: Found,
+    pub found: AdmittedRelease,
     /// Whether just this set is installed already.
     pub there: bool,
     pub lists: Lists,

@@ -6,12 +6,12 @@ use Rattle.release_file.specs.Dates.{judged}
 use Rattle.release_file.specs.Release.{release_of}
 use Rattle.release_file.specs.declared.changing.Change.{Change}
 use Rattle.release_file.specs.declared.release.Release.{Release}
-use Rattle.update_model.specs.Outcomes.{Admitted, Staying, ◌>>=◌, admitted, bytes_of, dated, headed, read}
+use Rattle.update_model.specs.Outcomes.{AdmittedRelease, Staying, ◌>>=◌, admitted, bytes_of, dated, headed, read}
 use Rattle.update_model.specs.Releases.{installed_release}
 use Rattle.update_model.specs.declared.end.End.{End}
 use Rattle.board_source.specs.Admitting.{admitted_bytes, admitted_release, admitted_unless}
 
-unless : (d h : Result (Unit {0}) Staying) (found : Admitted) → (d >>= (λ in_time. h >>= (λ good_head. Ok found))) ≡ admitted_unless found (d >>= (λ in_time. h))
+unless : (d h : Result (Unit {0}) Staying) (found : AdmittedRelease) → (d >>= (λ in_time. h >>= (λ good_head. Ok found))) ≡ admitted_unless found (d >>= (λ in_time. h))
 unless (Ok each) (Ok other) found = refl
 unless (Ok each) (Err why) found = refl
 unless (Err why) h found = refl

@@ -1,6 +1,6 @@
 -- Cited by the public clauses:
 pub mod Listed
 pub mod Names
-pub mod Parts
+pub mod Refinement
 -- cited by the clauses of this crate's own functions alone:
 pub mod Admitting

@@ -1,6 +1,6 @@
 -- What items stand for.
 use Rattle.std.specs.Prelude.{ℕ, ◌+◌, not, Bool, true, false, List, [], ◌∷◌, map, Option, option_map}
-use Rattle.item_graph.specs.Items.{point_of, retries_of}
+use Rattle.item_graph.specs.Refinement.{point_of, retries_of}
 use Rattle.item_graph.specs.declared.item.Item.{Item}
 use Rattle.board_model.specs.Slots.{Standing, has_ended}
 

@@ -4,9 +4,9 @@ ghost use Rattle.std.specs.Prelude.{◌≡◌, IfOk, MatchResult, option_map, Ok
 ghost use Rattle.update_model.specs.Outcomes.{admitted, bytes_of, dated, headed, Kept};
 ghost use Rattle.update_model.specs.Releases.{installed_release as installed_of};
 ghost use Rattle.board_source.specs.Admitting.{against, admitted_bytes, admitted_release, first_reason as reason_of};
-ghost use Rattle.board_source.specs.Parts.{admission_of, found_of, staying_of};
+ghost use Rattle.board_source.specs.Refinement.{admission_of, found_of, staying_of};
 
-use crate::found::{Found, Staying};
+use crate::found::{AdmittedRelease, Staying};
 use crate::setup::Setup;
 use acq_base::{Bytes, NoMemory, Old, Refusal, Row, TryCopy};
 use kept_hooks::Judge;
@@ -17,7 +17,7 @@ use update_model::{Body, Cause, End};
 /// Whether a Release may be installed.
 #[derive(Drop)]
 pub enum Admission {
-    Admitted(Found),
+    Admitted(AdmittedRelease),
     Stays(Staying),
 }
 
@@ -61,7 +61,7 @@ fn admit_bytes(
     ensures { IfOk result (λ admission. admission_of admission ≡ admitted_bytes bytes old.now.release setup.now.settings setup.now.change setup.now.moment) }
 {
     match read_release(alloc, bytes.as_slice()) {
-        Ok(release) => admit_release(alloc, judge, setup, Found { bytes, release }, old),
+        Ok(release) => admit_release(alloc, judge, setup, AdmittedRelease { bytes, release }, old),
         Err(ReleaseError::NoMemory) => Err(NoMemory),
         Err(refusal) => Ok(Admission::Stays(Staying::Kept(Cause::BadRelease {
             number: refusal.number(),
@@ -75,7 +75,7 @@ fn admit_release(
     alloc: Global,
     judge: &Judge,
     setup: &Setup,
-    found: Found,
+    found: AdmittedRelease,
     old: &Old,
 ) -> Result<Admission, NoMemory>
     requires { judge.now.change ≡ setup.now.change }

@@ -2,7 +2,7 @@
 
 ghost use Rattle.std.specs.Prelude.{◌≡◌};
 ghost use Rattle.board_model.specs.Settling.{staying_verdict};
-ghost use Rattle.board_source.specs.Parts.{staying_of};
+ghost use Rattle.board_source.specs.Refinement.{staying_of};
 
 use acq_base::Bytes;
 use release_file::Release;
@@ -10,7 +10,7 @@ use update_model::{Cause, Verdict2};
 
 /// A Release that may be installed, with its bytes.
 #[derive(Drop)]
-pub struct Found {
+pub struct AdmittedRelease {
     pub bytes: Bytes,
     pub release: Release,
 }

@@ -3,7 +3,7 @@
 ghost use Rattle.std.specs.Prelude.{◌≡◌, ◌+◌, ◌<◌, ◌≤◌, IfOk, OnOk, option_map, option_copied, slice_get};
 ghost use Rattle.std.specs.List.{list_all};
 ghost use Rattle.host_queues.specs.Lanes.{changed_at};
-ghost use Rattle.board_model.specs.Slots.{ask_of, has_ended, joined, stepped};
+ghost use Rattle.board_model.specs.Slots.{ask_of, has_ended, joined, item_after};
 ghost use Rattle.board_source.specs.Listed.{count_asking, is_asking as asks_now, one_if, standing_of, standings};
 
 use acq_base::NoMemory;
@@ -67,7 +67,7 @@ fn heard(
     lane: u32,
     closed: Closed,
 ) -> Result<Option<Item>, NoMemory>
-    ensures { IfOk result (λ new. option_map standing_of new ≡ option_map (stepped (record { lane = lane; closed = closed })) (option_map standing_of item)) }
+    ensures { IfOk result (λ new. option_map standing_of new ≡ option_map (item_after (record { lane = lane; closed = closed })) (option_map standing_of item)) }
 {
     match item {
         Some(mut item) => {
@@ -104,7 +104,7 @@ impl Lists {
         lane: u32,
         closed: Closed,
     ) -> Result<(), NoMemory>
-        ensures { OnOk result (standings self.new.items.items ≡ changed_at place (option_map (stepped (record { lane = lane; closed = closed }))) (standings self.old.items.items)) }
+        ensures { OnOk result (standings self.new.items.items ≡ changed_at place (option_map (item_after (record { lane = lane; closed = closed }))) (standings self.old.items.items)) }
     {
         if place >= self.items.len() {
             drop(closed);

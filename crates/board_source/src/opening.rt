@@ -6,9 +6,9 @@ ghost use Rattle.board_model.specs.Slots.{first_list, is_there, stands_there};
 ghost use Rattle.update_model.specs.Next.{same_bytes};
 ghost use Rattle.board_source.specs.Listed.{standing_of, standings};
 ghost use Rattle.board_source.specs.Names.{NamesDiffer};
-ghost use Rattle.board_source.specs.Parts.{config_of, found_of};
+ghost use Rattle.board_source.specs.Refinement.{config_of, found_of};
 
-use crate::found::Found;
+use crate::found::AdmittedRelease;
 use crate::lists::{Lists, count};
 use crate::naming::by_name;
 use crate::setup::Setup;
@@ -19,7 +19,7 @@ use std::alloc::Global;
 
 /// The lists of a source, and whether just this set is installed already.
 #[derive(Drop)]
-pub struct Begun {
+pub struct NewLists {
     pub lists: Lists,
     pub there: bool,
 }
@@ -30,8 +30,8 @@ pub fn begin_lists(
     setup: &Setup,
     source: &Source,
     old: Old,
-    found: &Found,
-) -> Result<Begun, NoMemory>
+    found: &AdmittedRelease,
+) -> Result<NewLists, NoMemory>
     requires { NamesDiffer source.now }
     ensures lists { IfOk result (λ begun. standings begun.lists.items.items
         ≡ map (first_list (config_of setup.now) source.now found.now.release (named old.lists)) source.now.targets) }
@@ -49,7 +49,7 @@ pub fn begin_lists(
         items.push(list.item)?;
     }
     let asking = count(&items);
-    Ok(Begun {
+    Ok(NewLists {
         lists: Lists { items, asking },
         there,
     })

@@ -23,7 +23,7 @@ pub struct Setup {
 
 impl Setup {
     ghost use Rattle.std.specs.Prelude.{◌≡◌};
-    ghost use Rattle.board_source.specs.Parts.{config_of};
+    ghost use Rattle.board_source.specs.Refinement.{config_of};
 
     /// The size of a list's partial file, 0 where there is none.
     pub fn size(&self, name: &ListName) -> u64

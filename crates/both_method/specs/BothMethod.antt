@@ -3,7 +3,7 @@ use Rattle.std.specs.Prelude.{◌≡◌, ℕ, ◌==◌, Bool, true, false, if◌
 use Rattle.acq_base.specs.declared.fetch.Reply.TheVariants as replies
 use Rattle.acq_base.specs.declared.uri.Scheme.{Scheme}
 use Rattle.acq_base.specs.declared.uri.Scheme.TheVariants.{Http, File}
-use Rattle.acq_base.specs.Mirror.{World}
+use Rattle.acq_base.specs.Mirror.{MirrorMap}
 use Rattle.acq_base.specs.Uri.{scheme_index}
 use Rattle.acq_outside.specs.Count.{one_more}
 use Rattle.acq_outside.specs.declared.method.Method.{Ghosts}
@@ -30,12 +30,12 @@ abbrev pub IsTurn : Option Scheme → Option Fetch → Option Fetch → Type 0
 IsTurn turn files peers = IfSome (under_of turn files peers) (λ fetch. turn ≡ Some fetch.job.uri.scheme)
 
 -- a mirror's answers to URIs of one scheme
-abbrev pub entries_of : Scheme → World → World
+abbrev pub entries_of : Scheme → MirrorMap → MirrorMap
 entries_of scheme [] = []
 entries_of scheme (entry ∷ entries) = if scheme_index entry.0.scheme == scheme_index scheme then entry ∷ entries_of scheme entries else entries_of scheme entries
 
 -- both mirrors together, where both are told: each for its own scheme
-abbrev pub joined : Option World → Option World → Option World
+abbrev pub joined : Option MirrorMap → Option MirrorMap → Option MirrorMap
 joined None peers = None
 joined (Some files) None = None
 joined (Some files) (Some peers) = Some (entries_of File files ++ entries_of Http peers)
@@ -53,7 +53,7 @@ abbrev pub own_count : ℕ → Word → ℕ
 own_count count word = if is_fault word then one_more count else count
 
 -- It is the word of the one that was asked, whose counts were these, but that a fault tells one's own count, which rose.
-pub record IsTheirs (their_before their_after : ℕ) (world : Option World) (fetch : Fetch) (under : Option Fetch) (before after : ℕ) (word : Word) : Type 0 where
+pub record IsTheirs (their_before their_after : ℕ) (world : Option MirrorMap) (fetch : Fetch) (under : Option Fetch) (before after : ℕ) (word : Word) : Type 0 where
   pub their : Word
   pub is : IsWord their_before their_after world fetch under their
   pub same : word ≡ own_word before after their
@@ -66,7 +66,7 @@ faults_of method = method.faults
 -- ---- over the two methods
 
 -- the mirror that is told
-abbrev pub world_of : {F H : Type 0} → Ghosts F → Ghosts H → BothState F H → Option World
+abbrev pub world_of : {F H : Type 0} → Ghosts F → Ghosts H → BothState F H → Option MirrorMap
 world_of f h method = joined (f.world method.files) (h.world method.peers)
 
 -- the fetch under way

@@ -4,7 +4,7 @@ use acq_base::NoMemory;
 use std::alloc::{AllocError, AllocFailed};
 
 /// Why a line has no answer.
-#[derive(Clone, Copy, Debug, PartialEq, Eq)]
+#[derive(Clone, Copy, PartialEq, Eq)]
 pub enum Refused {
     /// The line is no call.
     NoCall,

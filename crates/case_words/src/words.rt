@@ -9,14 +9,14 @@ use std::alloc::Global;
 use std::mem;
 
 /// A part of a piece: a byte, or the number of the time that the piece stands.
-#[derive(Clone, Copy, Debug, PartialEq, Eq)]
+#[derive(Clone, Copy, PartialEq, Eq)]
 enum Part {
     Byte(u8),
     Number,
 }
 
 /// What the byte before was a part of.
-#[derive(Clone, Copy, Debug, PartialEq, Eq)]
+#[derive(Clone, Copy, PartialEq, Eq)]
 enum At {
     Blank,
     Bare,

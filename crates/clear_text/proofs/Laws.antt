@@ -7,7 +7,7 @@ use Rattle.std.specs.Str.Lines.{lines as text_lines, strip_carriage_return}
 use Rattle.std.proofs.lemmas.Bool.{cases_Bool, and_parts, not-true, false≢true}
 use Rattle.acq_base.proofs.Texts.{bytes_eq-true}
 use Rattle.clear_text.specs.Frame.{begin_line, is_line, IsFrame, ended}
-use Rattle.clear_text.specs.Refused.{CanBegin, IsRefused, Tells}
+use Rattle.clear_text.specs.Refused.{CanBegin, IsRefused, IsUnframedOf}
 use Rattle.clear_text.specs.Unframed.{in_headers, framed, unframed_lines, unframed}
 use Rattle.clear_text.specs.declared.error.FrameError.{FrameError}
 use Rattle.clear_text.specs.declared.error.FrameError.TheVariants.{NoMemory}
@@ -29,19 +29,19 @@ framed-err : (read : Result (List ℕ) FrameError) (fault : FrameError) → fram
 framed-err (Ok bytes) fault e = absurd cc
 framed-err (Err other) fault e = cc
 
-told_lines : (lines : List (List ℕ)) (text : Option (List ℕ)) → unframed_lines lines ≡ Ok text → Tells lines text
+told_lines : (lines : List (List ℕ)) (text : Option (List ℕ)) → unframed_lines lines ≡ Ok text → IsUnframedOf lines text
 unfolding unframed_lines
-told_lines [] text e = let none : text ≡ None = cc in subst (Tells []) (sym none) tt
+told_lines [] text e = let none : text ≡ None = cc in subst (IsUnframedOf []) (sym none) tt
 told_lines (line ∷ lines) text e =
     elim (cases_Bool (bytes_eq line begin_line)) [
       | inl is ↦
           let read = framed-ok (in_headers 2 lines) text (rw is at e) in
           let whole = sound lines read.0 read.1 in
-          subst (Tells (line ∷ lines)) (sym read.2) (whole.0, subst (λ l. IsFrame (l ∷ lines) whole.0) (sym (bytes_eq-true line begin_line is)) whole.1, whole.2)
+          subst (IsUnframedOf (line ∷ lines)) (sym read.2) (whole.0, subst (λ l. IsFrame (l ∷ lines) whole.0) (sym (bytes_eq-true line begin_line is)) whole.1, whole.2)
       | inr isnt ↦
           let plain : Ok None ≡ Ok text = rw isnt at e in
           let none : text ≡ None = cc in
-          subst (Tells (line ∷ lines)) (sym none) (differs line isnt)
+          subst (IsUnframedOf (line ∷ lines)) (sym none) (differs line isnt)
     ]
 
 -- ---- what is refused
@@ -86,7 +86,7 @@ refused_lines (line ∷ lines) fault e =
 abbrev Answers : Result (Option (List ℕ)) FrameError → List ℕ → Type 0
 Answers result bytes = (result ≡ Err NoMemory) ⊎ (result ≡ unframed bytes)
 
-pub told : (result : Result (Option (List ℕ)) FrameError) (bytes : List ℕ) → Answers result bytes → IfOk result (Tells (text_lines bytes))
+pub told : (result : Result (Option (List ℕ)) FrameError) (bytes : List ℕ) → Answers result bytes → IfOk result (IsUnframedOf (text_lines bytes))
 unfolding unframed
 told (Ok text) bytes (inl memory) = absurd cc
 told (Ok text) bytes (inr is) = told_lines (text_lines bytes) text (sym is)

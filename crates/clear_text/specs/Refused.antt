@@ -33,9 +33,9 @@ IsPlain [] = Unit {0}
 IsPlain (line ∷ lines) = line ≢ begin_line
 
 -- what is told of lines: that they are plain, or the text within their frame
-abbrev pub Tells : List (List ℕ) → Option (List ℕ) → Type 0
-Tells lines None = IsPlain lines
-Tells lines (Some bytes) = (text : List (List ℕ)) × IsFrame lines text × (bytes ≡ ended text)
+abbrev pub IsUnframedOf : List (List ℕ) → Option (List ℕ) → Type 0
+IsUnframedOf lines None = IsPlain lines
+IsUnframedOf lines (Some bytes) = (text : List (List ℕ)) × IsFrame lines text × (bytes ≡ ended text)
 
 abbrev pub refusal_number : FrameError → ℕ
 refusal_number (BadFrame line) = 33

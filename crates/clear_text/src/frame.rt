@@ -5,7 +5,7 @@ ghost use Rattle.std.specs.Str.Lines.{lines as text_lines};
 ghost use Rattle.std.specs.List.{list_all};
 ghost use Rattle.acq_base.specs.Words.{is_blank as blank};
 ghost use Rattle.clear_text.specs.Frame.{IsFrame, ended, is_line};
-ghost use Rattle.clear_text.specs.Refused.{IsRefused, Tells};
+ghost use Rattle.clear_text.specs.Refused.{IsRefused, IsUnframedOf};
 ghost use Rattle.clear_text.specs.Unframed.{unframed, unescaped as unescaped_line, in_headers, in_text, in_signature, behind_frame};
 ghost use Rattle.clear_text.specs.Lines.{IsCounted, with_front};
 
@@ -35,7 +35,7 @@ const END: &[u8] = b"-----END PGP SIGNATURE-----";
 pub fn unframe(alloc: Global, bytes: &[u8]) -> Result<Option<Bytes>, FrameError>
     ensures value { (result ≡ Err FrameError.NoMemory) ⊎ (result ≡ unframed bytes.now) }
     // None is answered of lines that begin no frame, and a text of a frame around its lines.
-    ensures told { IfOk result (λ text. Tells (text_lines bytes.now) text) }
+    ensures told { IfOk result (λ text. IsUnframedOf (text_lines bytes.now) text) }
     // The text within every frame is answered.
     ensures framed { (text : List (List ℕ)) → IsFrame (text_lines bytes.now) text
         → (result ≡ Err FrameError.NoMemory) ⊎ (result ≡ Ok (Some (ended text))) }

@@ -2,6 +2,9 @@
 //!
 //! Words are accepted exactly where the simple command that specs/ writes down takes them, by clap's own definition of
 //! what a command takes, and where N is a number.
+//!
+//! `read_words` is what the words of a command line ask for, by clap's own definition of the words that a command
+//! takes.
 #![tactic(auto)]
 
 pub use reading::read_words;

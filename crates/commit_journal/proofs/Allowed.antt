@@ -4,7 +4,7 @@ use Rattle.journal_model.specs.Names.{partial}
 use Rattle.journal_model.specs.Reading.{is_name_of, is_allowed, clashes, step_named}
 use Rattle.journal_model.specs.Spelling.{all_steps, AreAllowed}
 use Rattle.journal_model.proofs.Fine.{AreFine, IsFit, fit_name, fine_push, none_fine}
-use Rattle.journal_model.proofs.Twice.{Apart, partial_other}
+use Rattle.journal_model.proofs.Twice.{ChangeDifferentNames, partial_other}
 use Rattle.journal_model.specs.Steps.{IsIn, Touches}
 use Rattle.journal_model.specs.declared.step.Step.{Step}
 use Rattle.journal_model.specs.declared.step.Step.TheVariants as steps
@@ -13,7 +13,7 @@ use Rattle.std.specs.Prelude.{not}
 use Rattle.std.proofs.lemmas.Bool.{and_parts}
 use Rattle.commit_journal.specs.declared.changing.Change.{Change}
 use Rattle.commit_journal.specs.declared.changing.Change.TheVariants.{Put, Drop}
-use Rattle.commit_journal.specs.Changes.{steps_of, steps_in, all_changes, touched, IsNone, AreApart, AllAllowed, CanRecord}
+use Rattle.commit_journal.specs.Changes.{steps_of, steps_in, all_changes, changed_names, IsNone, AreApart, AllAllowed, CanRecord}
 use Rattle.commit_journal.proofs.Recordable.{all_in}
 
 -- their names are those that a record may have
@@ -37,13 +37,13 @@ all_fine (steps.Put name ∷ more) before fine allowed =
 all_fine (steps.Drop name ∷ more) before fine allowed =
     subst AreFine (append_assoc before (steps.Drop name ∷ []) more) (all_fine more (before ++ steps.Drop name ∷ []) (fine_push before false name fine allowed.0) allowed.1)
 
-none_of : (name : List ℕ) (changes : List Change) → ((other : Step) → IsIn other (steps_of changes) → Touches other name → ⊥) → IsNone name (touched changes)
+none_of : (name : List ℕ) (changes : List Change) → ((other : Step) → IsIn other (steps_of changes) → Touches other name → ⊥) → IsNone name (changed_names changes)
 none_of name [] no_touch = tt
 none_of name (Put other content ∷ changes) no_touch =
     ((λ is. no_touch (steps.Put other.0) (inl refl) (inl (sym is))), ((λ is. no_touch (steps.Put other.0) (inl refl) (inr (sym is))), none_of name changes (λ step is. no_touch step (inr is))))
 none_of name (Drop other ∷ changes) no_touch = ((λ is. no_touch (steps.Drop other) (inl refl) (sym is)), none_of name changes (λ step is. no_touch step (inr is)))
 
-touched_apart : (changes : List Change) → Apart (steps_of changes) → AreApart (touched changes)
+touched_apart : (changes : List Change) → ChangeDifferentNames (steps_of changes) → AreApart (changed_names changes)
 touched_apart [] apart = tt
 touched_apart (Put name content ∷ changes) apart = (
   ((λ is. partial_other name.0 (sym is)), none_of name.0 changes (λ other is touch. apart.0 other name.0 is (inl refl) touch)),

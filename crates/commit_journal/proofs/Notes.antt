@@ -4,18 +4,18 @@ use Rattle.std.proofs.lemmas.List.{get_or-set_same, get_or-set_other, append-nil
 use Rattle.std.proofs.lemmas.Option.{same_Some}
 use Rattle.acq_outside.specs.Disk.{Files, spliced}
 use Rattle.acq_outside.specs.Crash.{State, Names, IsSound, AllSound, IsShown, IsTorn, Goes, after, changed_file, on_file, cut_or_made, file_at, no_file, names_of, all_renamed, reads, seen_at, synced, all_any, file_written, file_cut}
-use Rattle.acq_outside.specs.Moments.{Stands, Since}
+use Rattle.acq_outside.specs.States.{IsNow, Since}
 use Rattle.acq_outside.proofs.Traces.{apart_now}
 use Rattle.acq_outside.proofs.Crashes.{names_back, leaves_as_done}
 use Rattle.acq_outside.proofs.Going.{goes}
-use Rattle.acq_outside.specs.declared.change.Change.TheVariants.{Write, Cut, Sync, SyncNames}
+use Rattle.acq_outside.specs.declared.change.DiskCall.TheVariants.{Write, Cut, Sync, SyncNames}
 use Rattle.acq_outside.specs.declared.state.FileState.{FileState}
 use Rattle.acq_outside.specs.declared.state.NameChange.{NameChange}
-use Rattle.journal_model.specs.Names.{journal, is_list}
-use Rattle.journal_model.specs.Rest.{AllAside, IsClosed, IsIdle, StaysAtRest, KeepsRest, file_named}
+use Rattle.journal_model.specs.Names.{journal, is_installed_name}
+use Rattle.journal_model.specs.Rest.{AllChangeNoInstalledName, IsShut, IsIdle, KeepsAtRest, KeptAtRestSince, file_named}
 use Rattle.journal_model.proofs.Views.{list_not_aside, list_not_journal}
 use Rattle.journal_model.proofs.Aside.{idle_quiet, quiet_unrecorded, leads_now, changed_by, first_kept, reads_named}
-use Rattle.commit_journal.specs.Laying.{IsIdleUnmoved, IsNoted, IsNotedLastingly}
+use Rattle.commit_journal.specs.Laying.{IsIdleUnmoved, HasRecordWritten, HasRecordSynced}
 use Rattle.commit_journal.proofs.Carries.{turned_state, kept_closed}
 use Rattle.commit_journal.proofs.Recovers.{names_recover, never}
 use Rattle.commit_journal.proofs.Others.{torn_as_done}
@@ -28,11 +28,11 @@ pub record IsBehind (s t : State) (idle : IsIdle s) : Type 0 where
   base : t.base ≡ s.base
   pending : t.pending ≡ s.pending
   files : (k : ℕ) → k ≢ idle.number → file_at t.files k ≡ file_at s.files k
-  closed : IsClosed (file_at t.files idle.number)
+  closed : IsShut (file_at t.files idle.number)
 
 idle_in : (s t : State) (idle : IsIdle s) → IsBehind s t idle → IsIdle t
 idle_in s t idle is = record {
-  aside = subst (λ (l : List NameChange). AllAside l) (sym is.pending) idle.aside;
+  aside = subst (λ (l : List NameChange). AllChangeNoInstalledName l) (sym is.pending) idle.aside;
   number = idle.number;
   leads = ap (λ (m : Names). m journal) is.base ∙ idle.leads;
   closed = is.closed;
@@ -41,17 +41,17 @@ idle_in s t idle is = record {
 names_in : (s t : State) (idle : IsIdle s) → IsBehind s t idle → names_of t ≡ names_of s
 names_in s t idle is = ap (λ (l : List NameChange). all_renamed t.base l) is.pending ∙ ap (λ (m : Names). all_renamed m s.pending) is.base
 
-list_other : (s : State) (idle : IsIdle s) → IsSound s → (list : List ℕ) (k : ℕ) → is_list list ≡ true → names_of s list ≡ Some k → k ≢ idle.number
+list_other : (s : State) (idle : IsIdle s) → IsSound s → (list : List ℕ) (k : ℕ) → is_installed_name list ≡ true → names_of s list ≡ Some k → k ≢ idle.number
 list_other s idle sound list k is leads same = list_not_journal list is ((apart_now s sound).one list journal k leads (journal_now s idle ∙ ap (λ (n : ℕ). Some n) (sym same)))
 
-list_file : (s t : State) (idle : IsIdle s) → IsSound s → IsBehind s t idle → (list : List ℕ) → is_list list ≡ true → file_named t list ≡ file_named s list
+list_file : (s t : State) (idle : IsIdle s) → IsSound s → IsBehind s t idle → (list : List ℕ) → is_installed_name list ≡ true → file_named t list ≡ file_named s list
 list_file s t idle sound is list of_list = ap (λ (m : Names). option_map (file_at t.files) (m list)) (names_in s t idle is) ∙ at (names_of s list) refl
   where
     at : (o : Option ℕ) → names_of s list ≡ o → option_map (file_at t.files) o ≡ option_map (file_at s.files) o
     at None leads = refl
     at (Some k) leads = ap (λ (f : FileState). Some f) (is.files k (list_other s idle sound list k of_list leads))
 
-behind_stays : (s t : State) (idle : IsIdle s) → IsSound s → IsBehind s t idle → StaysAtRest s t
+behind_stays : (s t : State) (idle : IsIdle s) → IsSound s → IsBehind s t idle → KeepsAtRest s t
 behind_stays s t idle sound is = record {
   rest = λ before folder rest. record {
     leaves = λ image left.
@@ -70,16 +70,16 @@ behind_stays s t idle sound is = record {
   idle = λ before. idle_in s t idle is;
 }
 
-turned_behind : (s : State) (idle : IsIdle s) (file : FileState) → IsSound s → IsClosed file → IsBehind s (turned_state s idle.number file) idle
+turned_behind : (s : State) (idle : IsIdle s) (file : FileState) → IsSound s → IsShut file → IsBehind s (turned_state s idle.number file) idle
 turned_behind s idle file sound closed = record {
   base = refl;
   pending = refl;
   files = λ k differ. get_or-set_other s.files idle.number k file no_file differ;
-  closed = subst IsClosed (sym (get_or-set_same s.files idle.number file no_file ((apart_now s sound).below journal idle.number (journal_now s idle)))) closed;
+  closed = subst IsShut (sym (get_or-set_same s.files idle.number file no_file ((apart_now s sound).below journal idle.number (journal_now s idle)))) closed;
 }
 
-closed_seen : (file torn : FileState) (seen : List ℕ) → torn ≡ record file { seen = seen } → IsClosed file → IsClosed torn
-closed_seen file torn seen is closed = subst IsClosed (sym is) (record { rest = closed.rest; cells = closed.cells; least = closed.least })
+closed_seen : (file torn : FileState) (seen : List ℕ) → torn ≡ record file { seen = seen } → IsShut file → IsShut torn
+closed_seen file torn seen is closed = subst IsShut (sym is) (record { rest = closed.rest; cells = closed.cells; least = closed.least })
 
 torn_behind : (s done torn : State) (idle : IsIdle s) (changed : Option ℕ) → ((k : ℕ) → Some k ≡ changed → k ≡ idle.number) → IsTorn changed done torn → IsBehind s done idle → IsBehind s torn idle
 torn_behind s done torn idle changed at part is = record {
@@ -93,7 +93,7 @@ torn_behind s done torn idle changed at part is = record {
 names_behind : (s : State) → IsIdle s → IsIdle (after s SyncNames)
 names_behind s idle = record { aside = tt; number = idle.number; leads = journal_now s idle; closed = idle.closed }
 
-names_stay : (s : State) → IsIdle s → StaysAtRest s (after s SyncNames)
+names_stay : (s : State) → IsIdle s → KeepsAtRest s (after s SyncNames)
 names_stay s idle = record {
   rest = λ before folder rest. record {
     leaves = λ image left. rest.leaves image (names_back s image left);
@@ -108,13 +108,13 @@ torn_names done torn part = ap (λ (l : List NameChange). all_renamed torn.base 
 
 torn_idle : (done torn : State) → IsTorn None done torn → IsIdle done → IsIdle torn
 torn_idle done torn part idle = record {
-  aside = subst (λ (l : List NameChange). AllAside l) (sym part.pending) idle.aside;
+  aside = subst (λ (l : List NameChange). AllChangeNoInstalledName l) (sym part.pending) idle.aside;
   number = idle.number;
   leads = ap (λ (m : Names). m journal) part.base ∙ idle.leads;
-  closed = subst IsClosed (sym (part.others idle.number (never idle.number))) idle.closed;
+  closed = subst IsShut (sym (part.others idle.number (never idle.number))) idle.closed;
 }
 
-torn_stays : (s done torn : State) → IsTorn None done torn → IsIdle done → StaysAtRest s done → StaysAtRest s torn
+torn_stays : (s done torn : State) → IsTorn None done torn → IsIdle done → KeepsAtRest s done → KeepsAtRest s torn
 torn_stays s done torn part idle stays = record {
   rest = λ before folder rest.
       let now = stays.rest before folder rest in
@@ -130,16 +130,16 @@ torn_stays s done torn part idle stays = record {
   idle = λ before. torn_idle done torn part idle;
 }
 
-pub names_noted : {T E : Type 0} (old new : List State) (result : Result T E) → AllSound old → Stands IsIdle old → Goes SyncNames old new result → Since old new (KeepsRest old) × OnOk result (Stands IsIdleUnmoved new)
+pub names_noted : {T E : Type 0} (old new : List State) (result : Result T E) → AllSound old → IsNow IsIdle old → Goes SyncNames old new result → Since old new (KeptAtRestSince old) × OnOk result (IsNow IsIdleUnmoved new)
 names_noted old new result sound stands is =
-    goes StaysAtRest IsIdle IsIdleUnmoved SyncNames old new result sound
+    goes KeepsAtRest IsIdle IsIdleUnmoved SyncNames old new result sound
     (λ s _ idle. names_stay s idle)
     (λ s torn _ idle part. torn_stays s (after s SyncNames) torn part (names_behind s idle) (names_stay s idle))
     (λ s _ idle. record { idle = names_behind s idle; unmoved = refl })
     stands is
 
 -- What stands behind the gate is cut.
-cut_closed : (file : FileState) → IsClosed file → IsClosed (file_cut file 1)
+cut_closed : (file : FileState) → IsShut file → IsShut (file_cut file 1)
 cut_closed file closed = record { rest = closed.rest; cells = closed.cells; least = omega (arith, closed.least) }
 
 cut_is : (s : State) (idle : IsIdle s) → after s (Cut journal 1) ≡ turned_state s idle.number (file_cut (file_at s.files idle.number) 1)
@@ -161,25 +161,25 @@ seen_here s idle file bytes sound is i leads =
 first_seen : (s : State) (idle : IsIdle s) → IsSound s → (later : List ℕ) × ((file_at s.files idle.number).seen ≡ 0 ∷ later)
 first_seen s idle sound = first_kept (file_at s.files idle.number) idle.closed (file_at s.files idle.number).seen (sound.outcomes idle.number)
 
-cut_ends : (s : State) → IsSound s → IsIdleUnmoved s → IsNoted (0 ∷ []) (after s (Cut journal 1))
+cut_ends : (s : State) → IsSound s → IsIdleUnmoved s → HasRecordWritten (0 ∷ []) (after s (Cut journal 1))
 cut_ends s sound has =
     let file : FileState = file_cut (file_at s.files has.idle.number) 1 in
-    subst (IsNoted (0 ∷ [])) (sym (cut_is s has.idle)) (record {
+    subst (HasRecordWritten (0 ∷ [])) (sym (cut_is s has.idle)) (record {
       idle = idle_in s (turned_state s has.idle.number file) has.idle (turned_behind s has.idle file sound (cut_closed (file_at s.files has.idle.number) has.idle.closed));
       unmoved = has.unmoved;
       seen = seen_here s has.idle file (0 ∷ []) sound (ap (take 1) (first_seen s has.idle sound).1);
     })
 
-pub cut_noted : {T E : Type 0} (name : List ℕ) (old new : List State) (result : Result T E) → name ≡ journal → AllSound old → Stands IsIdleUnmoved old → Goes (Cut name 1) old new result → Since old new (KeepsRest old) × OnOk result (Stands (IsNoted (0 ∷ [])) new)
+pub cut_noted : {T E : Type 0} (name : List ℕ) (old new : List State) (result : Result T E) → name ≡ journal → AllSound old → IsNow IsIdleUnmoved old → Goes (Cut name 1) old new result → Since old new (KeptAtRestSince old) × OnOk result (IsNow (HasRecordWritten (0 ∷ [])) new)
 cut_noted name old new result same sound stands is =
-    goes StaysAtRest IsIdleUnmoved (IsNoted (0 ∷ [])) (Cut journal 1) old new result sound
+    goes KeepsAtRest IsIdleUnmoved (HasRecordWritten (0 ∷ [])) (Cut journal 1) old new result sound
     (λ s sound_s has. behind_stays s (after s (Cut journal 1)) has.idle sound_s (cut_behind s has.idle sound_s))
     (λ s torn sound_s has part. behind_stays s torn has.idle sound_s (torn_behind s (after s (Cut journal 1)) torn has.idle (changed_file s (Cut journal 1)) (λ k at. same_Some k has.idle.number (at ∙ cut_changed s has.idle)) part (cut_behind s has.idle sound_s)))
     (λ s sound_s has. cut_ends s sound_s has)
     stands (subst (λ (n : List ℕ). Goes (Cut n 1) old new result) same is)
 
 -- The body is written.
-write_closed : (file : FileState) (body : List ℕ) → file.seen ≡ 0 ∷ [] → IsClosed file → IsClosed (file_written file 1 body)
+write_closed : (file : FileState) (body : List ℕ) → file.seen ≡ 0 ∷ [] → IsShut file → IsShut (file_written file 1 body)
 write_closed file body seen closed = record {
   rest = all_any body ++ drop (1 + length (all_any body)) (Some 0 ∷ closed.rest);
   cells =
@@ -191,58 +191,58 @@ write_closed file body seen closed = record {
 write_is : (s : State) (idle : IsIdle s) (body : List ℕ) → after s (Write journal 1 body) ≡ turned_state s idle.number (file_written (file_at s.files idle.number) 1 body)
 write_is s idle body = ap (λ (o : Option ℕ). on_file s o (λ file. file_written file 1 body)) (journal_now s idle)
 
-write_file_closed : (s : State) (body : List ℕ) → (has : IsNoted (0 ∷ []) s) → IsClosed (file_written (file_at s.files has.idle.number) 1 body)
+write_file_closed : (s : State) (body : List ℕ) → (has : HasRecordWritten (0 ∷ []) s) → IsShut (file_written (file_at s.files has.idle.number) 1 body)
 write_file_closed s body has = write_closed (file_at s.files has.idle.number) body (has.seen has.idle.number has.idle.leads) has.idle.closed
 
-write_behind : (s : State) (body : List ℕ) (has : IsNoted (0 ∷ []) s) → IsSound s → IsBehind s (after s (Write journal 1 body)) has.idle
+write_behind : (s : State) (body : List ℕ) (has : HasRecordWritten (0 ∷ []) s) → IsSound s → IsBehind s (after s (Write journal 1 body)) has.idle
 write_behind s body has sound = subst (λ (t : State). IsBehind s t has.idle) (sym (write_is s has.idle body)) (turned_behind s has.idle (file_written (file_at s.files has.idle.number) 1 body) sound (write_file_closed s body has))
 
 written_after : (body : List ℕ) → spliced (0 ∷ []) 1 body ≡ 0 ∷ body
 written_after body = ap (λ (later : List ℕ). (0 ∷ body) ++ later) (drop_all (1 + length body) (0 ∷ []) (omega arith)) ∙ append-nil (0 ∷ body)
 
-write_ends : (s : State) (body : List ℕ) → IsSound s → IsNoted (0 ∷ []) s → IsNoted (0 ∷ body) (after s (Write journal 1 body))
+write_ends : (s : State) (body : List ℕ) → IsSound s → HasRecordWritten (0 ∷ []) s → HasRecordWritten (0 ∷ body) (after s (Write journal 1 body))
 write_ends s body sound has =
     let file : FileState = file_written (file_at s.files has.idle.number) 1 body in
-    subst (IsNoted (0 ∷ body)) (sym (write_is s has.idle body)) (record {
+    subst (HasRecordWritten (0 ∷ body)) (sym (write_is s has.idle body)) (record {
       idle = idle_in s (turned_state s has.idle.number file) has.idle (turned_behind s has.idle file sound (write_file_closed s body has));
       unmoved = has.unmoved;
       seen = seen_here s has.idle file (0 ∷ body) sound (ap (λ (old : List ℕ). spliced old 1 body) (has.seen has.idle.number has.idle.leads) ∙ written_after body);
     })
 
-pub write_noted : {T E : Type 0} (name body : List ℕ) (old new : List State) (result : Result T E) → name ≡ journal → AllSound old → Stands (IsNoted (0 ∷ [])) old → Goes (Write name 1 body) old new result → Since old new (KeepsRest old) × OnOk result (Stands (IsNoted (0 ∷ body)) new)
+pub write_noted : {T E : Type 0} (name body : List ℕ) (old new : List State) (result : Result T E) → name ≡ journal → AllSound old → IsNow (HasRecordWritten (0 ∷ [])) old → Goes (Write name 1 body) old new result → Since old new (KeptAtRestSince old) × OnOk result (IsNow (HasRecordWritten (0 ∷ body)) new)
 write_noted name body old new result same sound stands is =
-    goes StaysAtRest (IsNoted (0 ∷ [])) (IsNoted (0 ∷ body)) (Write journal 1 body) old new result sound
+    goes KeepsAtRest (HasRecordWritten (0 ∷ [])) (HasRecordWritten (0 ∷ body)) (Write journal 1 body) old new result sound
     (λ s sound_s has. behind_stays s (after s (Write journal 1 body)) has.idle sound_s (write_behind s body has sound_s))
     (λ s torn sound_s has part. behind_stays s torn has.idle sound_s (torn_behind s (after s (Write journal 1 body)) torn has.idle (names_of s journal) (λ k at. same_Some k has.idle.number (at ∙ journal_now s has.idle)) part (write_behind s body has sound_s)))
     (λ s sound_s has. write_ends s body sound_s has)
     stands (subst (λ (n : List ℕ). Goes (Write n 1 body) old new result) same is)
 
 -- And synced.
-sync_is : (s : State) (body : List ℕ) (has : IsNoted (0 ∷ body) s) → after s (Sync journal) ≡ turned_state s has.idle.number (synced (0 ∷ body))
+sync_is : (s : State) (body : List ℕ) (has : HasRecordWritten (0 ∷ body) s) → after s (Sync journal) ≡ turned_state s has.idle.number (synced (0 ∷ body))
 sync_is s body has =
     ap (λ (o : Option ℕ). on_file s o (λ file. synced file.seen)) (journal_now s has.idle) ∙ ap (λ (seen : List ℕ). turned_state s has.idle.number (synced seen)) (has.seen has.idle.number has.idle.leads)
 
-sync_behind : (s : State) (body : List ℕ) (has : IsNoted (0 ∷ body) s) → IsSound s → IsBehind s (after s (Sync journal)) has.idle
+sync_behind : (s : State) (body : List ℕ) (has : HasRecordWritten (0 ∷ body) s) → IsSound s → IsBehind s (after s (Sync journal)) has.idle
 sync_behind s body has sound = subst (λ (t : State). IsBehind s t has.idle) (sym (sync_is s body has)) (turned_behind s has.idle (synced (0 ∷ body)) sound (kept_closed body))
 
-sync_ends : (s : State) (body : List ℕ) → IsSound s → IsNoted (0 ∷ body) s → IsNotedLastingly (0 ∷ body) (after s (Sync journal))
-sync_ends s body sound has = subst (IsNotedLastingly (0 ∷ body)) (sym (sync_is s body has)) (record {
+sync_ends : (s : State) (body : List ℕ) → IsSound s → HasRecordWritten (0 ∷ body) s → HasRecordSynced (0 ∷ body) (after s (Sync journal))
+sync_ends s body sound has = subst (HasRecordSynced (0 ∷ body)) (sym (sync_is s body has)) (record {
   unmoved = has.unmoved;
   number = has.idle.number;
   leads = has.idle.leads;
   file = get_or-set_same s.files has.idle.number (synced (0 ∷ body)) no_file ((apart_now s sound).below journal has.idle.number (journal_now s has.idle));
 })
 
-pub sync_noted : {T E : Type 0} (name body : List ℕ) (old new : List State) (result : Result T E) → name ≡ journal → AllSound old → Stands (IsNoted (0 ∷ body)) old → Goes (Sync name) old new result → Since old new (KeepsRest old) × OnOk result (Stands (IsNotedLastingly (0 ∷ body)) new)
+pub sync_noted : {T E : Type 0} (name body : List ℕ) (old new : List State) (result : Result T E) → name ≡ journal → AllSound old → IsNow (HasRecordWritten (0 ∷ body)) old → Goes (Sync name) old new result → Since old new (KeptAtRestSince old) × OnOk result (IsNow (HasRecordSynced (0 ∷ body)) new)
 sync_noted name body old new result same sound stands is =
-    goes StaysAtRest (IsNoted (0 ∷ body)) (IsNotedLastingly (0 ∷ body)) (Sync journal) old new result sound
+    goes KeepsAtRest (HasRecordWritten (0 ∷ body)) (HasRecordSynced (0 ∷ body)) (Sync journal) old new result sound
     (λ s sound_s has. behind_stays s (after s (Sync journal)) has.idle sound_s (sync_behind s body has sound_s))
     (λ s torn sound_s has part. behind_stays s torn has.idle sound_s (torn_behind s (after s (Sync journal)) torn has.idle None (λ k at. absurd (never k at)) part (sync_behind s body has sound_s)))
     (λ s sound_s has. sync_ends s body sound_s has)
     stands (subst (λ (n : List ℕ). Goes (Sync n) old new result) same is)
 
 -- The file that is cut or written is long enough.
-pub told_in : (P : State → Type 0) (Q : Files → Type 0) → ((s : State) → IsSound s → P s → Q (reads s)) → (tells : Bool) (files : Files) (trace : List State) → IsShown tells files trace → AllSound trace → Stands P trace → IsTrue tells → Q files
+pub told_in : (P : State → Type 0) (Q : Files → Type 0) → ((s : State) → IsSound s → P s → Q (reads s)) → (tells : Bool) (files : Files) (trace : List State) → IsShown tells files trace → AllSound trace → IsNow P trace → IsTrue tells → Q files
 told_in P Q each tells files [] shown sound stands told = absurd (let clash = sym shown ∙ told in cc)
 told_in P Q each tells files (s ∷ past) shown sound stands told = subst Q (sym shown.1) (each s sound.0 stands)
 
@@ -255,5 +255,5 @@ long_enough s sound has =
     let long : unwrap_or (reads s journal) [] ≡ 0 ∷ first.0 = ap (λ (o : Option (List ℕ)). unwrap_or o []) (journal_reads s has.idle) ∙ first.1 in
     omega (arith, ap (λ (l : List ℕ). length l) long)
 
-pub noted_there : (s : State) → IsSound s → IsNoted (0 ∷ []) s → IsSomeAnd (reads s journal) (λ content. 1 ≤ length content)
+pub noted_there : (s : State) → IsSound s → HasRecordWritten (0 ∷ []) s → IsSomeAnd (reads s journal) (λ content. 1 ≤ length content)
 noted_there s sound has = subst (λ (o : Option (List ℕ)). IsSomeAnd o (λ content. 1 ≤ length content)) (sym (journal_reads s has.idle ∙ ap (λ (b : List ℕ). Some b) (has.seen has.idle.number has.idle.leads))) (omega arith)

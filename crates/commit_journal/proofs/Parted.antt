@@ -2,15 +2,15 @@
 use Rattle.std.proofs.Common.{◌≡◌, refl, sym, ap, ◌∙◌, subst, arith, ℕ, zero, suc, ◌+◌, ◌<◌, List, [], ◌∷◌, ◌++◌, length, get_or, take, drop, append_assoc, add-one}
 use Rattle.std.proofs.lemmas.List.{append-nil}
 use Rattle.commit_journal.specs.declared.changing.Change.{Change}
-use Rattle.commit_journal.specs.Changes.{touched_one, touched, all_changes, IsNone, AreApart, AllAllowed}
+use Rattle.commit_journal.specs.Changes.{touched_one, changed_names, all_changes, IsNone, AreApart, AllAllowed}
 use Rattle.commit_journal.proofs.Recordable.{Away, none_parts, away_parts}
 
-pub touched_joined : (a b : List Change) → touched (a ++ b) ≡ touched a ++ touched b
+pub touched_joined : (a b : List Change) → changed_names (a ++ b) ≡ changed_names a ++ changed_names b
 touched_joined [] b = refl
-touched_joined (c ∷ a) b = ap (λ (l : List (List ℕ)). touched_one c ++ l) (touched_joined a b) ∙ sym (append_assoc (touched_one c) (touched a) (touched b))
+touched_joined (c ∷ a) b = ap (λ (l : List (List ℕ)). touched_one c ++ l) (touched_joined a b) ∙ sym (append_assoc (touched_one c) (changed_names a) (changed_names b))
 
-pub none_split : (a b : List Change) (name : List ℕ) → IsNone name (touched (a ++ b)) → IsNone name (touched a) × IsNone name (touched b)
-none_split a b name none = none_parts name (touched a) (touched b) (subst (λ (l : List (List ℕ)). IsNone name l) (touched_joined a b) none)
+pub none_split : (a b : List Change) (name : List ℕ) → IsNone name (changed_names (a ++ b)) → IsNone name (changed_names a) × IsNone name (changed_names b)
+none_split a b name none = none_parts name (changed_names a) (changed_names b) (subst (λ (l : List (List ℕ)). IsNone name l) (touched_joined a b) none)
 
 apart_parts : (a b : List (List ℕ)) → AreApart (a ++ b) → AreApart a × (AreApart b × Away a b)
 apart_parts [] b apart = (tt, (apart, tt))
@@ -19,8 +19,8 @@ apart_parts (x ∷ a) b apart =
     let rest = apart_parts a b apart.1 in
     ((here.0, rest.0), (rest.1.0, (here.1, rest.1.1)))
 
-pub apart_split : (a b : List Change) → AreApart (touched (a ++ b)) → AreApart (touched a) × (AreApart (touched b) × Away (touched a) (touched b))
-apart_split a b apart = apart_parts (touched a) (touched b) (subst (λ (l : List (List ℕ)). AreApart l) (touched_joined a b) apart)
+pub apart_split : (a b : List Change) → AreApart (changed_names (a ++ b)) → AreApart (changed_names a) × (AreApart (changed_names b) × Away (changed_names a) (changed_names b))
+apart_split a b apart = apart_parts (changed_names a) (changed_names b) (subst (λ (l : List (List ℕ)). AreApart l) (touched_joined a b) apart)
 
 none_of_first : (a : List (List ℕ)) (y : List ℕ) (b : List (List ℕ)) → Away a (y ∷ b) → IsNone y a
 none_of_first [] y b away = tt
@@ -68,5 +68,5 @@ pub group_next : (groups : List (List Change)) (i : ℕ) (group : List Change) �
 group_next groups i group below is =
     ap (λ (l : List Change). all_changes (take i groups) ++ l) (sym (append-nil group)) ∙ sym (all_joined (take i groups) (group ∷ [])) ∙ ap all_changes (take_next groups i group below is)
 
-pub away_split : (names : List (List ℕ)) (a b : List Change) → Away names (touched (a ++ b)) → Away names (touched a)
-away_split names a b away = (away_parts names (touched a) (touched b) (subst (λ (l : List (List ℕ)). Away names l) (touched_joined a b) away)).0
+pub away_split : (names : List (List ℕ)) (a b : List Change) → Away names (changed_names (a ++ b)) → Away names (changed_names a)
+away_split names a b away = (away_parts names (changed_names a) (changed_names b) (subst (λ (l : List (List ℕ)). Away names l) (touched_joined a b) away)).0

@@ -13,7 +13,7 @@ use Rattle.journal_model.specs.declared.step.Step.TheVariants as steps
 use Rattle.journal_model.proofs.Twice.{other_name}
 use Rattle.commit_journal.specs.declared.changing.Change.{Change}
 use Rattle.commit_journal.specs.declared.changing.Change.TheVariants.{Put, Drop}
-use Rattle.commit_journal.specs.Changes.{step_of, steps_of, steps_in, all_changes, touched_one, touched, IsNone, AreApart, AllAllowed, CanRecord}
+use Rattle.commit_journal.specs.Changes.{step_of, steps_of, steps_in, all_changes, touched_one, changed_names, IsNone, AreApart, AllAllowed, CanRecord}
 
 -- groups one after another
 pub steps_append : (a b : List Change) → steps_of (a ++ b) ≡ steps_of a ++ steps_of b
@@ -79,21 +79,21 @@ away_parts (name ∷ names) a b away =
 -- the changes before a step, and those that come
 abbrev AwayFrom : List Change → List Change → Type 0
 AwayFrom [] coming = Unit {0}
-AwayFrom (c ∷ before) coming = Away (touched_one c) (touched coming) × AwayFrom before coming
+AwayFrom (c ∷ before) coming = Away (touched_one c) (changed_names coming) × AwayFrom before coming
 
 clear_before : (change : Change) (before rest : List Change) → AwayFrom before (change ∷ rest) → AllClear (step_of change) (steps_of before)
 clear_before change [] rest away = tt
-clear_before change (c ∷ before) rest away = (clear_pair change c (away_parts (touched_one c) (touched_one change) (touched rest) away.0).0, clear_before change before rest away.1)
+clear_before change (c ∷ before) rest away = (clear_pair change c (away_parts (touched_one c) (touched_one change) (changed_names rest) away.0).0, clear_before change before rest away.1)
 
-pub away_first : (change : Change) (rest : List Change) → AreApart (touched_one change ++ touched rest) → Away (touched_one change) (touched rest) × AreApart (touched rest)
+pub away_first : (change : Change) (rest : List Change) → AreApart (touched_one change ++ changed_names rest) → Away (touched_one change) (changed_names rest) × AreApart (changed_names rest)
 away_first (Put name content) rest apart = ((apart.0.1, (apart.1.0, tt)), apart.1.1)
 away_first (Drop name) rest apart = ((apart.0, tt), apart.1)
 
 away_later : (before : List Change) (change : Change) (rest : List Change) → AwayFrom before (change ∷ rest) → AwayFrom before rest
 away_later [] change rest away = tt
-away_later (c ∷ before) change rest away = ((away_parts (touched_one c) (touched_one change) (touched rest) away.0).1, away_later before change rest away.1)
+away_later (c ∷ before) change rest away = ((away_parts (touched_one c) (touched_one change) (changed_names rest) away.0).1, away_later before change rest away.1)
 
-away_push : (before : List Change) (change : Change) (rest : List Change) → AwayFrom before rest → Away (touched_one change) (touched rest) → AwayFrom (before ++ change ∷ []) rest
+away_push : (before : List Change) (change : Change) (rest : List Change) → AwayFrom before rest → Away (touched_one change) (changed_names rest) → AwayFrom (before ++ change ∷ []) rest
 away_push [] change rest away own = (own, tt)
 away_push (c ∷ before) change rest away own = (away.0, away_push before change rest away.1 own)
 
@@ -103,7 +103,7 @@ fits_put name before fits clear = rw (fits, none_any (steps.Put name) before cle
 fits_drop : (name : List ℕ) (before : List Step) → is_name_of false name ≡ true → AllClear (steps.Drop name) before → is_allowed before false name ≡ true
 fits_drop name before fits clear = rw (fits, none_any (steps.Drop name) before clear) refl
 
-are_allowed : (changes before : List Change) → AllAllowed changes → AwayFrom before changes → AreApart (touched changes) → AreAllowed (steps_of before) (steps_of changes)
+are_allowed : (changes before : List Change) → AllAllowed changes → AwayFrom before changes → AreApart (changed_names changes) → AreAllowed (steps_of before) (steps_of changes)
 are_allowed [] before allowed away apart = tt
 are_allowed (Put name content ∷ changes) before allowed away apart =
     let first = away_first (Put name content) changes apart in (

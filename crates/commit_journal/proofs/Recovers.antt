@@ -4,14 +4,14 @@ use Rattle.std.proofs.lemmas.Bool.{cases_lt, cases_eq}
 use Rattle.std.proofs.lemmas.List.{get_or-set_same, get_or-set_other, set_past}
 use Rattle.acq_outside.specs.Disk.{Files}
 use Rattle.acq_outside.specs.Crash.{State, Names, IsImage, IsSound, AllSound, IsTorn, Goes, after, on_file, file_at, no_file, names_of, all_renamed, synced}
-use Rattle.acq_outside.specs.Moments.{Stands, Since, From}
+use Rattle.acq_outside.specs.States.{IsNow, Since, From}
 use Rattle.acq_outside.proofs.Crashes.{file_back, names_back, leaves_as_done}
 use Rattle.acq_outside.proofs.Going.{goes, onward, IsBySteps}
-use Rattle.acq_outside.specs.declared.change.Change.TheVariants.{Sync, SyncNames}
+use Rattle.acq_outside.specs.declared.change.DiskCall.TheVariants.{Sync, SyncNames}
 use Rattle.acq_outside.specs.declared.state.FileState.{FileState}
 use Rattle.acq_outside.specs.declared.state.NameChange.{NameChange}
-use Rattle.journal_model.specs.Names.{journal, is_aside, is_list}
-use Rattle.journal_model.specs.Rest.{IsRecorded, IsSettled, PutsFrom}
+use Rattle.journal_model.specs.Names.{journal, is_own_name, is_installed_name}
+use Rattle.journal_model.specs.Rest.{MayBePutByRecord, IsSynced, PutsPart}
 use Rattle.journal_model.proofs.Views.{as_self, as_by_steps, partial_aside, list_not_journal}
 use Rattle.journal_model.specs.declared.step.Step.{Step}
 use Rattle.journal_model.specs.declared.step.Step.TheVariants.{Put, Drop}
@@ -19,27 +19,27 @@ use Rattle.commit_journal.specs.Opening.{Recovers}
 
 -- a name that counts for what is settled
 abbrev pub Counts : State → List ℕ → Type 0
-Counts s name = (is_list name ≡ true) ⊎ IsRecorded s name
+Counts s name = (is_installed_name name ≡ true) ⊎ MayBePutByRecord s name
 
 pub by_steps : IsBySteps Recovers
 by_steps a b c first later = record { images = as_by_steps a b c first.images later.images; settled = λ settled. later.settled (first.settled settled) }
 
-pub recorded_back : (s t : State) (name : List ℕ) → ((image : Files) → IsImage t image → IsImage s image) → IsRecorded t name → IsRecorded s name
+pub recorded_back : (s t : State) (name : List ℕ) → ((image : Files) → IsImage t image → IsImage s image) → MayBePutByRecord t name → MayBePutByRecord s name
 recorded_back s t name back recorded = record { image = recorded.image; left = back recorded.image recorded.left; steps = recorded.steps; gate = recorded.gate; puts = recorded.puts }
 
 counts_back : (s t : State) (name : List ℕ) → ((image : Files) → IsImage t image → IsImage s image) → Counts t name → Counts s name
 counts_back s t name back (inl list) = inl list
 counts_back s t name back (inr recorded) = inr (recorded_back s t name back recorded)
 
-pub puts_aside : (steps : List Step) (name : List ℕ) → PutsFrom steps name → is_aside name ≡ true
+pub puts_aside : (steps : List Step) (name : List ℕ) → PutsPart steps name → is_own_name name ≡ true
 puts_aside [] name puts = absurd puts
-puts_aside (Put list ∷ steps) name (inl is) = subst (λ (n : List ℕ). is_aside n ≡ true) (sym is) (partial_aside list)
+puts_aside (Put list ∷ steps) name (inl is) = subst (λ (n : List ℕ). is_own_name n ≡ true) (sym is) (partial_aside list)
 puts_aside (Put list ∷ steps) name (inr later) = puts_aside steps name later
 puts_aside (Drop list ∷ steps) name puts = puts_aside steps name puts
 
 pub counts_not_journal : (s : State) (name : List ℕ) → Counts s name → name ≢ journal
 counts_not_journal s name (inl list) = list_not_journal name list
-counts_not_journal s name (inr recorded) = λ same. let aside : is_aside journal ≡ true = subst (λ (n : List ℕ). is_aside n ≡ true) same (puts_aside recorded.steps name recorded.puts) in absurd cc
+counts_not_journal s name (inr recorded) = λ same. let aside : is_own_name journal ≡ true = subst (λ (n : List ℕ). is_own_name n ≡ true) same (puts_aside recorded.steps name recorded.puts) in absurd cc
 
 abbrev pub Lasts : FileState → Type 0
 Lasts file = file ≡ synced file.seen
@@ -60,7 +60,7 @@ set_lasts files j i file new old = ⊎_elim within past (cases_lt j (length file
     past high = subst (λ (l : List FileState). Lasts (file_at l i)) (sym (set_past files j file high)) old
 
 -- Syncs.
-sync_settled : (s : State) (o : Option ℕ) → IsSound s → IsSettled s → IsSettled (on_file s o (λ file. synced file.seen))
+sync_settled : (s : State) (o : Option ℕ) → IsSound s → IsSynced s → IsSynced (on_file s o (λ file. synced file.seen))
 sync_settled s None sound settled name i counts leads = settled name i counts leads
 sync_settled s (Some j) sound settled name i counts leads =
     let back : (image : Files) → IsImage (on_file s (Some j) (λ file. synced file.seen)) image → IsImage s image = λ image is. file_back s (Some j) image sound is in
@@ -93,7 +93,7 @@ never i is = absurd cc
 
 -- a sync, over all that a disk has been
 pub sync_goes : {T E : Type 0} (P Q : State → Type 0) (name other : List ℕ) (old new : List State) (result : Result T E) → other ≡ name → AllSound old → ((s : State) → IsSound s → P s → Q (after s (Sync name)))
-    → Stands P old → Goes (Sync other) old new result → Since old new (From Recovers old) × OnOk result (Stands Q new)
+    → IsNow P old → Goes (Sync other) old new result → Since old new (From Recovers old) × OnOk result (IsNow Q new)
 sync_goes P Q name other old new result same sound ends stands is =
     goes Recovers P Q (Sync name) old new result sound
     (λ s sound_s has. sync_recovers s name sound_s)
@@ -101,7 +101,7 @@ sync_goes P Q name other old new result same sound ends stands is =
     ends stands (subst (λ (n : List ℕ). Goes (Sync n) old new result) same is)
 
 pub names_go : {T E : Type 0} (P Q : State → Type 0) (old new : List State) (result : Result T E) → AllSound old → ((s : State) → IsSound s → P s → Q (after s SyncNames))
-    → Stands P old → Goes SyncNames old new result → Since old new (From Recovers old) × OnOk result (Stands Q new)
+    → IsNow P old → Goes SyncNames old new result → Since old new (From Recovers old) × OnOk result (IsNow Q new)
 names_go P Q old new result sound ends stands is =
     goes Recovers P Q SyncNames old new result sound
     (λ s sound_s has. names_recover s)

@@ -2,7 +2,7 @@
 use Rattle.std.specs.Prelude.{◌≢◌, ℕ, ◌<◌, ◌^◌, if◌then◌else◌, List, [], ◌∷◌, ◌++◌, length, Some, None}
 use Rattle.acq_outside.specs.Disk.{Files, IsName, with_file}
 use Rattle.acq_outside.specs.Crash.{State}
-use Rattle.journal_model.specs.Names.{lock, journal, partial, is_list, IsPutName}
+use Rattle.journal_model.specs.Names.{lock, journal, partial, is_installed_name, IsPutName}
 use Rattle.journal_model.specs.Rest.{IsPartSynced}
 use Rattle.journal_model.specs.declared.step.Step.{Step}
 use Rattle.journal_model.specs.declared.step.Step.TheVariants as steps
@@ -34,17 +34,17 @@ filled_all part (group ∷ groups) = filled part group ∷ filled_all part group
 
 -- The lists after it. A name that is no list's changes none.
 abbrev pub folder_step : Files → Filled → Files
-folder_step folder (PutFile name bytes) = if is_list name then with_file folder name (Some bytes) else folder
-folder_step folder (DropFile name) = if is_list name then with_file folder name None else folder
+folder_step folder (PutFile name bytes) = if is_installed_name name then with_file folder name (Some bytes) else folder
+folder_step folder (DropFile name) = if is_installed_name name then with_file folder name None else folder
 
 abbrev pub folder_steps : List Filled → Files → Files
 folder_steps [] folder = folder
 folder_steps (change ∷ changes) folder = folder_steps changes (folder_step folder change)
 
 -- after all groups, in order
-unfoldable pub stepped_all : List (List Filled) → Files → Files
-stepped_all [] folder = folder
-stepped_all (group ∷ groups) folder = stepped_all groups (folder_steps group folder)
+unfoldable pub after_commit : List (List Filled) → Files → Files
+after_commit [] folder = folder
+after_commit (group ∷ groups) folder = after_commit groups (folder_steps group folder)
 
 -- The steps of the record.
 abbrev pub step_of : Change → Step
@@ -68,12 +68,12 @@ abbrev pub touched_one : Change → List (List ℕ)
 touched_one (Put name content) = name.0 ∷ partial name.0 ∷ []
 touched_one (Drop name) = name ∷ []
 
-abbrev pub touched : List Change → List (List ℕ)
-touched [] = []
-touched (change ∷ changes) = touched_one change ++ touched changes
+abbrev pub changed_names : List Change → List (List ℕ)
+changed_names [] = []
+changed_names (change ∷ changes) = touched_one change ++ changed_names changes
 
-abbrev pub touched_all : List (List Change) → List (List ℕ)
-touched_all groups = touched (all_changes groups)
+abbrev pub all_changed_names : List (List Change) → List (List ℕ)
+all_changed_names groups = changed_names (all_changes groups)
 
 -- the name is none of these
 abbrev pub IsNone : List ℕ → List (List ℕ) → Type 0
@@ -105,7 +105,7 @@ pub record CanRecord (groups : List (List Change)) : Type 0 where
   pub few : length groups < 2 ^ 32
   pub short : length (all_changes groups) < 2 ^ 32
   pub allowed : AllAllowed (all_changes groups)
-  pub apart : AreApart (touched_all groups)
+  pub apart : AreApart (all_changed_names groups)
 
 -- what a staged Put puts is there, and lasts
 abbrev pub IsStaged : State → Change → Type 0

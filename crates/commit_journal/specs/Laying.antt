@@ -26,13 +26,13 @@ pub record IsIdleUnmoved (s : State) : Type 0 where
   pub unmoved : s.pending ≡ []
 
 -- and the journal reads so
-pub record IsNoted (bytes : List ℕ) (s : State) : Type 0 where
+pub record HasRecordWritten (bytes : List ℕ) (s : State) : Type 0 where
   pub idle : IsIdle s
   pub unmoved : s.pending ≡ []
   pub seen : (i : ℕ) → s.base journal ≡ Some i → (file_at s.files i).seen ≡ bytes
 
 -- and it lasts
-pub record IsNotedLastingly (bytes : List ℕ) (s : State) : Type 0 where
+pub record HasRecordSynced (bytes : List ℕ) (s : State) : Type 0 where
   pub unmoved : s.pending ≡ []
   pub number : ℕ
   pub leads : s.base journal ≡ Some number

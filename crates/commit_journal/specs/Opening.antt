@@ -2,31 +2,31 @@
 use Rattle.std.specs.Prelude.{◌≡◌, ◌≢◌, ◌⊎◌, ℕ, nat_eq, nat_lt, Bool, true, false, List, [], ◌∷◌, Option, Some, None, Result, Err}
 use Rattle.acq_outside.specs.Disk.{Files}
 use Rattle.acq_outside.specs.Crash.{State}
-use Rattle.journal_model.specs.Names.{journal, beside}
-use Rattle.journal_model.specs.Reading.{gate_in}
-use Rattle.journal_model.specs.Reopen.{LeavesAsOf}
-use Rattle.journal_model.specs.Rest.{IsSettled, file_now}
+use Rattle.journal_model.specs.Names.{journal, new_journal}
+use Rattle.journal_model.specs.Reading.{journal_state_in}
+use Rattle.journal_model.specs.Reopen.{ReopensAsAt}
+use Rattle.journal_model.specs.Rest.{IsSynced, file_now}
 use Rattle.journal_model.specs.Steps.{Touches, IsIn}
 use Rattle.journal_model.specs.declared.step.Step.{Step}
-use Rattle.journal_model.specs.declared.step.Gate.{Gate}
-use Rattle.journal_model.specs.declared.step.Gate.TheVariants.{Open, Damaged, Shut}
+use Rattle.journal_model.specs.declared.step.JournalState.{JournalState}
+use Rattle.journal_model.specs.declared.step.JournalState.TheVariants.{Open, Damaged, Shut}
 use Rattle.commit_journal.specs.declared.error.JournalError.{JournalError}
 use Rattle.commit_journal.specs.declared.error.JournalError.TheVariants.{DiskFault, BadJournal, NoMemory}
 
 -- each thing that a crash leaves at t reopens to what something that it might have left at s reopens to, and t is settled
 -- where s is
 pub record Recovers (s t : State) : Type 0 where
-  pub images : LeavesAsOf s t
-  pub settled : IsSettled s → IsSettled t
+  pub images : ReopensAsAt s t
+  pub settled : IsSynced s → IsSynced t
 
-abbrev pub damage_at : Gate → Option ℕ
+abbrev pub damage_at : JournalState → Option ℕ
 damage_at (Open steps) = None
 damage_at (Damaged at) = Some at
 damage_at Shut = None
 
 -- the place of the damage, where the gate is open before what is no record
 abbrev pub damage_of : Files → Option ℕ
-damage_of files = damage_at (gate_in (files journal))
+damage_of files = damage_at (journal_state_in (files journal))
 
 -- no damage is told where there is none, and this one, or a fault or want of memory, where there is
 abbrev pub FindsDamage : {T : Type 0} → Option ℕ → Result T JournalError → Type 0
@@ -42,21 +42,21 @@ is_open (Some (gate ∷ body)) = nat_eq gate 1
 -- Whose files an opening may change.
 
 -- the files of all other names stay, and so does what lasts of them
-pub record LeavesOthers (Own : List ℕ → Type 0) (old new : List State) : Type 0 where
+pub record KeepsFilesBut (Own : List ℕ → Type 0) (old new : List State) : Type 0 where
   pub same : (name : List ℕ) → (Own name → ⊥) → file_now new name ≡ file_now old name
 
 -- what a record behind an open gate changes
-abbrev pub IsOfRecord : Gate → List ℕ → Type 0
+abbrev pub IsOfRecord : JournalState → List ℕ → Type 0
 IsOfRecord (Open steps) name = (step : Step) × IsIn step steps × Touches step name
 IsOfRecord (Damaged at) name = ⊥
 IsOfRecord Shut name = ⊥
 
 -- byte 0 is neither 0 nor 1, or isn't there
-abbrev pub is_unmade : Option (List ℕ) → Bool
-is_unmade None = true
-is_unmade (Some []) = true
-is_unmade (Some (gate ∷ body)) = nat_lt 1 gate
+abbrev pub is_no_journal : Option (List ℕ) → Bool
+is_no_journal None = true
+is_no_journal (Some []) = true
+is_no_journal (Some (gate ∷ body)) = nat_lt 1 gate
 
 -- the journal, what the record changes that is carried out, and the place where a new journal is made, where one is
 abbrev pub IsOfOpening : Option (List ℕ) → List ℕ → Type 0
-IsOfOpening content name = (name ≡ journal) ⊎ (IsOfRecord (gate_in content) name ⊎ ((is_unmade content ≡ true) × (name ≡ beside)))
+IsOfOpening content name = (name ≡ journal) ⊎ (IsOfRecord (journal_state_in content) name ⊎ ((is_no_journal content ≡ true) × (name ≡ new_journal)))

@@ -1,14 +1,14 @@
 //! A prepared commit is made: the gate before its record is opened, the record carried out, and the gate closed.
 ghost use Rattle.std.specs.Prelude.{◌≡◌, ◌≤◌, ◌+◌, length, [], OnOk, OnErr, Err};
 ghost use Rattle.acq_outside.specs.Stays.{Stays};
-ghost use Rattle.acq_outside.specs.Moments.{Stands, Since, From};
+ghost use Rattle.acq_outside.specs.States.{IsNow, Since, From};
 ghost use Rattle.journal_model.specs.Spelling.{all_steps};
-ghost use Rattle.journal_model.specs.Rest.{IsIdle, IsSettled, part_bytes};
-ghost use Rattle.commit_journal.specs.Opening.{Recovers, LeavesOthers};
+ghost use Rattle.journal_model.specs.Rest.{IsIdle, IsSynced, part_bytes};
+ghost use Rattle.commit_journal.specs.Opening.{Recovers, KeepsFilesBut};
 ghost use Rattle.commit_journal.specs.Changes.{filled_all, steps_in};
-ghost use Rattle.commit_journal.specs.Commits.{IsReady, KeepsOrSteps, Turns, RestsAfter, KeepsUnnamed, IsLater};
+ghost use Rattle.commit_journal.specs.Commits.{IsPrepared, CrashLeavesBeforeOrAfter, CommitsAtWrite, IsAtRestAfter, KeepsUnchangedFiles, HasMoreStates};
 ghost use Rattle.commit_journal.specs.Phases.{IsCarrying, IsOfCommit};
-ghost use Rattle.commit_journal.specs.Turning.{IsOpening, WritesOver, OpensAt, OpensOver};
+ghost use Rattle.commit_journal.specs.Turning.{IsOpening, IsGateWritten, CommitsOnceSynced, IsGateSynced};
 
 use crate::recovery::recover;
 use crate::{Journal, JournalError, Prepared};
@@ -16,34 +16,34 @@ use acq_outside::{Disk, Fault};
 
 /// Writes the gate's byte as 1.
 fn write_gate<D: Disk>(disk: &mut D, prepared: &Prepared) -> Result<(), Fault>
-    requires { Stands (IsReady prepared.now.groups) (D.trace disk.old) }
+    requires { IsNow (IsPrepared prepared.now.groups) (D.trace disk.old) }
 
     ensures frame { Stays D.Disk disk.old disk.new result }
 
     ensures moments { Since (D.trace disk.old) (D.trace disk.new)
-        (KeepsOrSteps prepared.now.groups (filled_all (part_bytes (D.trace disk.old)) prepared.now.groups) (D.trace disk.old)) }
+        (CrashLeavesBeforeOrAfter prepared.now.groups (filled_all (part_bytes (D.trace disk.old)) prepared.now.groups) (D.trace disk.old)) }
     ensures once { length (D.trace disk.new) ≤ length (D.trace disk.old) + 1 }
-    ensures later { OnOk result (IsLater (D.trace disk.old) (D.trace disk.new)) }
-    ensures settled { Stands IsSettled (D.trace disk.old) → Stands IsSettled (D.trace disk.new) }
-    ensures others { LeavesOthers (IsOfCommit (all_steps (steps_in prepared.now.groups))) (D.trace disk.old) (D.trace disk.new) }
-    ensures over { OnOk result (Stands
-        (WritesOver prepared.now.groups (filled_all (part_bytes (D.trace disk.old)) prepared.now.groups) (D.trace disk.old)) (D.trace disk.new)) }
-    ensures done { OnOk result (Stands (IsOpening prepared.now.groups) (D.trace disk.new)) }
+    ensures later { OnOk result (HasMoreStates (D.trace disk.old) (D.trace disk.new)) }
+    ensures settled { IsNow IsSynced (D.trace disk.old) → IsNow IsSynced (D.trace disk.new) }
+    ensures others { KeepsFilesBut (IsOfCommit (all_steps (steps_in prepared.now.groups))) (D.trace disk.old) (D.trace disk.new) }
+    ensures over { OnOk result (IsNow
+        (IsGateWritten prepared.now.groups (filled_all (part_bytes (D.trace disk.old)) prepared.now.groups) (D.trace disk.old)) (D.trace disk.new)) }
+    ensures done { OnOk result (IsNow (IsOpening prepared.now.groups) (D.trace disk.new)) }
 {
     disk.write_at(b"journal".as_slice(), 0, &[1])
 }
 
 /// Makes the open gate lasting.
-fn lay_gate<D: Disk>(disk: &mut D, prepared: &Prepared) -> Result<(), Fault>
-    requires { Stands (IsOpening prepared.now.groups) (D.trace disk.old) }
+fn sync_open_gate<D: Disk>(disk: &mut D, prepared: &Prepared) -> Result<(), Fault>
+    requires { IsNow (IsOpening prepared.now.groups) (D.trace disk.old) }
 
     ensures frame { Stays D.Disk disk.old disk.new result }
 
     ensures recovers { Since (D.trace disk.old) (D.trace disk.new) (From Recovers (D.trace disk.old)) }
-    ensures opens { Since (D.trace disk.old) (D.trace disk.new) (OpensAt prepared.now.groups (D.trace disk.old)) }
-    ensures new { OnOk result (Stands (OpensAt prepared.now.groups (D.trace disk.old)) (D.trace disk.new)) }
-    ensures others { LeavesOthers (IsOfCommit (all_steps (steps_in prepared.now.groups))) (D.trace disk.old) (D.trace disk.new) }
-    ensures done { OnOk result (Stands (IsCarrying (all_steps (steps_in prepared.now.groups)) []) (D.trace disk.new)) }
+    ensures opens { Since (D.trace disk.old) (D.trace disk.new) (CommitsOnceSynced prepared.now.groups (D.trace disk.old)) }
+    ensures new { OnOk result (IsNow (CommitsOnceSynced prepared.now.groups (D.trace disk.old)) (D.trace disk.new)) }
+    ensures others { KeepsFilesBut (IsOfCommit (all_steps (steps_in prepared.now.groups))) (D.trace disk.old) (D.trace disk.new) }
+    ensures done { OnOk result (IsNow (IsCarrying (all_steps (steps_in prepared.now.groups)) []) (D.trace disk.new)) }
 {
     disk.sync(b"journal".as_slice())
 }
@@ -51,32 +51,32 @@ fn lay_gate<D: Disk>(disk: &mut D, prepared: &Prepared) -> Result<(), Fault>
 /// Opens the gate before the record.
 #[tactic(auto, using(crate::proofs::Others::others_on))]
 fn open_gate<D: Disk>(disk: &mut D, prepared: &Prepared) -> Result<(), Fault>
-    requires { Stands (IsReady prepared.now.groups) (D.trace disk.old) }
+    requires { IsNow (IsPrepared prepared.now.groups) (D.trace disk.old) }
 
     ensures frame { Stays D.Disk disk.old disk.new result }
 
     ensures moments { Since (D.trace disk.old) (D.trace disk.new)
-        (KeepsOrSteps prepared.now.groups (filled_all (part_bytes (D.trace disk.old)) prepared.now.groups) (D.trace disk.old)) }
-    ensures turns { Turns prepared.now.groups (filled_all (part_bytes (D.trace disk.old)) prepared.now.groups) (D.trace disk.old) (D.trace disk.new) }
-    ensures later { OnOk result (IsLater (D.trace disk.old) (D.trace disk.new)) }
-    ensures settled { Stands IsSettled (D.trace disk.old) → Stands IsSettled (D.trace disk.new) }
-    ensures others { LeavesOthers (IsOfCommit (all_steps (steps_in prepared.now.groups))) (D.trace disk.old) (D.trace disk.new) }
-    ensures over { OnOk result (Stands
-        (OpensOver prepared.now.groups (filled_all (part_bytes (D.trace disk.old)) prepared.now.groups) (D.trace disk.old)) (D.trace disk.new)) }
-    ensures done { OnOk result (Stands (IsCarrying (all_steps (steps_in prepared.now.groups)) []) (D.trace disk.new)) }
+        (CrashLeavesBeforeOrAfter prepared.now.groups (filled_all (part_bytes (D.trace disk.old)) prepared.now.groups) (D.trace disk.old)) }
+    ensures turns { CommitsAtWrite prepared.now.groups (filled_all (part_bytes (D.trace disk.old)) prepared.now.groups) (D.trace disk.old) (D.trace disk.new) }
+    ensures later { OnOk result (HasMoreStates (D.trace disk.old) (D.trace disk.new)) }
+    ensures settled { IsNow IsSynced (D.trace disk.old) → IsNow IsSynced (D.trace disk.new) }
+    ensures others { KeepsFilesBut (IsOfCommit (all_steps (steps_in prepared.now.groups))) (D.trace disk.old) (D.trace disk.new) }
+    ensures over { OnOk result (IsNow
+        (IsGateSynced prepared.now.groups (filled_all (part_bytes (D.trace disk.old)) prepared.now.groups) (D.trace disk.old)) (D.trace disk.new)) }
+    ensures done { OnOk result (IsNow (IsCarrying (all_steps (steps_in prepared.now.groups)) []) (D.trace disk.new)) }
 {
     write_gate(disk, prepared)?;
-    lay_gate(disk, prepared)
+    sync_open_gate(disk, prepared)
 }
 
 /// Carries out the record behind the open gate, and closes the gate.
 #[tactic(auto, using(crate::proofs::Opens::named_steps))]
 fn carry_out<D: Disk>(disk: &mut D, prepared: &Prepared) -> Result<(), Fault>
-    requires { Stands (IsCarrying (all_steps (steps_in prepared.now.groups)) []) (D.trace disk.old) }
+    requires { IsNow (IsCarrying (all_steps (steps_in prepared.now.groups)) []) (D.trace disk.old) }
     ensures frame { Stays D.Disk disk.old disk.new result }
     ensures moments { Since (D.trace disk.old) (D.trace disk.new) (From Recovers (D.trace disk.old)) }
-    ensures others { LeavesOthers (IsOfCommit (all_steps (steps_in prepared.now.groups))) (D.trace disk.old) (D.trace disk.new) }
-    ensures done { OnOk result (Stands IsIdle (D.trace disk.new)) }
+    ensures others { KeepsFilesBut (IsOfCommit (all_steps (steps_in prepared.now.groups))) (D.trace disk.old) (D.trace disk.new) }
+    ensures done { OnOk result (IsNow IsIdle (D.trace disk.new)) }
 {
     recover(disk, prepared.steps.as_slice())
 }
@@ -92,21 +92,21 @@ pub fn commit<D: Disk>(
     disk: &mut D,
     prepared: Prepared,
 ) -> Result<(), JournalError>
-    requires ready { Stands (IsReady prepared.groups) (D.trace disk.old) }
+    requires ready { IsNow (IsPrepared prepared.groups) (D.trace disk.old) }
 
     ensures frame { Stays D.Disk disk.old disk.new result }
 
     ensures only { OnErr result (result ≡ Err JournalError.DiskFault) }
 
     ensures moments { Since (D.trace disk.old) (D.trace disk.new)
-        (KeepsOrSteps prepared.groups (filled_all (part_bytes (D.trace disk.old)) prepared.groups) (D.trace disk.old)) }
-    ensures turns { Turns prepared.groups (filled_all (part_bytes (D.trace disk.old)) prepared.groups) (D.trace disk.old) (D.trace disk.new) }
-    ensures rests { OnOk result (Stands
-        (RestsAfter prepared.groups (filled_all (part_bytes (D.trace disk.old)) prepared.groups) (D.trace disk.old)) (D.trace disk.new)) }
-    ensures idle { OnOk result (Stands IsIdle (D.trace disk.new)) }
-    ensures later { OnOk result (IsLater (D.trace disk.old) (D.trace disk.new)) }
-    ensures settled { Stands IsSettled (D.trace disk.old) → Stands IsSettled (D.trace disk.new) }
-    ensures others { KeepsUnnamed prepared.groups (D.trace disk.old) (D.trace disk.new) }
+        (CrashLeavesBeforeOrAfter prepared.groups (filled_all (part_bytes (D.trace disk.old)) prepared.groups) (D.trace disk.old)) }
+    ensures turns { CommitsAtWrite prepared.groups (filled_all (part_bytes (D.trace disk.old)) prepared.groups) (D.trace disk.old) (D.trace disk.new) }
+    ensures rests { OnOk result (IsNow
+        (IsAtRestAfter prepared.groups (filled_all (part_bytes (D.trace disk.old)) prepared.groups) (D.trace disk.old)) (D.trace disk.new)) }
+    ensures idle { OnOk result (IsNow IsIdle (D.trace disk.new)) }
+    ensures later { OnOk result (HasMoreStates (D.trace disk.old) (D.trace disk.new)) }
+    ensures settled { IsNow IsSynced (D.trace disk.old) → IsNow IsSynced (D.trace disk.new) }
+    ensures others { KeepsUnchangedFiles prepared.groups (D.trace disk.old) (D.trace disk.new) }
 {
     open_gate(disk, &prepared)?;
     carry_out(disk, &prepared)?;

@@ -3,79 +3,79 @@
 ghost use Rattle.std.specs.Prelude.{◌≡◌, [], ◌∷◌, OnOk, IsTrue};
 ghost use Rattle.acq_outside.specs.Stays.{Stays};
 ghost use Rattle.acq_outside.specs.Disk.{after_cut, after_write, after_rename};
-ghost use Rattle.acq_outside.specs.Moments.{Stands, Since, From};
-ghost use Rattle.journal_model.specs.Names.{journal, beside};
+ghost use Rattle.acq_outside.specs.States.{IsNow, Since, From};
+ghost use Rattle.journal_model.specs.Names.{journal, new_journal};
 ghost use Rattle.journal_model.specs.Rest.{IsIdle};
-ghost use Rattle.commit_journal.specs.Opening.{Recovers, LeavesOthers};
-ghost use Rattle.commit_journal.specs.Phases.{IsUnset, IsBeside, LastsBeside, IsNamed, IsOfMaking, made_files};
+ghost use Rattle.commit_journal.specs.Opening.{Recovers, KeepsFilesBut};
+ghost use Rattle.commit_journal.specs.Phases.{HasNoOpenGate, HasNewJournal, HasNewJournalSynced, IsNamed, IsOfMaking, made_files};
 
 use acq_outside::{Disk, Fault};
 
 fn cut_beside<D: Disk>(disk: &mut D) -> Result<(), Fault>
-    requires { Stands IsUnset (D.trace disk.old) }
+    requires { IsNow HasNoOpenGate (D.trace disk.old) }
     ensures frame { Stays D.Disk disk.old disk.new result }
     ensures moments { Since (D.trace disk.old) (D.trace disk.new) (From Recovers (D.trace disk.old)) }
-    ensures others { LeavesOthers IsOfMaking (D.trace disk.old) (D.trace disk.new) }
-    ensures told { IsTrue (D.tells disk.old) → OnOk result (D.files disk.new ≡ after_cut (D.files disk.old) beside 0) }
-    ensures done { OnOk result (Stands (IsBeside []) (D.trace disk.new)) }
+    ensures others { KeepsFilesBut IsOfMaking (D.trace disk.old) (D.trace disk.new) }
+    ensures told { IsTrue (D.tells disk.old) → OnOk result (D.files disk.new ≡ after_cut (D.files disk.old) new_journal 0) }
+    ensures done { OnOk result (IsNow (HasNewJournal []) (D.trace disk.new)) }
 {
     disk.cut(b"partial/journal".as_slice(), 0)
 }
 
 fn write_beside<D: Disk>(disk: &mut D) -> Result<(), Fault>
-    requires { Stands (IsBeside []) (D.trace disk.old) }
+    requires { IsNow (HasNewJournal []) (D.trace disk.old) }
     ensures frame { Stays D.Disk disk.old disk.new result }
     ensures moments { Since (D.trace disk.old) (D.trace disk.new) (From Recovers (D.trace disk.old)) }
-    ensures others { LeavesOthers IsOfMaking (D.trace disk.old) (D.trace disk.new) }
-    ensures told { IsTrue (D.tells disk.old) → OnOk result (D.files disk.new ≡ after_write (D.files disk.old) beside 0 (0 ∷ [])) }
-    ensures done { OnOk result (Stands (IsBeside (0 ∷ [])) (D.trace disk.new)) }
+    ensures others { KeepsFilesBut IsOfMaking (D.trace disk.old) (D.trace disk.new) }
+    ensures told { IsTrue (D.tells disk.old) → OnOk result (D.files disk.new ≡ after_write (D.files disk.old) new_journal 0 (0 ∷ [])) }
+    ensures done { OnOk result (IsNow (HasNewJournal (0 ∷ [])) (D.trace disk.new)) }
 {
     disk.write_at(b"partial/journal".as_slice(), 0, &[0])
 }
 
 fn sync_beside<D: Disk>(disk: &mut D) -> Result<(), Fault>
-    requires { Stands (IsBeside (0 ∷ [])) (D.trace disk.old) }
+    requires { IsNow (HasNewJournal (0 ∷ [])) (D.trace disk.old) }
     ensures frame { Stays D.Disk disk.old disk.new result }
     ensures moments { Since (D.trace disk.old) (D.trace disk.new) (From Recovers (D.trace disk.old)) }
-    ensures others { LeavesOthers IsOfMaking (D.trace disk.old) (D.trace disk.new) }
+    ensures others { KeepsFilesBut IsOfMaking (D.trace disk.old) (D.trace disk.new) }
     ensures same { D.files disk.new ≡ D.files disk.old }
-    ensures done { OnOk result (Stands LastsBeside (D.trace disk.new)) }
+    ensures done { OnOk result (IsNow HasNewJournalSynced (D.trace disk.new)) }
 {
     disk.sync(b"partial/journal".as_slice())
 }
 
 /// Gives the new file the journal's name.
 fn name_it<D: Disk>(disk: &mut D) -> Result<(), Fault>
-    requires { Stands LastsBeside (D.trace disk.old) }
+    requires { IsNow HasNewJournalSynced (D.trace disk.old) }
     ensures frame { Stays D.Disk disk.old disk.new result }
     ensures moments { Since (D.trace disk.old) (D.trace disk.new) (From Recovers (D.trace disk.old)) }
-    ensures others { LeavesOthers IsOfMaking (D.trace disk.old) (D.trace disk.new) }
-    ensures told { IsTrue (D.tells disk.old) → OnOk result (D.files disk.new ≡ after_rename (D.files disk.old) beside journal) }
-    ensures done { OnOk result (Stands IsNamed (D.trace disk.new)) }
+    ensures others { KeepsFilesBut IsOfMaking (D.trace disk.old) (D.trace disk.new) }
+    ensures told { IsTrue (D.tells disk.old) → OnOk result (D.files disk.new ≡ after_rename (D.files disk.old) new_journal journal) }
+    ensures done { OnOk result (IsNow IsNamed (D.trace disk.new)) }
 {
     disk.rename(b"partial/journal".as_slice(), b"journal".as_slice())
 }
 
 fn name_lastingly<D: Disk>(disk: &mut D) -> Result<(), Fault>
-    requires { Stands IsNamed (D.trace disk.old) }
+    requires { IsNow IsNamed (D.trace disk.old) }
     ensures frame { Stays D.Disk disk.old disk.new result }
     ensures moments { Since (D.trace disk.old) (D.trace disk.new) (From Recovers (D.trace disk.old)) }
-    ensures others { LeavesOthers IsOfMaking (D.trace disk.old) (D.trace disk.new) }
+    ensures others { KeepsFilesBut IsOfMaking (D.trace disk.old) (D.trace disk.new) }
     ensures same { D.files disk.new ≡ D.files disk.old }
-    ensures done { OnOk result (Stands IsIdle (D.trace disk.new)) }
+    ensures done { OnOk result (IsNow IsIdle (D.trace disk.new)) }
 {
     disk.sync_names()
 }
 
 /// Makes the new file, with the gate closed.
 #[tactic(auto, using(crate::proofs::Recovers::onwards, crate::proofs::Others::others_on))]
-fn lay_beside<D: Disk>(disk: &mut D) -> Result<(), Fault>
-    requires { Stands IsUnset (D.trace disk.old) }
+fn make_beside<D: Disk>(disk: &mut D) -> Result<(), Fault>
+    requires { IsNow HasNoOpenGate (D.trace disk.old) }
     ensures frame { Stays D.Disk disk.old disk.new result }
     ensures moments { Since (D.trace disk.old) (D.trace disk.new) (From Recovers (D.trace disk.old)) }
-    ensures others { LeavesOthers IsOfMaking (D.trace disk.old) (D.trace disk.new) }
-    ensures told { IsTrue (D.tells disk.old) → OnOk result (D.files disk.new ≡ after_write (after_cut (D.files disk.old) beside 0) beside 0 (0 ∷ [])) }
-    ensures done { OnOk result (Stands LastsBeside (D.trace disk.new)) }
+    ensures others { KeepsFilesBut IsOfMaking (D.trace disk.old) (D.trace disk.new) }
+    ensures told { IsTrue (D.tells disk.old) → OnOk result (D.files disk.new ≡ after_write (after_cut (D.files disk.old) new_journal 0) new_journal 0 (0 ∷ [])) }
+    ensures done { OnOk result (IsNow HasNewJournalSynced (D.trace disk.new)) }
 {
     cut_beside(disk)?;
     write_beside(disk)?;
@@ -85,14 +85,14 @@ fn lay_beside<D: Disk>(disk: &mut D) -> Result<(), Fault>
 /// Makes a new journal whose gate is closed.
 #[tactic(auto, using(crate::proofs::Recovers::onwards, crate::proofs::Others::others_on))]
 pub fn make_new<D: Disk>(disk: &mut D) -> Result<(), Fault>
-    requires { Stands IsUnset (D.trace disk.old) }
+    requires { IsNow HasNoOpenGate (D.trace disk.old) }
     ensures frame { Stays D.Disk disk.old disk.new result }
     ensures moments { Since (D.trace disk.old) (D.trace disk.new) (From Recovers (D.trace disk.old)) }
-    ensures others { LeavesOthers IsOfMaking (D.trace disk.old) (D.trace disk.new) }
+    ensures others { KeepsFilesBut IsOfMaking (D.trace disk.old) (D.trace disk.new) }
     ensures told { IsTrue (D.tells disk.old) → OnOk result (D.files disk.new ≡ made_files (D.files disk.old)) }
-    ensures done { OnOk result (Stands IsIdle (D.trace disk.new)) }
+    ensures done { OnOk result (IsNow IsIdle (D.trace disk.new)) }
 {
-    lay_beside(disk)?;
+    make_beside(disk)?;
     name_it(disk)?;
     name_lastingly(disk)
 }

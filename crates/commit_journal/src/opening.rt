@@ -1,19 +1,19 @@
 //! Opening a journal that a stop may have left in any state.
 ghost use Rattle.std.specs.Prelude.{◌≡◌, ◌≢◌, ℕ, [], IsTrue, IfOk, OnOk, Err, true, false};
 ghost use Rattle.acq_outside.specs.Stays.{Reads, ReadsCounting, Stays, StaysCounting};
-ghost use Rattle.acq_outside.specs.Moments.{Stands, Since, From};
+ghost use Rattle.acq_outside.specs.States.{IsNow, Since, From};
 ghost use Rattle.journal_model.specs.Names.{journal};
-ghost use Rattle.journal_model.specs.Reading.{gate_in};
-ghost use Rattle.journal_model.specs.Rest.{IsIdle, IsSettled, IsAtRest};
-ghost use Rattle.journal_model.specs.Reopen.{reopened, lists_now};
-ghost use Rattle.commit_journal.specs.Opening.{Recovers, LeavesOthers, IsOfOpening, FindsDamage, damage_of, is_open};
-ghost use Rattle.commit_journal.specs.Phases.{IsUnmoved, IsLaid, IsFirst, IsFirstOf, IsOfCommit, NamesSteps};
+ghost use Rattle.journal_model.specs.Reading.{journal_state_in};
+ghost use Rattle.journal_model.specs.Rest.{IsIdle, IsSynced, IsAtRest};
+ghost use Rattle.journal_model.specs.Reopen.{reopened, installed_now};
+ghost use Rattle.commit_journal.specs.Opening.{Recovers, KeepsFilesBut, IsOfOpening, FindsDamage, damage_of, is_open};
+ghost use Rattle.commit_journal.specs.Phases.{NoNamePending, IsJournalSynced, IsFirst, IsFirstOf, IsOfCommit, NamesSteps};
 
 use crate::JournalError;
 use crate::making::make_new;
 use crate::recovery::recover;
 use acq_outside::{Disk, Fault, OutError, read_whole};
-use journal_model::{Gate, read_gate};
+use journal_model::{JournalState, read_journal};
 use std::alloc::Global;
 
 /// A journal that is open for commits.
@@ -25,7 +25,7 @@ pub struct Journal {
 
 /// The first byte of a journal.
 #[derive(Clone, Copy, Debug, PartialEq, Eq)]
-pub enum First {
+pub enum FirstByte {
     /// It is 0.
     Closed,
     /// It is 1.
@@ -35,42 +35,42 @@ pub enum First {
 }
 
 /// Makes all names lasting.
-fn lay_names<D: Disk>(disk: &mut D) -> Result<(), Fault>
+fn sync_found_names<D: Disk>(disk: &mut D) -> Result<(), Fault>
     ensures frame { Stays D.Disk disk.old disk.new result }
     ensures same { D.files disk.new ≡ D.files disk.old }
-    ensures others { LeavesOthers (IsOfCommit []) (D.trace disk.old) (D.trace disk.new) }
+    ensures others { KeepsFilesBut (IsOfCommit []) (D.trace disk.old) (D.trace disk.new) }
     ensures moments { Since (D.trace disk.old) (D.trace disk.new) (From Recovers (D.trace disk.old)) }
-    ensures done { OnOk result (Stands IsUnmoved (D.trace disk.new)) }
+    ensures done { OnOk result (IsNow NoNamePending (D.trace disk.new)) }
 {
     disk.sync_names()
 }
 
 /// Makes what reads give of the journal lasting.
-fn lay_journal<D: Disk>(disk: &mut D) -> Result<(), Fault>
-    requires { Stands IsUnmoved (D.trace disk.old) }
+fn sync_found_journal<D: Disk>(disk: &mut D) -> Result<(), Fault>
+    requires { IsNow NoNamePending (D.trace disk.old) }
     ensures frame { Stays D.Disk disk.old disk.new result }
     ensures same { D.files disk.new ≡ D.files disk.old }
-    ensures others { LeavesOthers (IsOfCommit []) (D.trace disk.old) (D.trace disk.new) }
+    ensures others { KeepsFilesBut (IsOfCommit []) (D.trace disk.old) (D.trace disk.new) }
     ensures moments { Since (D.trace disk.old) (D.trace disk.new) (From Recovers (D.trace disk.old)) }
-    ensures done { OnOk result (Stands IsLaid (D.trace disk.new)) }
+    ensures done { OnOk result (IsNow IsJournalSynced (D.trace disk.new)) }
 {
     disk.sync(b"journal".as_slice())
 }
 
 #[tactic(auto, using(crate::proofs::Recovers::onwards))]
-fn lay<D: Disk>(disk: &mut D) -> Result<(), Fault>
+fn sync_found<D: Disk>(disk: &mut D) -> Result<(), Fault>
     ensures frame { Stays D.Disk disk.old disk.new result }
     ensures same { D.files disk.new ≡ D.files disk.old }
-    ensures others { LeavesOthers (IsOfCommit []) (D.trace disk.old) (D.trace disk.new) }
+    ensures others { KeepsFilesBut (IsOfCommit []) (D.trace disk.old) (D.trace disk.new) }
     ensures moments { Since (D.trace disk.old) (D.trace disk.new) (From Recovers (D.trace disk.old)) }
-    ensures done { OnOk result (Stands IsLaid (D.trace disk.new)) }
+    ensures done { OnOk result (IsNow IsJournalSynced (D.trace disk.new)) }
 {
-    lay_names(disk)?;
-    lay_journal(disk)
+    sync_found_names(disk)?;
+    sync_found_journal(disk)
 }
 
 /// The journal's first byte. It takes no memory.
-fn first_byte<D: Disk>(disk: &mut D) -> Result<First, Fault>
+fn first_byte<D: Disk>(disk: &mut D) -> Result<FirstByte, Fault>
     ensures frame { Reads D.Disk disk.old disk.new result }
     ensures told { IsTrue (D.tells disk.old) → IfOk result (λ first. IsFirst first (D.files disk.old journal)) }
 {
@@ -80,39 +80,39 @@ fn first_byte<D: Disk>(disk: &mut D) -> Result<First, Fault>
 }
 
 /// What a byte that was read says, or none.
-fn first_of(n: usize, gate: u8) -> First
+fn first_of(n: usize, gate: u8) -> FirstByte
     ensures { IsFirstOf n gate result }
 {
     if n == 0 {
-        return First::Other;
+        return FirstByte::Other;
     }
     match gate {
-        0 => First::Closed,
-        1 => First::Opened,
-        _ => First::Other,
+        0 => FirstByte::Closed,
+        1 => FirstByte::Opened,
+        _ => FirstByte::Other,
     }
 }
 
 /// What the whole journal says.
 #[tactic(auto, using(crate::proofs::Turns::gate_named))]
-fn judge<D: Disk>(alloc: Global, disk: &mut D) -> Result<Gate, JournalError>
+fn read_state<D: Disk>(alloc: Global, disk: &mut D) -> Result<JournalState, JournalError>
     ensures frame { ReadsCounting JournalError.DiskFault D.Disk disk.old disk.new result }
-    ensures told { IsTrue (D.tells disk.old) → IfOk result (λ gate. gate ≡ gate_in (D.files disk.old journal)) }
+    ensures told { IsTrue (D.tells disk.old) → IfOk result (λ gate. gate ≡ journal_state_in (D.files disk.old journal)) }
     ensures named { IfOk result NamesSteps }
     ensures undamaged { (at : ℕ) → result ≢ Err (JournalError.BadJournal at) }
 {
     match read_whole(alloc, disk, b"journal".as_slice()) {
         Err(OutError::Fault) => Err(JournalError::DiskFault),
         Err(OutError::NoMemory) => Err(JournalError::NoMemory),
-        Ok(None) => Ok(Gate::Shut),
-        Ok(Some(bytes)) => Ok(read_gate(alloc, bytes.as_slice())?),
+        Ok(None) => Ok(JournalState::Shut),
+        Ok(Some(bytes)) => Ok(read_journal(alloc, bytes.as_slice())?),
     }
 }
 
 /// What an open gate asks for.
 #[tactic(auto, using(crate::proofs::Recovers::onwards))]
-fn open_gate<D: Disk>(alloc: Global, disk: &mut D) -> Result<(), JournalError>
-    requires { Stands IsLaid (D.trace disk.old) }
+fn act_on_open_gate<D: Disk>(alloc: Global, disk: &mut D) -> Result<(), JournalError>
+    requires { IsNow IsJournalSynced (D.trace disk.old) }
 
     ensures frame { StaysCounting JournalError.DiskFault D.Disk disk.old disk.new result }
     ensures unchanged { (at : ℕ) → result ≡ Err (JournalError.BadJournal at) → D.files disk.new ≡ D.files disk.old }
@@ -121,17 +121,17 @@ fn open_gate<D: Disk>(alloc: Global, disk: &mut D) -> Result<(), JournalError>
     ensures damage { IsTrue (D.tells disk.old) → FindsDamage (damage_of (D.files disk.old)) result }
 
     ensures moments { Since (D.trace disk.old) (D.trace disk.new) (From Recovers (D.trace disk.old)) }
-    ensures others { IsTrue (D.tells disk.old) → is_open (D.files disk.old journal) ≡ true → LeavesOthers (IsOfOpening (D.files disk.old journal)) (D.trace disk.old) (D.trace disk.new) }
-    ensures done { OnOk result (Stands IsIdle (D.trace disk.new)) }
+    ensures others { IsTrue (D.tells disk.old) → is_open (D.files disk.old journal) ≡ true → KeepsFilesBut (IsOfOpening (D.files disk.old journal)) (D.trace disk.old) (D.trace disk.new) }
+    ensures done { OnOk result (IsNow IsIdle (D.trace disk.new)) }
 {
-    let gate = judge(alloc, disk)?;
+    let gate = read_state(alloc, disk)?;
     match gate {
-        Gate::Damaged(at) => Err(JournalError::BadJournal(at)),
-        Gate::Open(steps) => {
+        JournalState::Damaged(at) => Err(JournalError::BadJournal(at)),
+        JournalState::Open(steps) => {
             recover(disk, steps.as_slice())?;
             Ok(())
         }
-        Gate::Shut => {
+        JournalState::Shut => {
             make_new(disk)?;
             Ok(())
         }
@@ -149,18 +149,18 @@ fn open_whole<D: Disk>(alloc: Global, disk: &mut D) -> Result<Journal, JournalEr
     ensures thrifty { IsTrue (D.tells disk.old) → is_open (D.files disk.old journal) ≡ false → result ≢ Err JournalError.NoMemory }
 
     ensures recovers { Since (D.trace disk.old) (D.trace disk.new) (From Recovers (D.trace disk.old)) }
-    ensures others { IsTrue (D.tells disk.old) → LeavesOthers (IsOfOpening (D.files disk.old journal)) (D.trace disk.old) (D.trace disk.new) }
-    ensures idle { OnOk result (Stands IsIdle (D.trace disk.new)) }
+    ensures others { IsTrue (D.tells disk.old) → KeepsFilesBut (IsOfOpening (D.files disk.old journal)) (D.trace disk.old) (D.trace disk.new) }
+    ensures idle { OnOk result (IsNow IsIdle (D.trace disk.new)) }
 {
-    lay(disk)?;
+    sync_found(disk)?;
     let found = first_byte(disk)?;
     match found {
-        First::Closed => Ok(Journal { opened: () }),
-        First::Opened => {
-            open_gate(alloc, disk)?;
+        FirstByte::Closed => Ok(Journal { opened: () }),
+        FirstByte::Opened => {
+            act_on_open_gate(alloc, disk)?;
             Ok(Journal { opened: () })
         }
-        First::Other => {
+        FirstByte::Other => {
             make_new(disk)?;
             Ok(Journal { opened: () })
         }
@@ -180,10 +180,10 @@ pub fn open_journal<D: Disk>(alloc: Global, disk: &mut D) -> Result<Journal, Jou
     ensures thrifty { IsTrue (D.tells disk.old) → is_open (D.files disk.old journal) ≡ false → result ≢ Err JournalError.NoMemory }
 
     ensures recovers { Since (D.trace disk.old) (D.trace disk.new) (From Recovers (D.trace disk.old)) }
-    ensures settled { Stands IsSettled (D.trace disk.old) → Stands IsSettled (D.trace disk.new) }
-    ensures others { IsTrue (D.tells disk.old) → LeavesOthers (IsOfOpening (D.files disk.old journal)) (D.trace disk.old) (D.trace disk.new) }
-    ensures idle { OnOk result (Stands IsIdle (D.trace disk.new)) }
-    ensures rests { Stands IsSettled (D.trace disk.old) → OnOk result (Stands (IsAtRest (lists_now (D.trace disk.old))) (D.trace disk.new)) }
+    ensures settled { IsNow IsSynced (D.trace disk.old) → IsNow IsSynced (D.trace disk.new) }
+    ensures others { IsTrue (D.tells disk.old) → KeepsFilesBut (IsOfOpening (D.files disk.old journal)) (D.trace disk.old) (D.trace disk.new) }
+    ensures idle { OnOk result (IsNow IsIdle (D.trace disk.new)) }
+    ensures rests { IsNow IsSynced (D.trace disk.old) → OnOk result (IsNow (IsAtRest (installed_now (D.trace disk.old))) (D.trace disk.new)) }
 {
     open_whole(alloc, disk)
 }

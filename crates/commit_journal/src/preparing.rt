@@ -1,34 +1,38 @@
 //! A commit is prepared: all that it puts is laid under `partial/`, and its record behind the closed gate.
 ghost use Rattle.std.specs.Prelude.{◌≡◌, ◌≢◌, ◌∷◌, OnOk, IfOk, IsErrOf, Err, ℕ};
 ghost use Rattle.acq_outside.specs.Stays.{Stays, StaysCounting};
-ghost use Rattle.acq_outside.specs.Moments.{Stands, Since};
-ghost use Rattle.journal_model.specs.Rest.{IsIdle, IsSettled, KeepsRest, part_bytes};
+ghost use Rattle.acq_outside.specs.States.{IsNow, Since};
+ghost use Rattle.journal_model.specs.Rest.{IsIdle, IsSynced, KeptAtRestSince, part_bytes};
 ghost use Rattle.commit_journal.specs.Changes.{filled_all, all_changes, CanRecord, AreAllStaged};
-ghost use Rattle.commit_journal.specs.Commits.{IsReady, KeepsLists, ReadyAfter, KeepsUnnamed};
-ghost use Rattle.commit_journal.specs.Laying.{AreFilledFrom, IsNotedLastingly};
+ghost use Rattle.commit_journal.specs.Commits.{IsPrepared, CrashKeepsInstalled, PreparedAfter, KeepsUnchangedFiles};
+ghost use Rattle.commit_journal.specs.Laying.{AreFilledFrom, HasRecordSynced};
 
 use crate::filling::fill_all;
-use crate::noting::note;
+use crate::noting::write_record;
 use crate::recording::{all_steps, record_of};
 use crate::{Change, Journal, JournalError, Prepared};
 use acq_base::Row;
 use acq_outside::{Disk, Fault};
-use journal_model::write_body;
+use journal_model::body_bytes;
 use std::alloc::Global;
 
 /// Lays what the changes put, and then their record.
-fn lay_out<D: Disk>(disk: &mut D, groups: &[Row<Change>], body: &[u8]) -> Result<(), Fault>
+fn write_parts_and_record<D: Disk>(
+    disk: &mut D,
+    groups: &[Row<Change>],
+    body: &[u8],
+) -> Result<(), Fault>
     requires changes { CanRecord groups.now }
-    requires staged { Stands (AreAllStaged groups.now) (D.trace disk.old) }
-    requires idle { Stands IsIdle (D.trace disk.old) }
+    requires staged { IsNow (AreAllStaged groups.now) (D.trace disk.old) }
+    requires idle { IsNow IsIdle (D.trace disk.old) }
     ensures frame { Stays D.Disk disk.old disk.new result }
-    ensures moments { Since (D.trace disk.old) (D.trace disk.new) (KeepsRest (D.trace disk.old)) }
-    ensures others { KeepsUnnamed groups.now (D.trace disk.old) (D.trace disk.new) }
-    ensures filled { OnOk result (Stands (AreFilledFrom (part_bytes (D.trace disk.old)) (all_changes groups.now)) (D.trace disk.new)) }
-    ensures noted { OnOk result (Stands (IsNotedLastingly (0 ∷ body.now)) (D.trace disk.new)) }
+    ensures moments { Since (D.trace disk.old) (D.trace disk.new) (KeptAtRestSince (D.trace disk.old)) }
+    ensures others { KeepsUnchangedFiles groups.now (D.trace disk.old) (D.trace disk.new) }
+    ensures filled { OnOk result (IsNow (AreFilledFrom (part_bytes (D.trace disk.old)) (all_changes groups.now)) (D.trace disk.new)) }
+    ensures noted { OnOk result (IsNow (HasRecordSynced (0 ∷ body.now)) (D.trace disk.new)) }
 {
     fill_all(disk, groups)?;
-    note(disk, body)
+    write_record(disk, body)
 }
 
 /// Prepares a commit of these groups of changes: what they hold is written under `partial/`, and the record into the
@@ -45,8 +49,8 @@ pub fn prepare<D: Disk>(
     groups: Row<Row<Change>>,
 ) -> Result<Prepared, JournalError>
     requires changes { CanRecord groups }
-    requires staged { Stands (AreAllStaged groups) (D.trace disk.old) }
-    requires idle { Stands IsIdle (D.trace disk.old) }
+    requires staged { IsNow (AreAllStaged groups) (D.trace disk.old) }
+    requires idle { IsNow IsIdle (D.trace disk.old) }
 
     ensures frame { StaysCounting JournalError.DiskFault D.Disk disk.old disk.new result }
     ensures undamaged { (at : ℕ) → result ≢ Err (JournalError.BadJournal at) }
@@ -55,17 +59,17 @@ pub fn prepare<D: Disk>(
     ensures dry_files { IsErrOf result JournalError.NoMemory → D.files disk.new ≡ D.files disk.old }
     ensures record { IfOk result (λ prepared. prepared.groups ≡ groups) }
 
-    ensures moments { Since (D.trace disk.old) (D.trace disk.new) (KeepsLists (D.trace disk.old)) }
-    ensures rests { Since (D.trace disk.old) (D.trace disk.new) (KeepsRest (D.trace disk.old)) }
-    ensures settled { Stands IsSettled (D.trace disk.old) → Stands IsSettled (D.trace disk.new) }
-    ensures can_commit { OnOk result (Stands (IsReady groups) (D.trace disk.new)) }
-    ensures ready { OnOk result (Stands (ReadyAfter groups (D.trace disk.old)) (D.trace disk.new)) }
+    ensures moments { Since (D.trace disk.old) (D.trace disk.new) (CrashKeepsInstalled (D.trace disk.old)) }
+    ensures rests { Since (D.trace disk.old) (D.trace disk.new) (KeptAtRestSince (D.trace disk.old)) }
+    ensures settled { IsNow IsSynced (D.trace disk.old) → IsNow IsSynced (D.trace disk.new) }
+    ensures can_commit { OnOk result (IsNow (IsPrepared groups) (D.trace disk.new)) }
+    ensures ready { OnOk result (IsNow (PreparedAfter groups (D.trace disk.old)) (D.trace disk.new)) }
     ensures bytes { OnOk result (filled_all (part_bytes (D.trace disk.new)) groups ≡ filled_all (part_bytes (D.trace disk.old)) groups) }
-    ensures others { KeepsUnnamed groups (D.trace disk.old) (D.trace disk.new) }
+    ensures others { KeepsUnchangedFiles groups (D.trace disk.old) (D.trace disk.new) }
 {
     let rows = record_of(alloc, groups.as_slice())?;
-    let body = write_body(alloc, rows.as_slice())?;
+    let body = body_bytes(alloc, rows.as_slice())?;
     let steps = all_steps(alloc, groups.as_slice())?;
-    lay_out(disk, groups.as_slice(), body.as_slice())?;
+    write_parts_and_record(disk, groups.as_slice(), body.as_slice())?;
     Ok(Prepared { groups, steps })
 }

@@ -2,11 +2,11 @@
 ghost use Rattle.std.specs.Prelude.{◌≡◌, [], OnOk, IsTrue};
 ghost use Rattle.acq_outside.specs.Stays.{Stays};
 ghost use Rattle.acq_outside.specs.Crash.{Goes};
-ghost use Rattle.acq_outside.specs.Moments.{Stands, Since, From};
+ghost use Rattle.acq_outside.specs.States.{IsNow, Since, From};
 ghost use Rattle.journal_model.specs.Rest.{IsIdle};
-ghost use Rattle.journal_model.specs.Steps.{stepped, carried, IsNamedStep};
-ghost use Rattle.commit_journal.specs.Opening.{Recovers, LeavesOthers};
-ghost use Rattle.commit_journal.specs.Phases.{IsCarrying, IsDone, IsTurned, IsOfCommit, AllNamed, call_of, closed_files};
+ghost use Rattle.journal_model.specs.Steps.{after_step, after_steps, IsNamedStep};
+ghost use Rattle.commit_journal.specs.Opening.{Recovers, KeepsFilesBut};
+ghost use Rattle.commit_journal.specs.Phases.{IsCarrying, IsDone, IsGateBeingShut, IsOfCommit, AllNamed, call_of, shut_files};
 
 use acq_outside::{Disk, Fault};
 use journal_model::{PartialName, Step};
@@ -16,7 +16,7 @@ use journal_model::{PartialName, Step};
 fn carry_one<D: Disk>(disk: &mut D, step: &Step) -> Result<(), Fault>
     requires { IsNamedStep step.now }
     ensures frame { Stays D.Disk disk.old disk.new result }
-    ensures told { IsTrue (D.tells disk.old) → OnOk result (D.files disk.new ≡ stepped (D.files disk.old) step.now) }
+    ensures told { IsTrue (D.tells disk.old) → OnOk result (D.files disk.new ≡ after_step (D.files disk.old) step.now) }
     ensures step { Goes (call_of step.now) (D.trace disk.old) (D.trace disk.new) result }
 {
     match step {
@@ -31,12 +31,12 @@ fn carry_one<D: Disk>(disk: &mut D, step: &Step) -> Result<(), Fault>
 /// Carries out all steps, in order.
 fn carry_all<D: Disk>(disk: &mut D, steps: &[Step]) -> Result<(), Fault>
     requires named { AllNamed steps.now }
-    requires open_gate { Stands (IsCarrying steps.now []) (D.trace disk.old) }
+    requires open_gate { IsNow (IsCarrying steps.now []) (D.trace disk.old) }
     ensures frame { Stays D.Disk disk.old disk.new result }
     ensures moments { Since (D.trace disk.old) (D.trace disk.new) (From Recovers (D.trace disk.old)) }
-    ensures others { LeavesOthers (IsOfCommit steps.now) (D.trace disk.old) (D.trace disk.new) }
-    ensures told { IsTrue (D.tells disk.old) → OnOk result (D.files disk.new ≡ carried (D.files disk.old) steps.now) }
-    ensures done { OnOk result (Stands (IsCarrying steps.now steps.now) (D.trace disk.new)) }
+    ensures others { KeepsFilesBut (IsOfCommit steps.now) (D.trace disk.old) (D.trace disk.new) }
+    ensures told { IsTrue (D.tells disk.old) → OnOk result (D.files disk.new ≡ after_steps (D.files disk.old) steps.now) }
+    ensures done { OnOk result (IsNow (IsCarrying steps.now steps.now) (D.trace disk.new)) }
 {
     for step in steps {
         carry_one(disk, step)?;
@@ -45,66 +45,66 @@ fn carry_all<D: Disk>(disk: &mut D, steps: &[Step]) -> Result<(), Fault>
 }
 
 /// Makes the names lasting.
-fn settle<D: Disk>(disk: &mut D, steps: &[Step]) -> Result<(), Fault>
-    requires { Stands (IsCarrying steps.now steps.now) (D.trace disk.old) }
+fn sync_renames<D: Disk>(disk: &mut D, steps: &[Step]) -> Result<(), Fault>
+    requires { IsNow (IsCarrying steps.now steps.now) (D.trace disk.old) }
     ensures frame { Stays D.Disk disk.old disk.new result }
     ensures moments { Since (D.trace disk.old) (D.trace disk.new) (From Recovers (D.trace disk.old)) }
-    ensures others { LeavesOthers (IsOfCommit steps.now) (D.trace disk.old) (D.trace disk.new) }
+    ensures others { KeepsFilesBut (IsOfCommit steps.now) (D.trace disk.old) (D.trace disk.new) }
     ensures same { D.files disk.new ≡ D.files disk.old }
-    ensures done { OnOk result (Stands (IsDone steps.now) (D.trace disk.new)) }
+    ensures done { OnOk result (IsNow (IsDone steps.now) (D.trace disk.new)) }
 {
     disk.sync_names()
 }
 
 /// Closes the gate.
-fn shut<D: Disk>(disk: &mut D, steps: &[Step]) -> Result<(), Fault>
-    requires { Stands (IsDone steps.now) (D.trace disk.old) }
+fn write_shut_gate<D: Disk>(disk: &mut D, steps: &[Step]) -> Result<(), Fault>
+    requires { IsNow (IsDone steps.now) (D.trace disk.old) }
     ensures frame { Stays D.Disk disk.old disk.new result }
     ensures moments { Since (D.trace disk.old) (D.trace disk.new) (From Recovers (D.trace disk.old)) }
-    ensures others { LeavesOthers (IsOfCommit steps.now) (D.trace disk.old) (D.trace disk.new) }
-    ensures told { IsTrue (D.tells disk.old) → OnOk result (D.files disk.new ≡ closed_files (D.files disk.old)) }
-    ensures done { OnOk result (Stands IsTurned (D.trace disk.new)) }
+    ensures others { KeepsFilesBut (IsOfCommit steps.now) (D.trace disk.old) (D.trace disk.new) }
+    ensures told { IsTrue (D.tells disk.old) → OnOk result (D.files disk.new ≡ shut_files (D.files disk.old)) }
+    ensures done { OnOk result (IsNow IsGateBeingShut (D.trace disk.new)) }
 {
     disk.write_at(b"journal".as_slice(), 0, &[0])
 }
 
 /// Makes the closed gate lasting.
-fn close<D: Disk>(disk: &mut D, steps: &[Step]) -> Result<(), Fault>
-    requires { Stands IsTurned (D.trace disk.old) }
+fn sync_shut_gate<D: Disk>(disk: &mut D, steps: &[Step]) -> Result<(), Fault>
+    requires { IsNow IsGateBeingShut (D.trace disk.old) }
     ensures frame { Stays D.Disk disk.old disk.new result }
     ensures moments { Since (D.trace disk.old) (D.trace disk.new) (From Recovers (D.trace disk.old)) }
-    ensures others { LeavesOthers (IsOfCommit steps.now) (D.trace disk.old) (D.trace disk.new) }
+    ensures others { KeepsFilesBut (IsOfCommit steps.now) (D.trace disk.old) (D.trace disk.new) }
     ensures same { D.files disk.new ≡ D.files disk.old }
-    ensures done { OnOk result (Stands IsIdle (D.trace disk.new)) }
+    ensures done { OnOk result (IsNow IsIdle (D.trace disk.new)) }
 {
     disk.sync(b"journal".as_slice())
 }
 
 #[tactic(auto, using(crate::proofs::Recovers::onwards, crate::proofs::Others::others_on))]
-fn close_behind<D: Disk>(disk: &mut D, steps: &[Step]) -> Result<(), Fault>
-    requires { Stands (IsCarrying steps.now steps.now) (D.trace disk.old) }
+fn end_record<D: Disk>(disk: &mut D, steps: &[Step]) -> Result<(), Fault>
+    requires { IsNow (IsCarrying steps.now steps.now) (D.trace disk.old) }
     ensures frame { Stays D.Disk disk.old disk.new result }
     ensures moments { Since (D.trace disk.old) (D.trace disk.new) (From Recovers (D.trace disk.old)) }
-    ensures others { LeavesOthers (IsOfCommit steps.now) (D.trace disk.old) (D.trace disk.new) }
-    ensures told { IsTrue (D.tells disk.old) → OnOk result (D.files disk.new ≡ closed_files (D.files disk.old)) }
-    ensures done { OnOk result (Stands IsIdle (D.trace disk.new)) }
+    ensures others { KeepsFilesBut (IsOfCommit steps.now) (D.trace disk.old) (D.trace disk.new) }
+    ensures told { IsTrue (D.tells disk.old) → OnOk result (D.files disk.new ≡ shut_files (D.files disk.old)) }
+    ensures done { OnOk result (IsNow IsIdle (D.trace disk.new)) }
 {
-    settle(disk, steps)?;
-    shut(disk, steps)?;
-    close(disk, steps)
+    sync_renames(disk, steps)?;
+    write_shut_gate(disk, steps)?;
+    sync_shut_gate(disk, steps)
 }
 
 /// Carries out an open record and closes the gate.
 #[tactic(auto, using(crate::proofs::Recovers::onwards, crate::proofs::Others::others_on))]
 pub fn recover<D: Disk>(disk: &mut D, steps: &[Step]) -> Result<(), Fault>
     requires named { AllNamed steps.now }
-    requires open_gate { Stands (IsCarrying steps.now []) (D.trace disk.old) }
+    requires open_gate { IsNow (IsCarrying steps.now []) (D.trace disk.old) }
     ensures frame { Stays D.Disk disk.old disk.new result }
     ensures moments { Since (D.trace disk.old) (D.trace disk.new) (From Recovers (D.trace disk.old)) }
-    ensures others { LeavesOthers (IsOfCommit steps.now) (D.trace disk.old) (D.trace disk.new) }
-    ensures told { IsTrue (D.tells disk.old) → OnOk result (D.files disk.new ≡ closed_files (carried (D.files disk.old) steps.now)) }
-    ensures done { OnOk result (Stands IsIdle (D.trace disk.new)) }
+    ensures others { KeepsFilesBut (IsOfCommit steps.now) (D.trace disk.old) (D.trace disk.new) }
+    ensures told { IsTrue (D.tells disk.old) → OnOk result (D.files disk.new ≡ shut_files (after_steps (D.files disk.old) steps.now)) }
+    ensures done { OnOk result (IsNow IsIdle (D.trace disk.new)) }
 {
     carry_all(disk, steps)?;
-    close_behind(disk, steps)
+    end_record(disk, steps)
 }

@@ -15,7 +15,7 @@ use Rattle.configuration.specs.declared.error.ConfigurationError.{ConfigurationE
 use Rattle.configuration.specs.Answers.{AreCounted, Gives, IsOutside, IsText, ReadsConf, ReadsEntries}
 use Rattle.configuration.specs.Changes.{change_given}
 use Rattle.configuration.specs.Configured.{IsAnswer, configured, entries_given, of_value, pairs_given}
-use Rattle.configuration.specs.Folder.{Folder, Part, folder_of}
+use Rattle.configuration.specs.Folder.{Folder, FolderFile, folder_of}
 use Rattle.configuration.specs.Refusals.{in_plan}
 use Rattle.configuration.proofs.Steps.{some_counted}
 use Rattle.configuration.proofs.Fronts.{some_text}
@@ -83,10 +83,10 @@ stops told folder options refusal is to (inr refused) = answers told folder opti
 
 -- a folder with these texts of apt.conf, and some sources lists
 module _ (told : Option EtcFiles) (options : List Name) where
-  conf_folder : (parts : List Part) (conf : List ℕ) → Folder
+  conf_folder : (parts : List FolderFile) (conf : List ℕ) → Folder
   conf_folder parts conf = record { conf_parts = parts; conf = conf; list = (some_text told SourcesList []).0; list_parts = (some_counted told SourcesParts).0 }
 
-  is_conf_folder : (parts : List Part) (conf : List ℕ) → AreCounted told ConfParts parts → IsText told Conf [] conf → IsFolder told (conf_folder parts conf)
+  is_conf_folder : (parts : List FolderFile) (conf : List ℕ) → AreCounted told ConfParts parts → IsText told Conf [] conf → IsFolder told (conf_folder parts conf)
   unfolding conf_folder
   is_conf_folder parts conf counted text = record { conf_parts = counted; conf = text; list = (some_text told SourcesList []).1; list_parts = (some_counted told SourcesParts).1 }
 
@@ -111,10 +111,10 @@ module _ (told : Option EtcFiles) (options : List Name) where
 
   module _ (told1 : Option EtcFiles) (pairs : List Pair) (settings : Settings) (change : Change) (same : told1 ≡ told) (read : ReadsConf told options (Ok pairs)) (second : Gives (of_value (settings_of pairs)) (Ok settings))
       (third : Gives (of_value (change_given pairs)) (Ok change)) where
-    whole : (list : List ℕ) (parts : List Part) → Folder
+    whole : (list : List ℕ) (parts : List FolderFile) → Folder
     whole list parts = record { conf_parts = read.parts; conf = read.conf; list = list; list_parts = parts }
 
-    is_whole : (list : List ℕ) (parts : List Part) → IsText told1 SourcesList [] list → AreCounted told1 SourcesParts parts → IsFolder told (whole list parts)
+    is_whole : (list : List ℕ) (parts : List FolderFile) → IsText told1 SourcesList [] list → AreCounted told1 SourcesParts parts → IsFolder told (whole list parts)
     unfolding whole
     is_whole list parts text counted = record {
       conf_parts = read.counted;

@@ -11,7 +11,7 @@ use Rattle.acq_outside.specs.Etc.{EtcFiles, bytes_at, folder_names, is_at, names
 use Rattle.acq_outside.specs.declared.etc.Place.{Place}
 use Rattle.acq_outside.specs.declared.etc.Place.TheVariants.{SourcesList, SourcesParts, Conf, ConfParts}
 use Rattle.configuration.specs.Answers.{IsOrdered, part_names}
-use Rattle.configuration.specs.Folder.{Folder, Part, folder_of, parts_at, text_at}
+use Rattle.configuration.specs.Folder.{Folder, FolderFile, folder_of, parts_at, text_at}
 use Rattle.configuration.specs.Names.{counts, listing}
 use Rattle.configuration.proofs.Order.{Name, IsIn, below_in, not_below_itself, ordered_head, ordered_tail, same_names}
 use Rattle.configuration.proofs.Listing.{counts_listed, listed_counts, listing_ordered}
@@ -35,7 +35,7 @@ own_listing is_counted names order all =
 
 -- ---- the files of a folder
 
-abbrev placed_at : Place → List Part → EtcFiles
+abbrev placed_at : Place → List FolderFile → EtcFiles
 placed_at place parts = map (λ part. (place, part.0, part.1)) parts
 
 abbrev single_at : Place → List ℕ → EtcFiles
@@ -50,11 +50,11 @@ names_append (file ∷ a) b place = go (place_index file.0 == place_index place)
     go true rest = ap (λ (ns : List Name). file.1 ∷ ns) rest
     go false rest = rest
 
-own_names : (place other : Place) (parts : List Part) → (place_index place == place_index other) ≡ true → names_in (placed_at place parts) other ≡ part_names parts
+own_names : (place other : Place) (parts : List FolderFile) → (place_index place == place_index other) ≡ true → names_in (placed_at place parts) other ≡ part_names parts
 own_names place other [] same = refl
 own_names place other (part ∷ parts) same = rw same (ap (λ (ns : List Name). part.0 ∷ ns) (own_names place other parts same))
 
-no_names : (place other : Place) (parts : List Part) → (place_index place == place_index other) ≡ false → names_in (placed_at place parts) other ≡ []
+no_names : (place other : Place) (parts : List FolderFile) → (place_index place == place_index other) ≡ false → names_in (placed_at place parts) other ≡ []
 no_names place other [] differ = refl
 no_names place other (part ∷ parts) differ = rw differ (no_names place other parts differ)
 
@@ -72,7 +72,7 @@ bytes_append (file ∷ a) b place name = go (is_at file place name) (bytes_appen
     go true rest = refl
     go false rest = rest
 
-no_bytes : (place other : Place) (parts : List Part) (name : Name) → (place_index place == place_index other) ≡ false → bytes_at (placed_at place parts) other name ≡ None
+no_bytes : (place other : Place) (parts : List FolderFile) (name : Name) → (place_index place == place_index other) ≡ false → bytes_at (placed_at place parts) other name ≡ None
 no_bytes place other [] name differ = refl
 no_bytes place other (part ∷ parts) name differ = rw differ (no_bytes place other parts name differ)
 
@@ -92,11 +92,11 @@ map_same : {B : Type 0} (f g : Name → B) (names : List Name) → ((name : Name
 map_same f g [] all = refl
 map_same f g (name ∷ names) all = ap₂ (λ x xs. x ∷ xs) (all name (inl refl)) (map_same f g names (λ other within. all other (inr within)))
 
-abbrev text_in : EtcFiles → Place → Name → Part
+abbrev text_in : EtcFiles → Place → Name → FolderFile
 text_in files place name = (name, unwrap_or (bytes_at files place name) [])
 
 -- each part of a folder is found under its name
-pub own_parts : (place : Place) (parts : List Part) → (place_index place == place_index place) ≡ true → IsOrdered (part_names parts) → map (text_in (placed_at place parts) place) (part_names parts) ≡ parts
+pub own_parts : (place : Place) (parts : List FolderFile) → (place_index place == place_index place) ≡ true → IsOrdered (part_names parts) → map (text_in (placed_at place parts) place) (part_names parts) ≡ parts
 own_parts place [] same order = refl
 own_parts place (part ∷ parts) same order =
     let names = part_names parts in
@@ -104,7 +104,7 @@ own_parts place (part ∷ parts) same order =
     let first : text_in (placed_at place (part ∷ parts)) place part.0 ≡ part = rw (same, names_equal part.0) refl in
     let passes : (name : Name) → IsIn names name → text_in (placed_at place (part ∷ parts)) place name ≡ text_in (placed_at place parts) place name
     = λ name within. rw (same, names_differ part.0 name (λ (e : part.0 ≡ name). not_below_itself name (subst (λ (n : Name). Rattle.configuration.proofs.Order.cmp n name ≡ Rattle.std.specs.declared.cmp.Ordering.TheVariants.Less) e (below_in part.0 names name (ordered_head part.0 names order) within)))) refl in
-    ap₂ (λ (x : Part) (xs : List Part). x ∷ xs) first
+    ap₂ (λ (x : FolderFile) (xs : List FolderFile). x ∷ xs) first
     (map_same (text_in (placed_at place (part ∷ parts)) place) (text_in (placed_at place parts) place) names passes ∙ own_parts place parts same behind)
 
 -- ---- the folder
@@ -176,10 +176,10 @@ list_text folder =
     ∙ bytes_append (placed_at SourcesParts folder.list_parts) singles SourcesList []
     ∙ ap (λ (b : Option (List ℕ)). first_of b (bytes_at singles SourcesList [])) (no_bytes SourcesParts SourcesList folder.list_parts [] refl))
 
-abbrev CountIn : Place → List Part → Type 0
+abbrev CountIn : Place → List FolderFile → Type 0
 CountIn place parts = IsOrdered (part_names parts) × (list_all (counts place) (part_names parts) ≡ true)
 
-parts_found : (files : EtcFiles) (place : Place) (parts : List Part) → (place_index place == place_index place) ≡ true → folder_names files place ≡ part_names parts
+parts_found : (files : EtcFiles) (place : Place) (parts : List FolderFile) → (place_index place == place_index place) ≡ true → folder_names files place ≡ part_names parts
     → ((name : Name) → bytes_at files place name ≡ bytes_at (placed_at place parts) place name) → CountIn place parts → parts_at files place (listing (counts place) (folder_names files place)) ≡ parts
 parts_found files place parts same names bytes count =
     ap (λ (ns : List Name). parts_at files place (listing (counts place) ns)) names

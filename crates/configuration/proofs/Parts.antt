@@ -6,7 +6,7 @@ use Rattle.acq_outside.specs.declared.etc.Place.{Place}
 use Rattle.configuration.specs.declared.error.ConfigurationError.{ConfigurationError}
 use Rattle.configuration.specs.Answers.{Adds, AddsParts, AddsText, AreParts, IsOutside, IsText, part_names}
 use Rattle.configuration.specs.Configured.{◌>>=◌, all_of}
-use Rattle.configuration.specs.Folder.{Part, parts_at}
+use Rattle.configuration.specs.Folder.{FolderFile, parts_at}
 use Rattle.configuration.proofs.Order.{Name}
 
 -- ---- texts one behind another
@@ -50,8 +50,8 @@ module _ {X Y : Type 0} where
 
 -- ---- the parts that names stand for
 
-parts_append : (told : Option EtcFiles) (place : Place) (a b : List Name) (p q : List Part) → AreParts told place a p → AreParts told place b q → AreParts told place (a ++ b) (p ++ q)
-parts_append (Some files) place a b p q first second = ap₂ (λ (x y : List Part). x ++ y) first second ∙ sym (map-append _ a b)
+parts_append : (told : Option EtcFiles) (place : Place) (a b : List Name) (p q : List FolderFile) → AreParts told place a p → AreParts told place b q → AreParts told place (a ++ b) (p ++ q)
+parts_append (Some files) place a b p q first second = ap₂ (λ (x y : List FolderFile). x ++ y) first second ∙ sym (map-append _ a b)
 parts_append None place a b p q first second = map-append _ p q ∙ ap₂ (λ (x y : List Name). x ++ y) first second
 
 parts_nil : (told : Option EtcFiles) (place : Place) → AreParts told place [] []
@@ -66,16 +66,16 @@ empty_names : (names : List Name) → part_names (map (λ name. (name, [])) name
 empty_names [] = refl
 empty_names (name ∷ names) = ap (λ (ns : List Name). name ∷ ns) (empty_names names)
 
-pub some_parts : (told : Option EtcFiles) (place : Place) (names : List Name) → (parts : List Part) × AreParts told place names parts
+pub some_parts : (told : Option EtcFiles) (place : Place) (names : List Name) → (parts : List FolderFile) × AreParts told place names parts
 some_parts (Some files) place names = (parts_at files place names, refl)
 some_parts None place names = (map (λ name. (name, [])) names, empty_names names)
 
 -- ---- the loop over names
 
-module _ {X : Type 0} (told : Option EtcFiles) (place : Place) (read : Part → Result (List X) ConfigurationError) where
+module _ {X : Type 0} (told : Option EtcFiles) (place : Place) (read : FolderFile → Result (List X) ConfigurationError) where
   -- the files of these names are read, and gave what stands behind what was there before
   pub record Progress (names : List Name) (before now : List X) : Type 0 where
-    pub parts : List Part
+    pub parts : List FolderFile
     pub are : AreParts told place names parts
     pub more : List X
     pub read_all : all_of read parts ≡ Ok more
@@ -166,7 +166,7 @@ module _ {W X : Type 0} (read : W → Result (List X) ConfigurationError) where
 
 -- ---- the same where what is told is said of another state of the folder
 
-module _ {X : Type 0} (told : Option EtcFiles) (place : Place) (read : Part → Result (List X) ConfigurationError) where
+module _ {X : Type 0} (told : Option EtcFiles) (place : Place) (read : FolderFile → Result (List X) ConfigurationError) where
   pub begins_at : (names : List Name) (before : List X) → Progress told place read (take 0 names) before before
   begins_at [] before = begins told place read before
   begins_at (name ∷ names) before = begins told place read before

@@ -9,24 +9,24 @@ use Rattle.source_lists.specs.declared.entry.Entry.{Entry}
 use Rattle.configuration.specs.declared.error.ConfigurationError.{ConfigurationError}
 use Rattle.configuration.specs.Answers.{Adds, AddsParts, AddsText, AreCounted, AreNames, AreParts, IsOrdered, IsOutside, IsText, ReadsConf, ReadsEntries}
 use Rattle.configuration.specs.Configured.{all_of, conf_part, conf_text, entries_given, list_part, list_text, option_pair, pairs_given}
-use Rattle.configuration.specs.Folder.{Folder, Part, parts_in}
+use Rattle.configuration.specs.Folder.{Folder, FolderFile, parts_in}
 use Rattle.configuration.specs.Names.{counts}
 use Rattle.configuration.proofs.Fronts.{some_text}
 use Rattle.configuration.proofs.Order.{ordered_nil, Name}
 
 -- ---- parts that count
 
-pub some_counted : (told : Option EtcFiles) (place : Place) → (parts : List Part) × AreCounted told place parts
+pub some_counted : (told : Option EtcFiles) (place : Place) → (parts : List FolderFile) × AreCounted told place parts
 some_counted (Some files) place = (parts_in files place, refl)
 some_counted None place = ([], (ordered_nil, refl))
 
-counted : (told : Option EtcFiles) (place : Place) (names : List Name) (parts : List Part) → AreNames told place names → AreParts told place names parts → AreCounted told place parts
+counted : (told : Option EtcFiles) (place : Place) (names : List Name) (parts : List FolderFile) → AreNames told place names → AreParts told place names parts → AreCounted told place parts
 counted (Some files) place names parts listed are = are ∙ ap (λ (ns : List Name). Rattle.configuration.specs.Folder.parts_at files place ns) listed
 counted None place names parts listed are = subst (λ (ns : List Name). IsOrdered ns × (list_all (counts place) ns ≡ true)) (sym are) listed
 
 -- ---- apt.conf
 
-module _ (parts : List Part) (conf : List ℕ) (options : List Name) where
+module _ (parts : List FolderFile) (conf : List ℕ) (options : List Name) where
   parts_stop : (refusal : ConfigurationError) → all_of conf_part parts ≡ Err refusal → pairs_given parts conf options ≡ Err refusal
   unfolding pairs_given
   parts_stop refusal first = rw first refl
@@ -99,7 +99,7 @@ module _ (told : Option EtcFiles) (options : List Name) where
 
 -- ---- sources lists
 
-module _ (arch list : List ℕ) (parts : List Part) where
+module _ (arch list : List ℕ) (parts : List FolderFile) where
   list_stop : (refusal : ConfigurationError) → list_text arch list ≡ Err refusal → entries_given arch list parts ≡ Err refusal
   unfolding entries_given
   list_stop refusal first = rw first refl

@@ -12,7 +12,7 @@ use Rattle.configuration.specs.Names.{counts, listing}
 use Rattle.acq_outside.specs.declared.etc.Place.TheVariants.{SourcesList, SourcesParts, Conf, ConfParts}
 use Rattle.apt_conf.specs.Keys.{Pair}
 use Rattle.source_lists.specs.declared.entry.Entry.{Entry}
-use Rattle.configuration.specs.Folder.{Part, parts_at, parts_in, text_at}
+use Rattle.configuration.specs.Folder.{FolderFile, parts_at, parts_in, text_at}
 use Rattle.configuration.specs.Configured.{all_of, pairs_given, entries_given}
 
 -- the folder failed, or memory ran out
@@ -43,11 +43,11 @@ abbrev pub IsText : Option EtcFiles → Place → List ℕ → List ℕ → Type
 IsText (Some files) place name text = text ≡ text_at files place name
 IsText None place name text = Unit {0}
 
-abbrev pub part_names : List Part → List (List ℕ)
+abbrev pub part_names : List FolderFile → List (List ℕ)
 part_names parts = map (λ part. part.0) parts
 
 -- the parts are the files of these names, with their texts where they are told
-abbrev pub AreParts : Option EtcFiles → Place → List (List ℕ) → List Part → Type 0
+abbrev pub AreParts : Option EtcFiles → Place → List (List ℕ) → List FolderFile → Type 0
 AreParts (Some files) place names parts = parts ≡ parts_at files place names
 AreParts None place names parts = part_names parts ≡ names
 
@@ -56,17 +56,17 @@ abbrev pub AddsText : {X : Type 0} → Option EtcFiles → Place → List ℕ �
 AddsText told place name read before after result = (text : List ℕ) × IsText told place name text × Adds (read text) before after result
 
 -- the files of these names add what their texts give
-abbrev pub AddsParts : {X : Type 0} → Option EtcFiles → Place → List (List ℕ) → (Part → Result (List X) ConfigurationError) → List X → List X → Result (Unit {0}) ConfigurationError → Type 0
-AddsParts told place names read before after result = (parts : List Part) × AreParts told place names parts × Adds (all_of read parts) before after result
+abbrev pub AddsParts : {X : Type 0} → Option EtcFiles → Place → List (List ℕ) → (FolderFile → Result (List X) ConfigurationError) → List X → List X → Result (Unit {0}) ConfigurationError → Type 0
+AddsParts told place names read before after result = (parts : List FolderFile) × AreParts told place names parts × Adds (all_of read parts) before after result
 
 -- the parts are the files that count, as they are told, or some that count
-abbrev pub AreCounted : Option EtcFiles → Place → List Part → Type 0
+abbrev pub AreCounted : Option EtcFiles → Place → List FolderFile → Type 0
 AreCounted (Some files) place parts = parts ≡ parts_in files place
 AreCounted None place parts = IsOrdered (part_names parts) × (list_all (counts place) (part_names parts) ≡ true)
 
 -- apt.conf.d, apt.conf and the options give the pairs
 pub record ReadsConf (told : Option EtcFiles) (options : List (List ℕ)) (result : Result (List Pair) ConfigurationError) : Type 0 where
-  pub parts : List Part
+  pub parts : List FolderFile
   pub conf : List ℕ
   pub counted : AreCounted told ConfParts parts
   pub text : IsText told Conf [] conf
@@ -75,7 +75,7 @@ pub record ReadsConf (told : Option EtcFiles) (options : List (List ℕ)) (resul
 -- sources.list and sources.list.d give the entries
 pub record ReadsEntries (told : Option EtcFiles) (arch : List ℕ) (result : Result (List Entry) ConfigurationError) : Type 0 where
   pub list : List ℕ
-  pub parts : List Part
+  pub parts : List FolderFile
   pub text : IsText told SourcesList [] list
   pub counted : AreCounted told SourcesParts parts
   pub gives : Gives (entries_given arch list parts) result

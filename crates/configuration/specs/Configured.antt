@@ -15,7 +15,7 @@ use Rattle.target_plan.specs.Planning.{plan_of}
 use Rattle.configuration.specs.declared.configuring.Configured.{Configured}
 use Rattle.configuration.specs.declared.error.ConfigurationError.{ConfigurationError}
 use Rattle.configuration.specs.declared.error.ConfigurationError.TheVariants.{Fault, NoMemory}
-use Rattle.configuration.specs.Folder.{Part, Folder, folder_of}
+use Rattle.configuration.specs.Folder.{FolderFile, Folder, folder_of}
 use Rattle.configuration.specs.Changes.{change_given}
 use Rattle.configuration.specs.Refusals.{in_conf, in_list, in_plan}
 
@@ -35,7 +35,7 @@ all_of read (text ∷ texts) = do
 
 -- ---- apt.conf
 
-abbrev pub conf_part : Part → Result (List Pair) ConfigurationError
+abbrev pub conf_part : FolderFile → Result (List Pair) ConfigurationError
 conf_part part = in_conf (codes "apt.conf.d/" ++ part.0) (pairs_of part.1)
 
 abbrev pub conf_text : List ℕ → Result (List Pair) ConfigurationError
@@ -46,7 +46,7 @@ abbrev pub option_pair : List ℕ → Result (List Pair) ConfigurationError
 option_pair word = in_conf (codes "-o") (pair_of word)
 
 -- the pairs of apt.conf.d, of apt.conf and of the command line, in this order
-unfoldable pub pairs_given : List Part → List ℕ → List (List ℕ) → Result (List Pair) ConfigurationError
+unfoldable pub pairs_given : List FolderFile → List ℕ → List (List ℕ) → Result (List Pair) ConfigurationError
 pairs_given parts conf options = do
   first ← all_of conf_part parts
   second ← conf_text conf
@@ -60,18 +60,18 @@ entries_by (Some OneLine) file arch text = list_entries file arch text
 entries_by (Some Sources) file arch text = sources_entries file arch text
 entries_by None file arch text = Ok []
 
-abbrev pub part_file : Part → List ℕ
+abbrev pub part_file : FolderFile → List ℕ
 part_file part = codes "sources.list.d/" ++ part.0
 
 -- a file of sources.list.d, in the form that its name says
-abbrev pub list_part : List ℕ → Part → Result (List Entry) ConfigurationError
+abbrev pub list_part : List ℕ → FolderFile → Result (List Entry) ConfigurationError
 list_part arch part = in_list (part_file part) (entries_by (form_of part.0) (part_file part) arch part.1)
 
 abbrev pub list_text : List ℕ → List ℕ → Result (List Entry) ConfigurationError
 list_text arch text = in_list (codes "sources.list") (list_entries (codes "sources.list") arch text)
 
 -- the entries of sources.list and then of sources.list.d
-unfoldable pub entries_given : List ℕ → List ℕ → List Part → Result (List Entry) ConfigurationError
+unfoldable pub entries_given : List ℕ → List ℕ → List FolderFile → Result (List Entry) ConfigurationError
 entries_given arch list parts = do
   first ← list_text arch list
   others ← all_of (list_part arch) parts

@@ -28,9 +28,9 @@ unfoldable pub repeated : List Field → Option TextError
 repeated fields = repeated_behind [] fields
 
 -- the answer is this fault, or none where there is none
-abbrev pub Tells : {X : Type 0} → Option TextError → Result X TextError → Type 0
-Tells fault (Ok done) = fault ≡ None
-Tells fault (Err given) = (given ≡ NoMemory) ⊎ (fault ≡ Some given)
+abbrev pub AnswersFault : {X : Type 0} → Option TextError → Result X TextError → Type 0
+AnswersFault fault (Ok done) = fault ≡ None
+AnswersFault fault (Err given) = (given ≡ NoMemory) ⊎ (fault ≡ Some given)
 
 -- ---- names by their digests
 

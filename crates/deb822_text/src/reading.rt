@@ -2,7 +2,7 @@
 ghost use Rattle.std.specs.Prelude.{◌≡◌, ◌⊎◌, ◌++◌, ◌∷◌, [], Some, Err, OnOk, IfOk, IfErr};
 ghost use Rattle.deb822_text.specs.Control.{paragraphs_of, lines_of, or_else, Separator, Continuation, Named};
 ghost use Rattle.deb822_text.specs.Scan.{scan, start, state_of, Takes};
-ghost use Rattle.deb822_text.specs.Names.{repeated, Tells};
+ghost use Rattle.deb822_text.specs.Names.{repeated, AnswersFault};
 ghost use Rattle.deb822_text.specs.Seen.{seen};
 ghost use Rattle.deb822_text.specs.Refused.{IsFirstFault, AreAllowed};
 

@@ -2,7 +2,7 @@
 ghost use Rattle.std.specs.Prelude.{◌≡◌, ◌<◌, ◌+◌, ◌∷◌, IfOk, length, drop, slice_index_or};
 ghost use Rattle.std.specs.List.Sorted.{IsPermutation, IsSorted};
 ghost use Rattle.deb822_text.specs.declared.error.TextError.TheVariants.{Twice};
-ghost use Rattle.deb822_text.specs.Names.{repeated, Tells, names_of, name_fault, keys_from, keys_of, key_cmp, lesser as lesser_of, is_repeated as is_repeated_by, next_place as next_place_of, least_place};
+ghost use Rattle.deb822_text.specs.Names.{repeated, AnswersFault, names_of, name_fault, keys_from, keys_of, key_cmp, lesser as lesser_of, is_repeated as is_repeated_by, next_place as next_place_of, least_place};
 
 use crate::finding::names_field;
 use crate::names::{Name, digest};
@@ -23,7 +23,7 @@ pub struct Key<'a> {
 
 /// Refuses the first field whose name an earlier one has, ASCII case aside.
 pub fn check_names(alloc: Global, fields: &[Field]) -> Result<(), TextError>
-    ensures { Tells (repeated fields.now) result }
+    ensures { AnswersFault (repeated fields.now) result }
 {
     if fields.len() <= FEW {
         check_few(fields)
@@ -35,7 +35,7 @@ pub fn check_names(alloc: Global, fields: &[Field]) -> Result<(), TextError>
 /// Compares each name with those before it.
 #[tactic(auto, unfolding(crate::specs::Names::repeated))]
 fn check_few(fields: &[Field]) -> Result<(), TextError>
-    ensures { Tells (repeated fields.now) result }
+    ensures { AnswersFault (repeated fields.now) result }
 {
     for place in 0..fields.len() {
         let (before, _) = fields.split_at(place);
@@ -47,7 +47,7 @@ fn check_few(fields: &[Field]) -> Result<(), TextError>
 /// Compares a field's name with those before it.
 #[tactic(auto, using(crate::proofs::Lookups::naming))]
 fn check_behind(before: &[Field], field: &Field) -> Result<(), TextError>
-    ensures { Tells (name_fault (names_of before.now) field.now) result }
+    ensures { AnswersFault (name_fault (names_of before.now) field.now) result }
 {
     if names_field(before, field.name.as_bytes()) {
         return Err(TextError::Twice(field.at));
@@ -57,7 +57,7 @@ fn check_behind(before: &[Field], field: &Field) -> Result<(), TextError>
 
 /// Sorts the names, so that those that are one stand side by side.
 fn check_many(alloc: Global, fields: &[Field]) -> Result<(), TextError>
-    ensures { Tells (repeated fields.now) result }
+    ensures { AnswersFault (repeated fields.now) result }
 {
     let keys = sorted_keys(alloc, fields)?;
     match first_place(keys.as_slice()) {

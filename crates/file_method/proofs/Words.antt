@@ -11,7 +11,7 @@ use Rattle.acq_outside.specs.Tree.{TreeFiles, file_at}
 use Rattle.acq_outside.specs.declared.word.Fetch.{Fetch}
 use Rattle.acq_outside.specs.declared.word.Word.{Word}
 use Rattle.acq_outside.specs.declared.word.Word.TheVariants.{Other}
-use Rattle.acq_outside.specs.Word.{HasSize, IsPieceOf, IsWord, Tells, after_word, begun}
+use Rattle.acq_outside.specs.Word.{HasSize, IsPieceOf, IsWord, IsReplyOf, after_word, begun}
 use Rattle.file_method.specs.TreeMirror.{file_uri, mirror_of}
 use Rattle.file_method.specs.FileMethod.{FileState, IsFetchOf, world_of}
 use Rattle.file_method.specs.Piece.{IsPart, word_of}
@@ -82,48 +82,48 @@ pub long_word : (n size : ℕ) (files : Option TreeFiles) (job : Job) → IsSoun
     → IsWord n n (world_of files) (begun job) None (Other replies.TooBig)
 long_word n size files job sound file long is = record { counted = refl; ended = refl; told = by files is }
   where
-    of : (content : Option (List ℕ)) → option_map length content ≡ Some size → Tells (answer_of content) job replies.TooBig
+    of : (content : Option (List ℕ)) → option_map length content ≡ Some size → IsReplyOf (answer_of content) job replies.TooBig
     of None none = absurd cc
     of (Some all) same = let len : length all ≡ size = size_is all size same in omega arith
 
-    by : (files : Option TreeFiles) → IfSome files (λ all. option_map length (file_at all job.uri.path) ≡ Some size) → IfSome (world_of files) (λ entries. Tells (answer_at entries job.uri) job replies.TooBig)
+    by : (files : Option TreeFiles) → IfSome files (λ all. option_map length (file_at all job.uri.path) ≡ Some size) → IfSome (world_of files) (λ entries. IsReplyOf (answer_at entries job.uri) job replies.TooBig)
     by None is = tt
-    by (Some all) is = at_path (λ answer. Tells answer job replies.TooBig) all job.uri (is_file_uri job.uri sound file) (of (file_at all job.uri.path) is)
+    by (Some all) is = at_path (λ answer. IsReplyOf answer job replies.TooBig) all job.uri (is_file_uri job.uri sound file) (of (file_at all job.uri.path) is)
 
 -- the file ends within what the job leaves out
 pub short_word : (n size : ℕ) (files : Option TreeFiles) (job : Job) → IsSound job.uri → job.uri.scheme ≡ File → 0 < job.from → size ≤ job.from
     → IfSome files (λ all. option_map length (file_at all job.uri.path) ≡ Some size) → IsWord n n (world_of files) (begun job) None (Other (replies.Absent 416))
 short_word n size files job sound file some short is = record { counted = refl; ended = refl; told = by files is }
   where
-    of : (content : Option (List ℕ)) → option_map length content ≡ Some size → Tells (answer_of content) job (replies.Absent 416)
+    of : (content : Option (List ℕ)) → option_map length content ≡ Some size → IsReplyOf (answer_of content) job (replies.Absent 416)
     of None none = absurd cc
     of (Some all) same = let len : length all ≡ size = size_is all size same in (refl, some, omega arith)
 
     by : (files : Option TreeFiles) → IfSome files (λ all. option_map length (file_at all job.uri.path) ≡ Some size)
-        → IfSome (world_of files) (λ entries. Tells (answer_at entries job.uri) job (replies.Absent 416))
+        → IfSome (world_of files) (λ entries. IsReplyOf (answer_at entries job.uri) job (replies.Absent 416))
     by None is = tt
-    by (Some all) is = at_path (λ answer. Tells answer job (replies.Absent 416)) all job.uri (is_file_uri job.uri sound file) (of (file_at all job.uri.path) is)
+    by (Some all) is = at_path (λ answer. IsReplyOf answer job (replies.Absent 416)) all job.uri (is_file_uri job.uri sound file) (of (file_at all job.uri.path) is)
 
 -- there is no such file
 pub absent_word : (n : ℕ) (files : Option TreeFiles) (job : Job) → IsSound job.uri → job.uri.scheme ≡ File → IfSome files (λ all. None ≡ option_map length (file_at all job.uri.path))
     → IsWord n n (world_of files) (begun job) None (Other (replies.Absent 404))
 absent_word n files job sound file is = record { counted = refl; ended = refl; told = by files is }
   where
-    of : (content : Option (List ℕ)) → None ≡ option_map length content → Tells (answer_of content) job (replies.Absent 404)
+    of : (content : Option (List ℕ)) → None ≡ option_map length content → IsReplyOf (answer_of content) job (replies.Absent 404)
     of None none = refl
     of (Some all) same = absurd cc
 
-    by : (files : Option TreeFiles) → IfSome files (λ all. None ≡ option_map length (file_at all job.uri.path)) → IfSome (world_of files) (λ entries. Tells (answer_at entries job.uri) job (replies.Absent 404))
+    by : (files : Option TreeFiles) → IfSome files (λ all. None ≡ option_map length (file_at all job.uri.path)) → IfSome (world_of files) (λ entries. IsReplyOf (answer_at entries job.uri) job (replies.Absent 404))
     by None is = tt
-    by (Some all) is = at_path (λ answer. Tells answer job (replies.Absent 404)) all job.uri (is_file_uri job.uri sound file) (of (file_at all job.uri.path) is)
+    by (Some all) is = at_path (λ answer. IsReplyOf answer job (replies.Absent 404)) all job.uri (is_file_uri job.uri sound file) (of (file_at all job.uri.path) is)
 
 -- there is nothing of another scheme
 pub elsewhere_word : (n : ℕ) (files : Option TreeFiles) (job : Job) → job.uri.scheme ≡ Http → IsWord n n (world_of files) (begun job) None (Other (replies.Absent 404))
 elsewhere_word n files job other = record { counted = refl; ended = refl; told = by files }
   where
-    by : (files : Option TreeFiles) → IfSome (world_of files) (λ entries. Tells (answer_at entries job.uri) job (replies.Absent 404))
+    by : (files : Option TreeFiles) → IfSome (world_of files) (λ entries. IsReplyOf (answer_at entries job.uri) job (replies.Absent 404))
     by None = tt
-    by (Some all) = let P : Answer → Type 0 = λ answer. Tells answer job (replies.Absent 404) in subst P (sym (elsewhere all job.uri other)) refl
+    by (Some all) = let P : Answer → Type 0 = λ answer. IsReplyOf answer job (replies.Absent 404) in subst P (sym (elsewhere all job.uri other)) refl
 
 -- a word after which nothing is under way, with values that are equal
 pub idle_word : (n m : ℕ) (files : Option TreeFiles) (fetch : Fetch) (under : Option Fetch) (word : Word) → m ≡ n → under ≡ None → IsWord n n (world_of files) fetch None word → IsWord n m (world_of files) fetch under word

@@ -1,6 +1,6 @@
 -- What a method over a tree shows.
 use Rattle.std.specs.Prelude.{◌≡◌, ◌⊎◌, ℕ, ◌<◌, ◌≤◌, length, Option, Some, IfSome, option_map}
-use Rattle.acq_base.specs.Mirror.{World}
+use Rattle.acq_base.specs.Mirror.{MirrorMap}
 use Rattle.acq_base.specs.declared.fetch.Reply.TheVariants as replies
 use Rattle.acq_outside.specs.Count.{Rose}
 use Rattle.acq_outside.specs.Frame.{FetchesBy}
@@ -19,7 +19,7 @@ pub record FileState (T : Type 0) : Type 0 where
   pub size : ℕ
 
 -- it tells its mirror where its tree tells the files
-abbrev pub world_of : Option TreeFiles → Option World
+abbrev pub world_of : Option TreeFiles → Option MirrorMap
 world_of files = option_map mirror_of files
 
 -- a fetch of a file of this length, which is within its job's limit and longer than what the job leaves out, if it leaves
@@ -48,7 +48,7 @@ abbrev pub faults_of : {T : Type 0} → FileState T → ℕ
 faults_of method = method.faults
 
 -- the mirror that it tells
-abbrev pub told_mirror : {T : Type 0} → Ghosts T → FileState T → Option World
+abbrev pub told_mirror : {T : Type 0} → Ghosts T → FileState T → Option MirrorMap
 told_mirror g method = world_of (g.files method.tree)
 
 -- The frame of a call: that of any method; and the tree's files stay, its count never falls, and it rose exactly where the

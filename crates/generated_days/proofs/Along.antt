@@ -2,18 +2,18 @@
 use Rattle.std.proofs.Common.{◌≡◌, ◌∙◌, ℕ, zero, suc, ◌+◌, List, [], ◌∷◌, length, refl, sym, ap, subst, arith}
 use Rattle.std.specs.List.{AllByRecursion as Each}
 use Rattle.std.proofs.lemmas.List.Sums.{sum_by-cons}
-use Rattle.acq_base.specs.Mirror.{World, answer_at}
+use Rattle.acq_base.specs.Mirror.{MirrorMap, answer_at}
 use Rattle.acq_base.specs.declared.fetch.Answer.{Answer}
 use Rattle.acq_base.specs.declared.fetch.Answer.TheVariants as answers
 use Rattle.acq_base.specs.declared.uri.Uri.{Uri}
 use Rattle.board_model.specs.Runs.{Note}
-use Rattle.board_model.specs.Stands.{AreAsked, tolds}
+use Rattle.board_model.specs.Stands.{AreAsked, lane_answers}
 use Rattle.generated_days.specs.Asks.{asks_along}
 use Rattle.generated_days.proofs.Answers.{NoFault, Said}
 use Rattle.update_model.specs.Mirrored.{behind, heard_once, positions_by, seen, trails_over}
-use Rattle.update_model.specs.Points.{Point, Over, At, lead, run, start, step}
+use Rattle.update_model.specs.Points.{Point, Over, At, lead, run, start, point_after}
 use Rattle.update_model.specs.Reach.{Way, On, Stop, followed, reach, reach_by, way, within}
-use Rattle.update_model.specs.Trails.{Leads, Position, Says, Trail, answered}
+use Rattle.update_model.specs.Trails.{Leads, Position, IsFaultOr, Trail, answered}
 use Rattle.update_model.specs.Walks.{Walk, Finish, Try}
 use Rattle.update_model.specs.declared.ask.Ask.{Ask}
 use Rattle.update_model.specs.declared.ask.Body.TheVariants.{Bytes, Staged}
@@ -44,7 +44,7 @@ same-behind : (w : Way) (f g : Uri → List Position) → ((to : Uri) → f to �
 same-behind (On to) f g same = same to
 same-behind (Stop ending) f g same = refl
 
-same-positions : (mirror : World) (part : List ℕ) (ask : Ask) (at : Uri) (left : ℕ) (uri : Uri) → positions_by left mirror part (record ask { uri = at }) uri ≡ positions_by left mirror part ask uri
+same-positions : (mirror : MirrorMap) (part : List ℕ) (ask : Ask) (at : Uri) (left : ℕ) (uri : Uri) → positions_by left mirror part (record ask { uri = at }) uri ≡ positions_by left mirror part ask uri
 same-positions mirror part ask at zero uri =
     ap (λ (c : Closed). record { uri = uri; told = record { lane = 0; closed = c } ∷ [] } ∷ []) (same-answer part ask at (answer_at mirror uri))
 same-positions mirror part ask at (suc left) uri =
@@ -55,7 +55,7 @@ same-positions mirror part ask at (suc left) uri =
 
 -- ---- what is still to be heard
 
-module _ (mirror : World) (part : List ℕ) (retries : ℕ) where
+module _ (mirror : MirrorMap) (part : List ℕ) (retries : ℕ) where
   abbrev pub rest_of : Point → ℕ
   rest_of (Over end) = 0
   rest_of (At ask left faults next) =
@@ -108,7 +108,7 @@ module _ (mirror : World) (part : List ℕ) (retries : ℕ) where
   led left faults lane ask next (Garbled at) quiet = refl
   led left faults lane ask next (Fault from to) quiet = absurd quiet
 
-  says-it : (closed said : Closed) → NoFault closed → Says closed said → closed ≡ said
+  says-it : (closed said : Closed) → NoFault closed → IsFaultOr closed said → closed ≡ said
   says-it (Served body) said quiet says = says
   says-it (Moved place) said quiet says = says
   says-it (Absent status) said quiet says = says
@@ -116,19 +116,19 @@ module _ (mirror : World) (part : List ℕ) (retries : ℕ) where
   says-it (Garbled at) said quiet says = says
   says-it (Fault from to) said quiet says = absurd quiet
 
-  pub counts : (p : Point) (notes : List Note) (end : End) → AreAsked retries p notes → run retries p (tolds notes) ≡ Over end
+  pub counts : (p : Point) (notes : List Note) (end : End) → AreAsked retries p notes → run retries p (lane_answers notes) ≡ Over end
       → Each (Said mirror part) notes → Each (λ note. NoFault note.told.closed) notes → length notes ≡ rest_of p
   counts p [] end asks over said quiet = sym (ap rest_of over)
   counts (Over last) (note ∷ notes) end asks over said quiet = let none = asks.0 in absurd (cc)
   counts (At ask left faults next) (note ∷ notes) end asks over said quiet =
       let is = asks.0 in
       let same : ask ≡ note.ask = cc in
-      let here : Says note.told.closed (answered part ask (answer_at mirror ask.uri)) = subst (λ (a : Ask). Says note.told.closed (answered part a (answer_at mirror a.uri))) (sym same) said.0 in
+      let here : IsFaultOr note.told.closed (answered part ask (answer_at mirror ask.uri)) = subst (λ (a : Ask). IsFaultOr note.told.closed (answered part a (answer_at mirror a.uri))) (sym same) said.0 in
       let answer : note.told.closed ≡ answered part ask (answer_at mirror ask.uri) = says-it note.told.closed (answered part ask (answer_at mirror ask.uri)) quiet.0 here in
-      let later : length notes ≡ rest_of (step retries (At ask left faults next) note.told) = counts (step retries (At ask left faults next) note.told) notes end asks.1 over said.1 quiet.1 in
+      let later : length notes ≡ rest_of (point_after retries (At ask left faults next) note.told) = counts (point_after retries (At ask left faults next) note.told) notes end asks.1 over said.1 quiet.1 in
       ap suc (later ∙ ap rest_of (led left faults note.told.lane ask next note.told.closed quiet.0 ∙ ap (λ (c : Closed). lead retries ask left next (way left ask.uri c)) answer))
       ∙ sym (one-less left faults ask next)
 
-  pub counts-walk : (walk : Walk) (notes : List Note) (end : End) → AreAsked retries (start retries walk) notes → run retries (start retries walk) (tolds notes) ≡ Over end
+  pub counts-walk : (walk : Walk) (notes : List Note) (end : End) → AreAsked retries (start retries walk) notes → run retries (start retries walk) (lane_answers notes) ≡ Over end
       → Each (Said mirror part) notes → Each (λ note. NoFault note.told.closed) notes → length notes ≡ asks_along mirror part walk
   counts-walk walk notes end asks over said quiet = counts (start retries walk) notes end asks over said quiet ∙ rest-start walk

@@ -1,12 +1,12 @@
 -- Answers that are no fault, and where they lead.
 use Rattle.std.proofs.Common.{◌≡◌, ℕ, zero, suc, List, [], ◌∷◌, sym, subst}
 use Rattle.std.specs.List.{AllByRecursion as Each}
-use Rattle.acq_base.specs.Mirror.{World, answer_at}
+use Rattle.acq_base.specs.Mirror.{MirrorMap, answer_at}
 use Rattle.board_model.specs.Runs.{Note}
-use Rattle.board_model.specs.Stands.{AreAsked, tolds}
+use Rattle.board_model.specs.Stands.{AreAsked, lane_answers}
 use Rattle.item_graph.specs.Histories.{AgreesAlong, LivesAlong, LivesAt}
-use Rattle.update_model.specs.Points.{Point, Over, At, step}
-use Rattle.update_model.specs.Trails.{Says, Told, answered}
+use Rattle.update_model.specs.Points.{Point, Over, At, point_after}
+use Rattle.update_model.specs.Trails.{IsFaultOr, LaneAnswer, answered}
 use Rattle.update_model.specs.declared.ask.Ask.{Ask}
 use Rattle.update_model.specs.declared.ask.Closed.{Closed}
 use Rattle.update_model.specs.declared.ask.Closed.TheVariants.{Served, Moved, Absent, TooBig, Garbled, Fault}
@@ -16,24 +16,24 @@ NoFault (Fault from to) = ⊥
 NoFault closed = Unit {0}
 
 -- an answer to an item is a fault, or the mirror's
-abbrev pub Said : World → List ℕ → Note → Type 0
-Said mirror part note = Says note.told.closed (answered part note.ask (answer_at mirror note.ask.uri))
+abbrev pub Said : MirrorMap → List ℕ → Note → Type 0
+Said mirror part note = IsFaultOr note.told.closed (answered part note.ask (answer_at mirror note.ask.uri))
 
 -- ---- where an answer leads
 
 -- ---- what an item heard
 
-pub agrees-along : (mirror : World) (part : List ℕ) (retries : ℕ) (p : Point) (notes : List Note) → AreAsked retries p notes → Each (Said mirror part) notes → AgreesAlong mirror part retries p (tolds notes)
+pub agrees-along : (mirror : MirrorMap) (part : List ℕ) (retries : ℕ) (p : Point) (notes : List Note) → AreAsked retries p notes → Each (Said mirror part) notes → AgreesAlong mirror part retries p (lane_answers notes)
 agrees-along mirror part retries p [] h said = tt
 agrees-along mirror part retries (Over end) (note ∷ notes) h said = let none = h.0 in absurd (cc)
 agrees-along mirror part retries (At ask left faults next) (note ∷ notes) h said =
     let is = h.0 in
     let same : ask ≡ note.ask = cc in (
-      subst (λ (a : Ask). Says note.told.closed (answered part a (answer_at mirror a.uri))) (sym same) said.0,
-      agrees-along mirror part retries (step retries (At ask left faults next) note.told) notes h.1 said.1,
+      subst (λ (a : Ask). IsFaultOr note.told.closed (answered part a (answer_at mirror a.uri))) (sym same) said.0,
+      agrees-along mirror part retries (point_after retries (At ask left faults next) note.told) notes h.1 said.1,
     )
 
-lives-at : (p : Point) (t : Told) → NoFault t.closed → LivesAt p t
+lives-at : (p : Point) (t : LaneAnswer) → NoFault t.closed → LivesAt p t
 lives-at (Over end) t quiet = tt
 lives-at (At ask left (suc faults) next) t quiet = tt
 lives-at (At ask left zero next) t quiet = by t.closed quiet
@@ -46,6 +46,6 @@ lives-at (At ask left zero next) t quiet = by t.closed quiet
     by (Garbled at) q = tt
     by (Fault from to) q = absurd q
 
-pub lives-along : (retries : ℕ) (p : Point) (notes : List Note) → Each (λ note. NoFault note.told.closed) notes → LivesAlong retries p (tolds notes)
+pub lives-along : (retries : ℕ) (p : Point) (notes : List Note) → Each (λ note. NoFault note.told.closed) notes → LivesAlong retries p (lane_answers notes)
 lives-along retries p [] quiet = tt
-lives-along retries p (note ∷ notes) quiet = (lives-at p note.told quiet.0, lives-along retries (step retries p note.told) notes quiet.1)
+lives-along retries p (note ∷ notes) quiet = (lives-at p note.told quiet.0, lives-along retries (point_after retries p note.told) notes quiet.1)

@@ -4,8 +4,8 @@ use Rattle.std.specs.Prelude.{Contains, IsSome}
 use Rattle.std.specs.List.{list_any, slice_index_or}
 use Rattle.acq_outside.specs.Disk.{Files, IsNames, IsRead}
 use Rattle.journal_model.specs.Names.{is_partial, journal, partial}
-use Rattle.journal_model.specs.Reading.{gate_in}
-use Rattle.journal_model.specs.declared.step.Gate.TheVariants.{Shut}
+use Rattle.journal_model.specs.Reading.{journal_state_in}
+use Rattle.journal_model.specs.declared.step.JournalState.TheVariants.{Shut}
 use Rattle.generated_days.specs.Clear.{IsClear}
 
 -- ---- names
@@ -32,7 +32,7 @@ no-parts files names are none name = by (files (partial name)) refl
         let found : list_any is_partial names ≡ true = passes is_partial names (partial name) there (is-partial name) in
         absurd (cc)
 
-pub is-clear : (files : Files) (names : List (List ℕ)) → IsNames files names → list_any is_partial names ≡ false → gate_in (files journal) ≡ Shut → IsClear files
+pub is-clear : (files : Files) (names : List (List ℕ)) → IsNames files names → list_any is_partial names ≡ false → journal_state_in (files journal) ≡ Shut → IsClear files
 is-clear files names are none shut = record { parts = no-parts files names are none; shut = shut }
 
 -- ---- the journal
@@ -45,10 +45,10 @@ first-read gate body zero after read = none (read.ends refl)
     none (inr e) = absurd (cc)
 first-read gate body (suc n) after read = ap (λ (xs : List ℕ). slice_index_or xs 0 0) read.bytes
 
-shut-with : (gate : ℕ) (body : List ℕ) → nat_eq gate 1 ≡ false → gate_in (Some (gate ∷ body)) ≡ Shut
+shut-with : (gate : ℕ) (body : List ℕ) → nat_eq gate 1 ≡ false → journal_state_in (Some (gate ∷ body)) ≡ Shut
 shut-with gate body is = rw is refl
 
-pub shut-by : (content : Option (List ℕ)) (n : ℕ) (after : List ℕ) → IsRead content 0 n (0 ∷ []) after → nat_eq (slice_index_or after 0 0) 1 ≡ false → gate_in content ≡ Shut
+pub shut-by : (content : Option (List ℕ)) (n : ℕ) (after : List ℕ) → IsRead content 0 n (0 ∷ []) after → nat_eq (slice_index_or after 0 0) 1 ≡ false → journal_state_in content ≡ Shut
 shut-by None n after read other = refl
 shut-by (Some []) n after read other = refl
 shut-by (Some (gate ∷ body)) n after read other =

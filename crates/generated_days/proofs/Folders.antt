@@ -11,23 +11,23 @@ use Rattle.std.proofs.lemmas.Slice.Eq.{bytes_eq-Decides}
 use Rattle.std.specs.declared.cmp.Ordering.TheVariants.{Less}
 use Rattle.acq_outside.specs.Disk.{Files, IsNames}
 use Rattle.acq_outside.specs.Crash.{State, IsShown}
-use Rattle.acq_outside.specs.Moments.{ToldAs}
-use Rattle.journal_model.specs.Names.{is_list}
-use Rattle.journal_model.specs.Reopen.{lists_now}
+use Rattle.acq_outside.specs.States.{ToldAs}
+use Rattle.journal_model.specs.Names.{is_installed_name}
+use Rattle.journal_model.specs.Reopen.{installed_now}
 use Rattle.journal_model.specs.Rest.{IsAtRest}
-use Rattle.list_commits.specs.SetLaws.{HasListsAlone}
+use Rattle.list_commits.specs.SetLaws.{HasInstalledFilesAlone}
 use Rattle.generated_days.specs.Days.{HasBytes}
 use Rattle.generated_days.specs.Sizes.{size_in}
 
 -- at rest that is the size of the list
-same-size : (files lists : Files) → ((name : List ℕ) → is_list name ≡ true → files name ≡ lists name) → HasListsAlone lists → (name : List ℕ) → size_in files name ≡ length (unwrap_or (lists name) [])
-same-size files lists are alone name = by (is_list name) refl
+same-size : (files lists : Files) → ((name : List ℕ) → is_installed_name name ≡ true → files name ≡ lists name) → HasInstalledFilesAlone lists → (name : List ℕ) → size_in files name ≡ length (unwrap_or (lists name) [])
+same-size files lists are alone name = by (is_installed_name name) refl
   where
     size : (o : Option (List ℕ)) → unwrap_or (option_map length o) 0 ≡ length (unwrap_or o [])
     size None = refl
     size (Some bytes) = refl
 
-    by : (c : Bool) → is_list name ≡ c → (if c then unwrap_or (option_map length (files name)) 0 else 0) ≡ length (unwrap_or (lists name) [])
+    by : (c : Bool) → is_installed_name name ≡ c → (if c then unwrap_or (option_map length (files name)) 0 else 0) ≡ length (unwrap_or (lists name) [])
     by true is = size (files name) ∙ ap (λ (o : Option (List ℕ)). length (unwrap_or o [])) (are name is)
     by false is = sym (ap (λ (o : Option (List ℕ)). length (unwrap_or o [])) (alone name is))
 
@@ -53,27 +53,27 @@ names-once names sorted = λ i j d low high same. not-less _ _ (sorted i j d low
 -- ---- a folder
 
 module _
-    (files : Files) (trace : List State) (shown : IsShown true files trace) (rests : ToldAs (IsAtRest (lists_now trace)) trace) (alone : HasListsAlone (lists_now trace)) where
-  lists-are : (name : List ℕ) → is_list name ≡ true → files name ≡ lists_now trace name
-  lists-are = by trace shown (lists_now trace) rests
+    (files : Files) (trace : List State) (shown : IsShown true files trace) (rests : ToldAs (IsAtRest (installed_now trace)) trace) (alone : HasInstalledFilesAlone (installed_now trace)) where
+  lists-are : (name : List ℕ) → is_installed_name name ≡ true → files name ≡ installed_now trace name
+  lists-are = by trace shown (installed_now trace) rests
     where
-      by : (trace : List State) → IsShown true files trace → (lists : Files) → ToldAs (IsAtRest lists) trace → (name : List ℕ) → is_list name ≡ true → files name ≡ lists name
+      by : (trace : List State) → IsShown true files trace → (lists : Files) → ToldAs (IsAtRest lists) trace → (name : List ℕ) → is_installed_name name ≡ true → files name ≡ lists name
       by [] shown lists rests = absurd rests
       by (s ∷ past) shown lists rests = λ name is. ap (λ (f : Files). f name) shown.1 ∙ rests.lists_are name is
 
-  all-there : (names : List (List ℕ)) → IsNames files names → (name : List ℕ) → IsSome (lists_now trace name) → Contains names name
-  all-there names are name some = by (is_list name) refl
+  all-there : (names : List (List ℕ)) → IsNames files names → (name : List ℕ) → IsSome (installed_now trace name) → Contains names name
+  all-there names are name some = by (is_installed_name name) refl
     where
-      by : (c : Bool) → is_list name ≡ c → Contains names name
+      by : (c : Bool) → is_installed_name name ≡ c → Contains names name
       by true is = are.complete name (subst (λ (o : Option (List ℕ)). IsSome o) (sym (lists-are name is)) some)
       by false is =
           let none : IsSome {T = List ℕ} None = subst (λ (o : Option (List ℕ)). IsSome o) (alone name is) some in
           absurd (cc)
 
-  pub has-bytes : (names : List (List ℕ)) (bytes : ℕ) → IsNames files names → bytes ≡ sum_by (size_in files) names → HasBytes (lists_now trace) bytes
+  pub has-bytes : (names : List (List ℕ)) (bytes : ℕ) → IsNames files names → bytes ≡ sum_by (size_in files) names → HasBytes (installed_now trace) bytes
   has-bytes names bytes are is = record {
     names = names;
     once = names-once names are.sorted;
     all = all-there names are;
-    is = is ∙ same-sum (size_in files) (λ name. length (unwrap_or (lists_now trace name) [])) names (same-size files (lists_now trace) lists-are alone);
+    is = is ∙ same-sum (size_in files) (λ name. length (unwrap_or (installed_now trace name) [])) names (same-size files (installed_now trace) lists-are alone);
   }

@@ -5,7 +5,7 @@ use Rattle.std.specs.List.{cons_option, sum_by, AllByRecursion as Each}
 use Rattle.std.proofs.lemmas.Bool.Decides.{nat_tests}
 use Rattle.std.proofs.lemmas.List.Sums.{sum_by-cons}
 use Rattle.std.proofs.lemmas.Bool.{cases_order}
-use Rattle.acq_base.specs.Mirror.{World, answer_at}
+use Rattle.acq_base.specs.Mirror.{MirrorMap, answer_at}
 use Rattle.acq_base.specs.Plan.{names_of}
 use Rattle.acq_base.specs.declared.installed.Old.{Old}
 use Rattle.acq_base.specs.declared.plan.Source.{Source}
@@ -17,14 +17,14 @@ use Rattle.board_model.specs.Changes.{IsInstalled}
 use Rattle.board_model.specs.Ends.{ListEnd, ListEndsInRoute, walk_for}
 use Rattle.board_model.specs.Keys.{name_at, named, places_from, same_key}
 use Rattle.board_model.specs.Runs.{Note}
-use Rattle.board_model.specs.Slots.{Config}
-use Rattle.board_model.specs.Stands.{AreAsked, history_of, of_key, tolds}
+use Rattle.board_model.specs.Slots.{Setup}
+use Rattle.board_model.specs.Stands.{AreAsked, history_of, of_key, lane_answers}
 use Rattle.board_model.specs.declared.key.Key.{Key}
 use Rattle.release_file.specs.Release.{listed_sum}
 use Rattle.release_file.specs.declared.release.Release.{Release}
-use Rattle.update_model.specs.Outcomes.{Directory, Parts}
+use Rattle.update_model.specs.Outcomes.{Directory, PartFiles}
 use Rattle.update_model.specs.Points.{Over, run, start}
-use Rattle.update_model.specs.Trails.{Says, answered}
+use Rattle.update_model.specs.Trails.{IsFaultOr, answered}
 use Rattle.update_model.specs.Walks.{Walk, target_walk}
 use Rattle.update_model.specs.Wanted.{want}
 use Rattle.update_model.specs.declared.end.End.{End}
@@ -38,7 +38,7 @@ use Rattle.generated_days.proofs.Quiet.{quiet-key}
 
 -- ---- the notes of one item
 
-pub said-by : (mirror : World) (parts : Parts) (sources : List Source) (key : Key) (part : List ℕ) (notes : List Note) → part_at parts sources key ≡ part → Agrees mirror parts sources notes
+pub said-by : (mirror : MirrorMap) (parts : PartFiles) (sources : List Source) (key : Key) (part : List ℕ) (notes : List Note) → part_at parts sources key ≡ part → Agrees mirror parts sources notes
     → Each (Said mirror part) (of_key key notes)
 said-by mirror parts sources key part [] is h = tt
 said-by mirror parts sources key part (note ∷ notes) is h = one (same_key note.key key) refl (said-by mirror parts sources key part notes is h.1)
@@ -50,16 +50,16 @@ said-by mirror parts sources key part (note ∷ notes) is h = one (same_key note
         let part_is : part_at parts sources note.key ≡ part =
         ap (λ (s : ℕ). part_at parts sources (record { source = s; place = note.key.place })) source
         ∙ ap (λ (p : ℕ). part_at parts sources (record { source = key.source; place = p })) place ∙ is in
-        subst (λ (x : List ℕ). Says note.told.closed (answered x note.ask (answer_at mirror note.ask.uri))) part_is h.0
+        subst (λ (x : List ℕ). IsFaultOr note.told.closed (answered x note.ask (answer_at mirror note.ask.uri))) part_is h.0
 
     one : (c : Bool) → same_key note.key key ≡ c → Each (Said mirror part) (of_key key notes) → Each (Said mirror part) (if c then note ∷ of_key key notes else of_key key notes)
     one true same rest = (here same, rest)
     one false same rest = rest
 
-pub item-heard : (mirror : World) (parts : Parts) (config : Config) (n place : ℕ) (walk : Walk) (part : List ℕ) (notes : List Note) (end : End)
+pub item-heard : (mirror : MirrorMap) (parts : PartFiles) (config : Setup) (n place : ℕ) (walk : Walk) (part : List ℕ) (notes : List Note) (end : End)
     → part_at parts config.sources (record { source = n; place = place }) ≡ part → Agrees mirror parts config.sources notes → Each (λ note. NoFault note.told.closed) notes
     → AreAsked config.settings.retries (start config.settings.retries walk) (history_of n notes place)
-    → run config.settings.retries (start config.settings.retries walk) (tolds (history_of n notes place)) ≡ Over end
+    → run config.settings.retries (start config.settings.retries walk) (lane_answers (history_of n notes place)) ≡ Over end
     → length (history_of n notes place) ≡ asks_along mirror part walk
 item-heard mirror parts config n place walk part notes end is agrees quiet asks over =
     counts-walk mirror part config.settings.retries walk (history_of n notes place) end asks over
@@ -106,7 +106,7 @@ from-first xs i = ap (slice_get xs) (same i)
     same i = omega arith
 
 module _
-    (mirror : World) (dir : Directory) (parts : Parts) (config : Config) (n : ℕ) (source : Source) (old : Old) (notes : List Note)
+    (mirror : MirrorMap) (dir : Directory) (parts : PartFiles) (config : Setup) (n : ℕ) (source : Source) (old : Old) (notes : List Note)
     (source_is : slice_get config.sources n ≡ Some source) (installed : IsInstalled source old dir) (sizes : (name : List ℕ) → config.sizes name ≡ length (parts name))
     (agrees : Agrees mirror parts config.sources notes) (quiet : Each (λ note. NoFault note.told.closed) notes) (distinct : AllPairs (λ x y. x ≢ y) (names_of source)) where
   -- the walk of a list, beside what the directory has

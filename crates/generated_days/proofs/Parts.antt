@@ -8,19 +8,19 @@ use Rattle.acq_base.specs.declared.plan.Source.{Source}
 use Rattle.acq_base.specs.declared.plan.Target.{Target}
 use Rattle.acq_outside.specs.Crash.{IsShown, State, file_at, names_of as numbers_of, reads, seen_at}
 use Rattle.acq_outside.specs.Disk.{Files}
-use Rattle.acq_outside.specs.Moments.{Stands}
+use Rattle.acq_outside.specs.States.{IsNow}
 use Rattle.acq_outside.specs.declared.state.FileState.{FileState}
 use Rattle.board_bounds.specs.Names.{PlannedNamesArePutNames}
-use Rattle.commit_journal.specs.Opening.{IsOfOpening, IsOfRecord, LeavesOthers}
+use Rattle.commit_journal.specs.Opening.{IsOfOpening, IsOfRecord, KeepsFilesBut}
 use Rattle.journal_model.specs.Names.{journal, partial}
-use Rattle.journal_model.specs.Reading.{gate_in}
+use Rattle.journal_model.specs.Reading.{journal_state_in}
 use Rattle.journal_model.specs.Rest.{bytes_in, file_now, part_bytes}
-use Rattle.journal_model.specs.declared.step.Gate.{Gate}
-use Rattle.journal_model.specs.declared.step.Gate.TheVariants.{Open, Damaged, Shut}
-use Rattle.update_engine.specs.Run.{short_part, target_names}
+use Rattle.journal_model.specs.declared.step.JournalState.{JournalState}
+use Rattle.journal_model.specs.declared.step.JournalState.TheVariants.{Open, Damaged, Shut}
+use Rattle.update_engine.specs.Run.{resumable_part, target_names}
 use Rattle.generated_days.specs.Clear.{IsClear}
 
-no-record : (gate : Gate) (name : List ℕ) → gate ≡ Shut → IsOfRecord gate name → ⊥
+no-record : (gate : JournalState) (name : List ℕ) → gate ≡ Shut → IsOfRecord gate name → ⊥
 no-record (Open steps) name is record_of = absurd (cc)
 no-record (Damaged at) name is record_of = record_of
 no-record Shut name is record_of = record_of
@@ -30,7 +30,7 @@ not-journal name e = let head : 112 ≡ 106 = ap (λ (xs : List ℕ). slice_inde
 
 not-opened : (files : Files) (name : List ℕ) → IsClear files → name ≢ journal → IsOfOpening (files journal) (partial name) → ⊥
 not-opened files name clear other (inl e) = not-journal name e
-not-opened files name clear other (inr (inl record_of)) = no-record (gate_in (files journal)) (partial name) clear.shut record_of
+not-opened files name clear other (inr (inl record_of)) = no-record (journal_state_in (files journal)) (partial name) clear.shut record_of
 not-opened files name clear other (inr (inr made)) = other (append_cancel_left (codes "partial/") name (codes "journal") made.1)
 
 no-file : (s : State) (i : Option ℕ) → seen_at s.files i ≡ None → option_map (file_at s.files) i ≡ None
@@ -39,13 +39,13 @@ no-file s (Some i) e = absurd (cc)
 
 -- none of these is on its way then
 no-part : (entry opened : List State) (files : Files) (name : List ℕ) → IsShown true files entry → IsClear files → name ≢ journal
-    → Stands (λ s. LeavesOthers (IsOfOpening (reads s journal)) entry opened) entry → short_part (part_bytes opened name) ≡ []
+    → IsNow (λ s. KeepsFilesBut (IsOfOpening (reads s journal)) entry opened) entry → resumable_part (part_bytes opened name) ≡ []
 no-part [] opened files name shown clear other same = let never : true ≡ false = shown in absurd (cc)
 no-part (s ∷ past) opened files name shown clear other same =
     let clear_there : IsClear (reads s) = subst IsClear shown.1 clear in
     let stays = same.same (partial name) (not-opened (reads s) name clear_there other) in
     let none : file_now opened (partial name) ≡ None = stays ∙ no-file s (numbers_of s (partial name)) (clear_there.parts name) in
-    ap (λ (f : Option FileState). short_part (bytes_in f)) none
+    ap (λ (f : Option FileState). resumable_part (bytes_in f)) none
 
 -- ---- the targets of a plan
 
@@ -69,7 +69,7 @@ of-plan put (s ∷ sources) name planned c =
     (λ e. of-plan put sources name (λ k d low. planned (suc k) d (omega (arith, low))) e) c
 
 pub parts-none : (put : PlannedNamesArePutNames) (entry opened : List State) (files : Files) (sources : List Source) (parts : List ℕ → List ℕ) → All IsPlanned sources → IsShown true files entry → IsClear files
-    → Stands (λ s. LeavesOthers (IsOfOpening (reads s journal)) entry opened) entry
-    → ((name : List ℕ) → Contains (flat_map target_names sources) name → parts name ≡ short_part (part_bytes opened name))
+    → IsNow (λ s. KeepsFilesBut (IsOfOpening (reads s journal)) entry opened) entry
+    → ((name : List ℕ) → Contains (flat_map target_names sources) name → parts name ≡ resumable_part (part_bytes opened name))
     → (name : List ℕ) → Contains (flat_map target_names sources) name → parts name ≡ []
 parts-none put entry opened files sources parts planned shown clear same are name c = are name c ∙ no-part entry opened files name shown clear (of-plan put sources name planned c) same

@@ -2,16 +2,16 @@
 use Rattle.std.proofs.Common.{◌≡◌, ◌∙◌, ℕ, ◌||◌, nat_lt, Bool, true, false, List, [], ◌∷◌, length, map, Some, refl, ap, subst, arith}
 use Rattle.std.specs.List.{list_any}
 use Rattle.std.proofs.lemmas.Bool.Decides.{nat_tests}
-use Rattle.acq_base.specs.Mirror.{World}
+use Rattle.acq_base.specs.Mirror.{MirrorMap}
 use Rattle.acq_outside.specs.Crash.{AllSound, IsShown, State}
 use Rattle.acq_outside.specs.Disk.{Files}
 use Rattle.acq_memory.specs.Failing.{fresh}
 use Rattle.acq_memory.specs.MapMethod.{MapState, all_faults, faults_of}
-use Rattle.acq_outside.specs.Moments.{IsTold, ToldAs}
+use Rattle.acq_outside.specs.States.{IsTold, ToldAs}
 use Rattle.acq_memory.specs.declared.failing.Failing.{Failing}
-use Rattle.journal_model.specs.Reopen.{lists_now}
-use Rattle.journal_model.specs.Rest.{IsAtRest, IsSettled}
-use Rattle.update_engine.specs.Run.{Engine, KeepsMethods, Logged, NoneFell, Run}
+use Rattle.journal_model.specs.Reopen.{installed_now}
+use Rattle.journal_model.specs.Rest.{IsAtRest, IsSynced}
+use Rattle.update_engine.specs.Run.{Engine, KeepsMethods, LogIsTrue, NoneFell, Run}
 use Rattle.update_model.specs.declared.log.RunLog.{RunLog}
 use Rattle.generated_days.specs.Clear.{IsClear}
 use Rattle.generated_days.specs.Told.{LogsTellDays, TellsDay}
@@ -40,16 +40,16 @@ still-none (m ∷ (other ∷ others)) kept none = absurd kept.1
 abbrev engine_of : List State → List MapState → Engine
 engine_of trace methods = record { trace = trace; mirrors = map (λ m. Some m.world) methods; faults = map faults_of methods }
 
-pub running : LogsTellDays → (mirror : World) (run : Run) (entry now : List State) (method : MapState) (methods later : List MapState) (log : RunLog)
+pub running : LogsTellDays → (mirror : MirrorMap) (run : Run) (entry now : List State) (method : MapState) (methods later : List MapState) (log : RunLog)
     → methods ≡ method ∷ [] → method.world ≡ mirror → method.failing ≡ fresh [] → method.failing_more ≡ fresh []
     → KeepsMethods (record { trace = entry; mirrors = map (λ m. Some m.world) methods; faults = map faults_of methods }) (record { trace = now; mirrors = map (λ m. Some m.world) later; faults = map faults_of later })
     → list_any (λ m. nat_lt 0 (faults_of m)) later ≡ false
-    → Logged run (record { trace = entry; mirrors = map (λ m. Some m.world) methods; faults = map faults_of methods }) (record { trace = now; mirrors = map (λ m. Some m.world) later; faults = map faults_of later }) log
-    → length log.verdicts ≡ length run.plan.sources → ToldAs IsSettled entry → (files : Files) → IsShown true files entry → IsClear files → IsTold now → AllSound now
-    → TellsDay mirror run (lists_now entry) (lists_now now) log × ToldAs (IsAtRest (lists_now now)) now
+    → LogIsTrue run (record { trace = entry; mirrors = map (λ m. Some m.world) methods; faults = map faults_of methods }) (record { trace = now; mirrors = map (λ m. Some m.world) later; faults = map faults_of later }) log
+    → length log.verdicts ≡ length run.plan.sources → ToldAs IsSynced entry → (files : Files) → IsShown true files entry → IsClear files → IsTold now → AllSound now
+    → TellsDay mirror run (installed_now entry) (installed_now now) log × ToldAs (IsAtRest (installed_now now)) now
 running law mirror run entry now method methods later log one world first second kept none logged as_many settled files shown clear told sound =
     law mirror run (engine_of entry methods) (engine_of now later) log logged as_many (record {
-      world = ap (λ (ms : List MapState). map (λ m. Some m.world) ms) one ∙ ap (λ (w : World). Some w ∷ []) world;
+      world = ap (λ (ms : List MapState). map (λ m. Some m.world) ms) one ∙ ap (λ (w : MirrorMap). Some w ∷ []) world;
       none = counts;
       still_none = still-none later (subst (λ (c : List ℕ). NoneFell c (map faults_of later)) counts kept.counts) none;
       settled = settled;

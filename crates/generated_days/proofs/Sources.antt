@@ -3,7 +3,7 @@ use Rattle.std.proofs.Common.{◌≡◌, ◌≢◌, ◌∙◌, ℕ, suc, ◌+◌
 use Rattle.std.specs.Prelude.{option_and_then, slice_get, Result}
 use Rattle.std.specs.List.{sum_by, AllByRecursion as Each}
 use Rattle.std.proofs.lemmas.List.Sums.{sum_by-cons}
-use Rattle.acq_base.specs.Mirror.{World}
+use Rattle.acq_base.specs.Mirror.{MirrorMap}
 use Rattle.acq_base.specs.Plan.{names_of}
 use Rattle.acq_base.specs.declared.installed.Old.{Old}
 use Rattle.acq_base.specs.declared.plan.Source.{Source}
@@ -14,12 +14,12 @@ use Rattle.board_model.specs.Changes.{IsInstalled}
 use Rattle.board_model.specs.Ends.{ComesTo}
 use Rattle.board_model.specs.Keys.{keys_from, keys_in, name_at, places_from}
 use Rattle.board_model.specs.Runs.{Note}
-use Rattle.board_model.specs.Slots.{Config}
+use Rattle.board_model.specs.Slots.{Setup}
 use Rattle.board_model.specs.Stands.{history_of}
 use Rattle.release_file.specs.Release.{listed_sum}
 use Rattle.run_model.specs.Asked.{IsListed}
 use Rattle.update_model.specs.Laws.{ReleasesEndAsObtained}
-use Rattle.update_model.specs.Outcomes.{Admitted, Directory, Parts, Staying, admitted, wanted_by}
+use Rattle.update_model.specs.Outcomes.{AdmittedRelease, Directory, PartFiles, Staying, admitted, wanted_by}
 use Rattle.update_model.specs.Points.{start}
 use Rattle.update_model.specs.Releases.{obtain_release}
 use Rattle.update_model.specs.Walks.{release_walk}
@@ -33,7 +33,7 @@ use Rattle.generated_days.proofs.Keys.{heard-append, heard_by}
 use Rattle.generated_days.proofs.Quiet.{quiet-key}
 
 module _
-    (ends_as_obtained : ReleasesEndAsObtained) (mirror : World) (dir : Directory) (parts : Parts) (config : Config) (n : ℕ) (source : Source) (old : Old) (notes : List Note) (verdict : Verdict2)
+    (ends_as_obtained : ReleasesEndAsObtained) (mirror : MirrorMap) (dir : Directory) (parts : PartFiles) (config : Setup) (n : ℕ) (source : Source) (old : Old) (notes : List Note) (verdict : Verdict2)
     (source_is : slice_get config.sources n ≡ Some source) (installed : IsInstalled source old dir) (sizes : (name : List ℕ) → config.sizes name ≡ length (parts name))
     (agrees : Agrees mirror parts config.sources notes) (quiet : Each (λ note. NoFault note.told.closed) notes) (distinct : AllPairs (λ x y. x ≢ y) (names_of source))
     (comes : ComesTo config n source old (history_of n notes) verdict)
@@ -55,12 +55,12 @@ module _
 
   -- it may be installed and names the list
   set-of : (k : ℕ) (t : Target) → IsListed config old source t (history_of n notes 0)
-      → (set : Admitted) × (sum : Sum) × (admitted comes.end old.release config.settings config.change config.now ≡ Ok set) × (listed_sum set.release t.path ≡ Some sum)
+      → (set : AdmittedRelease) × (sum : Sum) × (admitted comes.end old.release config.settings config.change config.now ≡ Ok set) × (listed_sum set.release t.path ≡ Some sum)
   set-of k t listed =
       let same : listed.end ≡ comes.end = over_once listed.end comes.end (sym listed.ends ∙ comes.release.ends) in
       (listed.set, listed.sum, subst (λ (e : End). admitted e old.release config.settings config.change config.now ≡ Ok listed.set) same listed.came_to, listed.listed)
 
-  list-asks : (came : Result Admitted Staying) → admitted comes.end old.release config.settings config.change config.now ≡ came
+  list-asks : (came : Result AdmittedRelease Staying) → admitted comes.end old.release config.settings config.change config.now ≡ came
       → heard_by (places_from n 1 source.targets) notes ≡ sum_by (asks_for_list mirror dir parts) (wanted_by source config.settings came)
   list-asks (Err why) is =
       lists-unheard mirror dir parts config n source old notes source_is installed sizes agrees quiet distinct 0 source.targets (from-first source.targets) (λ k t there. by k t (others k t there))
@@ -81,17 +81,17 @@ module _
       by k t unlisted (inr listed) =
           let found = set-of k t listed in
           let same : found.0 ≡ set = ok-once found.0 set (sym found.2 ∙ is) in
-          let there : listed_sum set.release t.path ≡ Some found.1 = subst (λ (s : Admitted). listed_sum s.release t.path ≡ Some found.1) same found.3 in
+          let there : listed_sum set.release t.path ≡ Some found.1 = subst (λ (s : AdmittedRelease). listed_sum s.release t.path ≡ Some found.1) same found.3 in
           absurd (cc)
         where
-          ok-once : (a b : Admitted) → ◌≡◌ {A = Result Admitted Staying} (Ok a) (Ok b) → a ≡ b
+          ok-once : (a b : AdmittedRelease) → ◌≡◌ {A = Result AdmittedRelease Staying} (Ok a) (Ok b) → a ≡ b
           ok-once a b e = cc
 
   pub source-asks : heard_by (keys_in n source) notes ≡ asks_for mirror dir parts config.settings config.change config.now source
   source-asks =
       let lists = list-asks (admitted comes.end old.release config.settings config.change config.now) refl in
       sum-up _ _ _ _ release-asks
-      (lists ∙ ap (λ (came : Result Admitted Staying). sum_by (asks_for_list mirror dir parts) (wanted_by source config.settings came)) came_is)
+      (lists ∙ ap (λ (came : Result AdmittedRelease Staying). sum_by (asks_for_list mirror dir parts) (wanted_by source config.settings came)) came_is)
     where
       sum-up : (a b c d : ℕ) → a ≡ c → b ≡ d → a + b ≡ c + d
       sum-up a b c d same other = omega (arith, same, other)

@@ -6,11 +6,11 @@ ghost use Rattle.acq_outside.specs.Crash.{trace_of};
 ghost use Rattle.acq_outside.specs.Disk.{IsName};
 ghost use Rattle.acq_outside.specs.History.{files_of};
 ghost use Rattle.acq_memory.specs.MemDisk.{past_of};
-ghost use Rattle.acq_outside.specs.Moments.{ToldAs};
+ghost use Rattle.acq_outside.specs.States.{ToldAs};
 ghost use Rattle.generated_days.specs.Days.{HasBytes};
 ghost use Rattle.generated_days.specs.Sizes.{size_in};
 ghost use Rattle.journal_model.specs.Names as names;
-ghost use Rattle.journal_model.specs.Reopen.{lists_now};
+ghost use Rattle.journal_model.specs.Reopen.{installed_now};
 ghost use Rattle.journal_model.specs.Rest.{IsAtRest};
 
 use acq_base::{NoMemory, Text};
@@ -21,8 +21,8 @@ use std::alloc::Global;
 
 /// How many bytes the lists of a folder at rest have.
 pub fn bytes_of(alloc: Global, disk: &mut MemDisk) -> Result<u64, NoMemory>
-    requires { ToldAs (IsAtRest (lists_now (trace_of (past_of disk.old)))) (trace_of (past_of disk.old)) }
-    ensures bytes { IfOk result (HasBytes (lists_now (trace_of (past_of disk.old)))) }
+    requires { ToldAs (IsAtRest (installed_now (trace_of (past_of disk.old)))) (trace_of (past_of disk.old)) }
+    ensures bytes { IfOk result (HasBytes (installed_now (trace_of (past_of disk.old)))) }
     ensures still { past_of disk.new ≡ past_of disk.old }
 {
     installed_lists_begin();
@@ -64,7 +64,7 @@ fn size_of(disk: &mut MemDisk, name: &[u8]) -> Result<u64, NoMemory>
 
 /// Whether a file of this name is a list: neither the journal, nor the lock, nor a list on its way.
 fn is_list(name: &[u8]) -> bool
-    ensures { result ≡ names.is_list name.now }
+    ensures { result ≡ names.is_installed_name name.now }
 {
     name != b"journal".as_slice() && name != b"lock".as_slice() && !name.starts_with(b"partial/")
 }

@@ -6,8 +6,8 @@ ghost use Rattle.acq_outside.specs.History.{files_of};
 ghost use Rattle.acq_memory.specs.MemDisk.{past_of};
 ghost use Rattle.generated_days.specs.Clear.{IsClear};
 ghost use Rattle.journal_model.specs.Names as names;
-ghost use Rattle.journal_model.specs.Reading.{gate_in};
-ghost use Rattle.journal_model.specs.declared.step.Gate.TheVariants.{Shut};
+ghost use Rattle.journal_model.specs.Reading.{journal_state_in};
+ghost use Rattle.journal_model.specs.declared.step.JournalState.TheVariants.{Shut};
 
 use acq_base::{NoMemory, Text};
 use acq_memory::MemDisk;
@@ -32,7 +32,7 @@ pub fn check_clear(alloc: Global, disk: &mut MemDisk) -> Result<(), NoMemory>
 
 /// That the first byte of the journal isn't 1.
 fn check_shut(disk: &mut MemDisk) -> Result<(), NoMemory>
-    ensures shut { OnOk result (gate_in (files_of (past_of disk.old) names.journal) ≡ Shut) }
+    ensures shut { OnOk result (journal_state_in (files_of (past_of disk.old) names.journal) ≡ Shut) }
     ensures still { past_of disk.new ≡ past_of disk.old }
 {
     let mut gate = [0u8; 1];

@@ -6,10 +6,10 @@ ghost use Rattle.acq_base.specs.Plan.{IsSound};
 ghost use Rattle.acq_outside.specs.Crash.{trace_of};
 ghost use Rattle.acq_memory.specs.MapMethod.{HasSoundAnswers};
 ghost use Rattle.acq_memory.specs.MemDisk.{past_of};
-ghost use Rattle.acq_outside.specs.Moments.{ToldAs};
+ghost use Rattle.acq_outside.specs.States.{ToldAs};
 ghost use Rattle.generated_days.specs.Days.{AreDaysOf, IsDayOver, run_at};
-ghost use Rattle.journal_model.specs.Reopen.{lists_now};
-ghost use Rattle.journal_model.specs.Rest.{IsSettled};
+ghost use Rattle.journal_model.specs.Reopen.{installed_now};
+ghost use Rattle.journal_model.specs.Rest.{IsSynced};
 ghost use Rattle.run_model.specs.Runs as runs;
 
 use crate::bytes::bytes_of;
@@ -59,9 +59,9 @@ fn run_day(
 ) -> Result<Day, NoMemory>
     requires answers { HasSoundAnswers mirror.rows }
     requires plan { IsSound it.plan }
-    requires settled { ToldAs IsSettled (trace_of (past_of disk.old)) }
-    ensures day { IfOk result (IsDayOver mirror.rows (run_at it now) (lists_now (trace_of (past_of disk.old))) (lists_now (trace_of (past_of disk.new)))) }
-    ensures settled { OnOk result (ToldAs IsSettled (trace_of (past_of disk.new))) }
+    requires settled { ToldAs IsSynced (trace_of (past_of disk.old)) }
+    ensures day { IfOk result (IsDayOver mirror.rows (run_at it now) (installed_now (trace_of (past_of disk.old))) (installed_now (trace_of (past_of disk.new)))) }
+    ensures settled { OnOk result (ToldAs IsSynced (trace_of (past_of disk.new))) }
 {
     check_clear(alloc, disk)?;
     let log = run_over(alloc, it, mirror, now, disk)?;

@@ -7,12 +7,12 @@ ghost use Rattle.acq_outside.specs.Crash.{trace_of};
 ghost use Rattle.acq_outside.specs.History.{files_of};
 ghost use Rattle.acq_memory.specs.MapMethod.{HasSoundAnswers, faults_of};
 ghost use Rattle.acq_memory.specs.MemDisk.{past_of};
-ghost use Rattle.acq_outside.specs.Moments.{ToldAs};
+ghost use Rattle.acq_outside.specs.States.{ToldAs};
 ghost use Rattle.generated_days.specs.Clear.{IsClear};
 ghost use Rattle.generated_days.specs.Days.{run_at};
 ghost use Rattle.generated_days.specs.Told.{TellsDay};
-ghost use Rattle.journal_model.specs.Reopen.{lists_now};
-ghost use Rattle.journal_model.specs.Rest.{IsAtRest, IsSettled};
+ghost use Rattle.journal_model.specs.Reopen.{installed_now};
+ghost use Rattle.journal_model.specs.Rest.{IsAtRest, IsSynced};
 
 use crate::laws::logs_tell_days;
 use acq_base::{Mirror, NoMemory, Row};
@@ -36,10 +36,10 @@ pub fn run_over(
 ) -> Result<RunLog, NoMemory>
     requires answers { HasSoundAnswers mirror.rows }
     requires plan { IsSound it.plan }
-    requires settled { ToldAs IsSettled (trace_of (past_of disk.old)) }
+    requires settled { ToldAs IsSynced (trace_of (past_of disk.old)) }
     requires clear { IsClear (files_of (past_of disk.old)) }
-    ensures day { IfOk result (TellsDay mirror.rows (run_at it now) (lists_now (trace_of (past_of disk.old))) (lists_now (trace_of (past_of disk.new)))) }
-    ensures rests { OnOk result (ToldAs (IsAtRest (lists_now (trace_of (past_of disk.new)))) (trace_of (past_of disk.new))) }
+    ensures day { IfOk result (TellsDay mirror.rows (run_at it now) (installed_now (trace_of (past_of disk.old))) (installed_now (trace_of (past_of disk.new)))) }
+    ensures rests { OnOk result (ToldAs (IsAtRest (installed_now (trace_of (past_of disk.new)))) (trace_of (past_of disk.new))) }
 {
     logs_tell_days();
     let Configured {

@@ -2,6 +2,9 @@
 //!
 //! Neither value takes memory, and neither answer depends on how the bytes were cut: contracts speak of all pieces
 //! together.
+//!
+//! `Gate` tells whether the pieces of a file are the wanted one (`verdict`, `fits`), and `Total` what their sum is,
+//! however they are cut. Neither takes memory.
 #![tactic(auto)]
 
 pub use gate::Gate;

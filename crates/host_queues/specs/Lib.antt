@@ -1,5 +1,5 @@
 -- Cited by the public clauses:
 pub mod Lanes
-pub mod Standing
+pub mod Refinement
 -- what the laws of this crate say:
 pub mod Laws

@@ -18,7 +18,7 @@ pub struct Queues {
 }
 
 impl Queues {
-    ghost use Rattle.host_queues.specs.Standing.{lanes_of};
+    ghost use Rattle.host_queues.specs.Refinement.{lanes_of};
 
     /// This many lanes, at least one, in which nothing waits.
     pub fn new(alloc: Global, lanes: u32) -> Result<Queues, NoMemory>

@@ -8,7 +8,7 @@ use Rattle.acq_outside.specs.declared.word.Word.TheVariants.{Other}
 use Rattle.acq_outside.specs.Word.{CanBegin, begun}
 use Rattle.acq_base.specs.declared.uri.Uri.{Uri}
 use Rattle.acq_base.specs.declared.uri.Scheme.TheVariants.{Http}
-use Rattle.acq_base.specs.Mirror.{World}
+use Rattle.acq_base.specs.Mirror.{MirrorMap}
 use Rattle.acq_net.specs.Due.{IsAnswered, Owes, fresh}
 use Rattle.acq_net.specs.Talk.{Talk, silent, sends}
 use Rattle.http_wire.specs.Request.{request_text}
@@ -39,7 +39,7 @@ owed_first : (line later : Line) (job : Job) (text : List ℕ) → job.uri.schem
     → IfSome later.world (λ entries. IsOwed entries later.due job [] false)
 owed_first line later job text http sound is ready sent = subst (λ w. IfSome w (λ entries. IsOwed entries later.due job [] false)) (sym sent.world) (on line.world ready sent.owes)
   where
-    on : (world : Option World) → IfSome world (λ entries. line.due ≡ Some (fresh job.uri.host job.uri.port)) → IfSome world (λ entries. Owes entries text line.due later.due) → IfSome world (λ entries. IsOwed entries later.due job [] false)
+    on : (world : Option MirrorMap) → IfSome world (λ entries. line.due ≡ Some (fresh job.uri.host job.uri.port)) → IfSome world (λ entries. Owes entries text line.due later.due) → IfSome world (λ entries. IsOwed entries later.due job [] false)
     on None ready owes = tt
     on (Some entries) ready owes =
         let answered : IsAnswered entries job.uri job.from later.due = owes job.uri job.from http sound is ready in

@@ -8,25 +8,25 @@ use Rattle.acq_outside.specs.declared.word.Fetch.{Fetch}
 use Rattle.acq_outside.specs.declared.word.Word.{Word}
 use Rattle.acq_outside.specs.declared.word.Word.TheVariants.{Piece, Done, Other}
 use Rattle.acq_outside.specs.Word.{CanBegin, IsWord}
-use Rattle.acq_base.specs.Mirror.{World, answer_at}
+use Rattle.acq_base.specs.Mirror.{MirrorMap, answer_at}
 use Rattle.acq_net.specs.declared.link.Link.{Ghosts}
 use Rattle.acq_net.specs.Due.{Due}
 use Rattle.acq_net.specs.OverLink.{Leaves}
 use Rattle.acq_net.specs.Talk.{Talk, is_none}
-use Rattle.http_wire.specs.declared.ending.Ending.{Ending}
-use Rattle.http_wire.specs.declared.ending.Ending.TheVariants.{Served, Absent, Moved, TooBig, Garbled}
+use Rattle.http_wire.specs.declared.ending.Response.{Response}
+use Rattle.http_wire.specs.declared.ending.Response.TheVariants.{Served, Absent, Moved, TooBig, Garbled}
 use Rattle.http_wire.specs.declared.ending.State.{State}
 use Rattle.http_wire.specs.declared.ending.State.TheVariants as states
 use Rattle.http_wire.specs.State.{WireState, state_of}
 use Rattle.http_wire.specs.Stream.{Heard, followed, IsHeard}
-use Rattle.http_wire.specs.Wire.{Follows, IsDone, IsReply, Replies, Tells, held, wire_state}
+use Rattle.http_wire.specs.Wire.{Follows, IsDone, IsReply, Replies, IsStateOf, held, wire_state}
 use Rattle.http_method.specs.declared.reading.Behind.{Behind}
 use Rattle.http_method.specs.declared.reading.Behind.TheVariants.{Nothing, Bytes, End}
 use Rattle.http_method.specs.declared.reading.Place.{Place}
 use Rattle.http_method.specs.declared.reading.Reading.{Reading}
 use Rattle.http_method.specs.declared.reading.Said.{Said}
 use Rattle.http_method.specs.Line.{Line, line_of}
-use Rattle.http_method.specs.Reading.{GivesOn, Goes, HearsSo, IsAsked, IsOpen, IsReading, IsServed, IsTold, Keeps, Ends, Hears, Reads, SaysOn, StandsBehind, is_end, is_file, is_kept, keeps, kept_if, leaves_open, part_of, under_of, word_of}
+use Rattle.http_method.specs.Reading.{GivesOn, Goes, HearsSo, IsAsked, IsOpen, IsReading, IsServed, IsMirrorsWord, Keeps, Ends, Hears, Reads, SaysOn, StandsBehind, is_end, is_file, is_kept, keeps, kept_if, leaves_open, part_of, under_of, word_of}
 use Rattle.http_method.proofs.Received.{AllGrow, AllTell}
 use Rattle.http_method.proofs.Mirrors.{AllFit, AllRise, Means, OneReading, Stays, StaysAtEnd, ends_open, followed_none, means_last, means_piece, piece_within, told_word}
 
@@ -62,7 +62,7 @@ keep_is Bytes rest false start body stands = refl
 keep_is End rest true start body stands = ap (λ r. is_none r && false) stands
 keep_is End rest false start body stands = refl
 
-served_ending : (e : Option Ending) (uri : Uri) (given body bytes : List ℕ) → IsReply uri given e body (replies.Served bytes) → (keep : Bool) × (e ≡ Some (Served keep))
+served_ending : (e : Option Response) (uri : Uri) (given body bytes : List ℕ) → IsReply uri given e body (replies.Served bytes) → (keep : Bool) × (e ≡ Some (Served keep))
 served_ending None uri given body bytes is = absurd is
 served_ending (Some (Served keep)) uri given body bytes is = (keep, refl)
 served_ending (Some (Absent status)) uri given body bytes is = absurd cc
@@ -70,7 +70,7 @@ served_ending (Some (Moved place)) uri given body bytes is = absurd cc
 served_ending (Some TooBig) uri given body bytes is = absurd cc
 served_ending (Some (Garbled at)) uri given body bytes is = absurd cc
 
-no_fault : (e : Option Ending) (uri : Uri) (given body : List ℕ) (before after : ℕ) → IsReply uri given e body (replies.Fault before after) → ⊥
+no_fault : (e : Option Response) (uri : Uri) (given body : List ℕ) (before after : ℕ) → IsReply uri given e body (replies.Fault before after) → ⊥
 no_fault None uri given body before after is = is
 no_fault (Some (Served keep)) uri given body before after is = absurd (fault_served before after is.0 is.1)
   where
@@ -81,7 +81,7 @@ no_fault (Some (Moved place)) uri given body before after is = cc
 no_fault (Some TooBig) uri given body before after is = cc
 no_fault (Some (Garbled at)) uri given body before after is = cc
 
-not_open : (e : Option Ending) (uri : Uri) (given body : List ℕ) (reply : Reply) → is_file reply ≡ false → IsReply uri given e body reply → leaves_open e ≡ false
+not_open : (e : Option Response) (uri : Uri) (given body : List ℕ) (reply : Reply) → is_file reply ≡ false → IsReply uri given e body reply → leaves_open e ≡ false
 not_open None uri given body reply other is = refl
 not_open (Some (Served keep)) uri given body reply other is = absurd (file_is reply is.0 other is.1)
   where
@@ -94,7 +94,7 @@ not_open (Some (Garbled at)) uri given body reply other is = refl
 
 -- what is heard of a reading, and that the reply is its
 pub record Answer (r : Reading) (given bytes : List ℕ) (reply : Reply) : Type 0 where
-  pub tells : Tells r.wire r.fetch.job.max r.fetch.job.from given bytes (is_end r.behind)
+  pub tells : IsStateOf r.wire r.fetch.job.max r.fetch.job.from given bytes (is_end r.behind)
   pub over : tells.heard.ending ≢ None
   pub is : (reply ≡ replies.NoMemory) ⊎ IsReply r.fetch.job.uri given tells.heard.ending tells.heard.body reply
 
@@ -115,7 +115,7 @@ answered one tells r given bytes reply over says follows =
 -- a call that leaves what the link tells leaves its line
 pub line_stays : {L : Type 0} (g : Ghosts L) (old new : L) → Leaves g old new → line_of g new ≡ line_of g old
 line_stays g old new leaves =
-    ap (λ (talk : Option Talk). record { talk = talk; world = g.world new; due = g.due new }) leaves.talk ∙ ap (λ (world : Option World). record { talk = g.talk old; world = world; due = g.due new }) leaves.same
+    ap (λ (talk : Option Talk). record { talk = talk; world = g.world new; due = g.due new }) leaves.talk ∙ ap (λ (world : Option MirrorMap). record { talk = g.talk old; world = world; due = g.due new }) leaves.same
     ∙ ap (λ (due : Option Due). record { talk = g.talk old; world = g.world old; due = due }) leaves.due
 
 told_later : (line later : Line) (before : Talk) (job : Job) (bytes : List ℕ) (ended : Bool) → later ≡ line → IsAsked line before job bytes ended → IsAsked later before job bytes ended
@@ -135,7 +135,7 @@ file_ends stays line later r before given bytes reads same all answer =
     let body : x.body ≡ given = t.body (λ big. big_is keep (sym served.1 ∙ t.ending ∙ big)) ∙ ap (λ h. given ++ h) (all done) ∙ append-nil given in
     let none : x.rest ≡ [] = t.rest done in
     let opens : keeps (followed x reads.rest) (is_end r.behind) ≡ is_kept r.behind (wire_state r.wire) =
-    ap (λ (e : Option Ending). leaves_open e && is_none (x.rest ++ reads.rest) && not (is_end r.behind)) served.1
+    ap (λ (e : Option Response). leaves_open e && is_none (x.rest ++ reads.rest) && not (is_end r.behind)) served.1
     ∙ ap (λ l. keep && is_none (l ++ reads.rest) && not (is_end r.behind)) none
     ∙ keep_is r.behind reads.rest keep x.start given reads.stands ∙ ap (is_kept r.behind) (sym state) in
     record {
@@ -222,7 +222,7 @@ last_hears one stays tells line later r reply same is over all says =
     (last_says one stays tells line later r reply same over all says).is is.before is.given (subst (λ g. Reads line r is.before g) (append-nil is.given) is.reads)
 
 last_told : (one : OneReading) (stays : Stays) (till : StaysAtEnd) (tells : AllTell) (line later : Line) (r : Reading) (reply : Reply) → later ≡ line → IsReading line r [] → wire_state r.wire ≢ states.More → (IsDone (wire_state r.wire) → held r.wire ≡ [])
-    → AllReply r.fetch.job.uri r.wire reply → IsTold line.world r.fetch (last_said r reply)
+    → AllReply r.fetch.job.uri r.wire reply → IsMirrorsWord line.world r.fetch (last_said r reply)
 last_told one stays till tells line later r reply same is over all says = record {
   is = λ n.
       let untold = last_untold one tells line r reply n is over says in
@@ -260,7 +260,7 @@ said_last r reply word kept file keep state word_is kept_is file_is keep_is stat
 
 pub record Last (line later : Line) (r : Reading) (said : Said) : Type 0 where
   pub says : SaysOn line r later said
-  pub told : IsTold line.world r.fetch said
+  pub told : IsMirrorsWord line.world r.fetch said
   pub keeps : Keeps later said.kept None
 
 pub finish_all : (one : OneReading) (stays : Stays) (till : StaysAtEnd) (tells : AllTell) (line later : Line) (r : Reading) (reply : Reply) (word : Word) (kept : Option Place) (file keep : Bool) (state : State)
@@ -279,8 +279,8 @@ part_untold : (r : Reading) (bytes : List ℕ) (n : ℕ) → 0 < length bytes �
 part_untold r bytes n some small within = record { quiet = refl; goes_on = refl; nonempty = (omega (arith, some)); small = small; within = within; under_way = refl; told = tt }
 
 pub part_told : (one : OneReading) (tells : AllTell) (fit : AllFit) (grow : AllGrow) (rise : AllRise) (line : Line) (r : Reading) (bytes : List ℕ) (said : Said) → said ≡ part_of r bytes → IsReading line r bytes → 0 < length bytes → length bytes ≤ 65536
-    → wire_state r.wire ≢ states.TooBig → IsTold line.world r.fetch said
-part_told one tells fit grow rise line r bytes said said_is is some small fits = subst (IsTold line.world r.fetch) (sym said_is) (record {
+    → wire_state r.wire ≢ states.TooBig → IsMirrorsWord line.world r.fetch said
+part_told one tells fit grow rise line r bytes said said_is is some small fits = subst (IsMirrorsWord line.world r.fetch) (sym said_is) (record {
   is = λ n. told_word n n line.world r.fetch (under_of (part_of r bytes).reading) (Piece r.fetch.at bytes)
       (part_untold r bytes n some small (piece_within tells fit line r bytes is some fits)) (means_piece one tells fit grow rise line r bytes is some fits);
 })

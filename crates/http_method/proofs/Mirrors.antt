@@ -8,15 +8,15 @@ use Rattle.acq_base.specs.declared.fetch.Job.{Job}
 use Rattle.acq_base.specs.declared.fetch.Reply.{Reply}
 use Rattle.acq_base.specs.declared.fetch.Reply.TheVariants as replies
 use Rattle.acq_base.specs.declared.uri.Uri.{Uri}
-use Rattle.acq_base.specs.Mirror.{World, answer_at}
+use Rattle.acq_base.specs.Mirror.{MirrorMap, answer_at}
 use Rattle.acq_outside.specs.declared.word.Fetch.{Fetch}
 use Rattle.acq_outside.specs.declared.word.Word.{Word}
 use Rattle.acq_outside.specs.declared.word.Word.TheVariants.{Piece, Done, Other}
-use Rattle.acq_outside.specs.Word.{CanBegin, HasSize, IsPieceOf, IsWord, Tells}
+use Rattle.acq_outside.specs.Word.{CanBegin, HasSize, IsPieceOf, IsWord, IsReplyOf}
 use Rattle.acq_net.specs.Due.{Due, HeardAnswer, HeardFile, Big, Short, Whole, owing}
 use Rattle.acq_net.specs.Talk.{Talk, is_none}
-use Rattle.http_wire.specs.declared.ending.Ending.{Ending}
-use Rattle.http_wire.specs.declared.ending.Ending.TheVariants.{Served, Absent, Moved, TooBig}
+use Rattle.http_wire.specs.declared.ending.Response.{Response}
+use Rattle.http_wire.specs.declared.ending.Response.TheVariants.{Served, Absent, Moved, TooBig}
 use Rattle.http_wire.specs.declared.ending.State.TheVariants as states
 use Rattle.http_wire.specs.State.{state_of}
 use Rattle.http_wire.specs.Stream.{Heard, followed, IsHeard}
@@ -64,7 +64,7 @@ same_heard one stays till max from bytes rest true x y some is none whole =
     ∙ sym (followed_none x) ∙ ap (followed x) (sym rest_is)
 
 -- the mirror's answer is heard
-answer_heard : (one : OneReading) (stays : Stays) (till : StaysAtEnd) (entries : World) (due : Option Due) (job : Job) (bytes : List ℕ) (ended : Bool) (x : Heard) → CanBegin job → x.ending ≢ None → IsHeard job.max job.from bytes ended x
+answer_heard : (one : OneReading) (stays : Stays) (till : StaysAtEnd) (entries : MirrorMap) (due : Option Due) (job : Job) (bytes : List ℕ) (ended : Bool) (x : Heard) → CanBegin job → x.ending ≢ None → IsHeard job.max job.from bytes ended x
     → (owed : IsOwed entries due job bytes ended) → HeardAnswer (answer_at entries job.uri) job.uri job.max job.from owed.keep (followed x owed.rest)
 answer_heard one stays till entries due job bytes ended x can some is owed =
     let whole = owed.answers.is job.max can in
@@ -88,68 +88,68 @@ means_done (answers.Absent status) job x rest given keep size served body at h =
 no_file : (reply : Reply) (bytes : List ℕ) → is_file reply ≡ false → reply ≡ replies.Served bytes → ⊥
 no_file reply bytes other e = let file : is_file reply ≡ true = ap is_file e in cc
 
-means_other : (answer : Answer) (job : Job) (x : Heard) (rest given : List ℕ) (keep : Bool) (reply : Reply) → is_file reply ≡ false → IsReply job.uri given x.ending x.body reply → HeardAnswer answer job.uri job.max job.from keep (followed x rest) → Tells answer job reply
+means_other : (answer : Answer) (job : Job) (x : Heard) (rest given : List ℕ) (keep : Bool) (reply : Reply) → is_file reply ≡ false → IsReply job.uri given x.ending x.body reply → HeardAnswer answer job.uri job.max job.from keep (followed x rest) → IsReplyOf answer job reply
 means_other (answers.Served all) job x rest given keep reply other says (Big over is) =
-    let reply_is : reply ≡ replies.TooBig = subst (λ (e : Option Ending). IsReply job.uri given e x.body reply) is says in
-    subst (Tells (answers.Served all) job) (sym reply_is) over
+    let reply_is : reply ≡ replies.TooBig = subst (λ (e : Option Response). IsReply job.uri given e x.body reply) is says in
+    subst (IsReplyOf (answers.Served all) job) (sym reply_is) over
 means_other (answers.Served all) job x rest given keep reply other says (Short left_out ends is) =
-    let reply_is : reply ≡ replies.Absent 416 = subst (λ (e : Option Ending). IsReply job.uri given e x.body reply) is says in
-    subst (Tells (answers.Served all) job) (sym reply_is) (refl, left_out, ends)
+    let reply_is : reply ≡ replies.Absent 416 = subst (λ (e : Option Response). IsReply job.uri given e x.body reply) is says in
+    subst (IsReplyOf (answers.Served all) job) (sym reply_is) (refl, left_out, ends)
 means_other (answers.Served all) job x rest given keep reply other says (Whole begins fits is) =
     let e : x.ending ≡ Some (Served keep) = ap (λ z. z.ending) is in
-    let served : IsReply job.uri given (Some (Served keep)) x.body reply = subst (λ (e : Option Ending). IsReply job.uri given e x.body reply) e says in
+    let served : IsReply job.uri given (Some (Served keep)) x.body reply = subst (λ (e : Option Response). IsReply job.uri given e x.body reply) e says in
     absurd (no_file reply served.0 other served.1)
 means_other (answers.Moved to) job x rest given keep reply other says h =
-    let reply_is : reply ≡ replies.Moved _ = subst (λ (e : Option Ending). IsReply job.uri given e x.body reply) h.1 says in
-    subst (Tells (answers.Moved to) job) (sym reply_is) h.2
+    let reply_is : reply ≡ replies.Moved _ = subst (λ (e : Option Response). IsReply job.uri given e x.body reply) h.1 says in
+    subst (IsReplyOf (answers.Moved to) job) (sym reply_is) h.2
 means_other (answers.Absent status) job x rest given keep reply other says h =
-    let reply_is : reply ≡ replies.Absent status = subst (λ (e : Option Ending). IsReply job.uri given e x.body reply) h says in
-    subst (Tells (answers.Absent status) job) (sym reply_is) refl
+    let reply_is : reply ≡ replies.Absent status = subst (λ (e : Option Response). IsReply job.uri given e x.body reply) h says in
+    subst (IsReplyOf (answers.Absent status) job) (sym reply_is) refl
 
 -- what a word says of an answer
 abbrev pub Means : Answer → Fetch → Word → Type 0
 Means answer fetch (Piece place bytes) = IsPieceOf answer fetch.at bytes
 Means answer fetch (Done size) = HasSize answer fetch.job size
-Means answer fetch (Other reply) = Tells answer fetch.job reply
+Means answer fetch (Other reply) = IsReplyOf answer fetch.job reply
 
-pub told_word : (n m : ℕ) (world : Option World) (fetch : Fetch) (under : Option Fetch) (word : Word) → IsWord n m None fetch under word → IfSome world (λ entries. Means (answer_at entries fetch.job.uri) fetch word) → IsWord n m world fetch under word
+pub told_word : (n m : ℕ) (world : Option MirrorMap) (fetch : Fetch) (under : Option Fetch) (word : Word) → IsWord n m None fetch under word → IfSome world (λ entries. Means (answer_at entries fetch.job.uri) fetch word) → IsWord n m world fetch under word
 told_word n m world fetch under (Piece place bytes) is told =
     record { quiet = is.quiet; goes_on = is.goes_on; nonempty = is.nonempty; small = is.small; within = is.within; under_way = is.under_way; told = told }
 told_word n m world fetch under (Done size) is told = record { quiet = is.quiet; reached = is.reached; ended = is.ended; told = told }
 told_word n m world fetch under (Other reply) is told = record { counted = is.counted; ended = is.ended; told = told }
 
-pub untold_word : (n m : ℕ) (world : Option World) (fetch : Fetch) (under : Option Fetch) (word : Word) → IsWord n m world fetch under word → IsWord n m None fetch under word
+pub untold_word : (n m : ℕ) (world : Option MirrorMap) (fetch : Fetch) (under : Option Fetch) (word : Word) → IsWord n m world fetch under word → IsWord n m None fetch under word
 untold_word n m world fetch under (Piece place bytes) is =
     record { quiet = is.quiet; goes_on = is.goes_on; nonempty = is.nonempty; small = is.small; within = is.within; under_way = is.under_way; told = tt }
 untold_word n m world fetch under (Done size) is = record { quiet = is.quiet; reached = is.reached; ended = is.ended; told = tt }
 untold_word n m world fetch under (Other reply) is = record { counted = is.counted; ended = is.ended; told = tt }
 
-tells_dry : (answer : Answer) (job : Job) → Tells answer job replies.NoMemory
+tells_dry : (answer : Answer) (job : Job) → IsReplyOf answer job replies.NoMemory
 tells_dry (answers.Served all) job = tt
 tells_dry (answers.Moved to) job = tt
 tells_dry (answers.Absent status) job = tt
 
-tells_fault : (answer : Answer) (job : Job) (a b : ℕ) → Tells answer job (replies.Fault a b)
+tells_fault : (answer : Answer) (job : Job) (a b : ℕ) → IsReplyOf answer job (replies.Fault a b)
 tells_fault (answers.Served all) job a b = tt
 tells_fault (answers.Moved to) job a b = tt
 tells_fault (answers.Absent status) job a b = tt
 
-pub means_dry : (world : Option World) (fetch : Fetch) → IfSome world (λ entries. Means (answer_at entries fetch.job.uri) fetch (Other replies.NoMemory))
+pub means_dry : (world : Option MirrorMap) (fetch : Fetch) → IfSome world (λ entries. Means (answer_at entries fetch.job.uri) fetch (Other replies.NoMemory))
 means_dry None fetch = tt
 means_dry (Some entries) fetch = tells_dry (answer_at entries fetch.job.uri) fetch.job
 
-pub means_fault : (world : Option World) (fetch : Fetch) (a b : ℕ) → IfSome world (λ entries. Means (answer_at entries fetch.job.uri) fetch (Other (replies.Fault a b)))
+pub means_fault : (world : Option MirrorMap) (fetch : Fetch) (a b : ℕ) → IfSome world (λ entries. Means (answer_at entries fetch.job.uri) fetch (Other (replies.Fault a b)))
 means_fault None fetch a b = tt
 means_fault (Some entries) fetch a b = tells_fault (answer_at entries fetch.job.uri) fetch.job a b
 
-of_owed : (world : Option World) (due : Option Due) (job : Job) (bytes : List ℕ) (ended : Bool) (P : World → Type 0) → ((entries : World) → IsOwed entries due job bytes ended → P entries) → IfSome world (λ entries. IsOwed entries due job bytes ended) → IfSome world P
+of_owed : (world : Option MirrorMap) (due : Option Due) (job : Job) (bytes : List ℕ) (ended : Bool) (P : MirrorMap → Type 0) → ((entries : MirrorMap) → IsOwed entries due job bytes ended → P entries) → IfSome world (λ entries. IsOwed entries due job bytes ended) → IfSome world P
 of_owed None due job bytes ended P each owed = tt
 of_owed (Some entries) due job bytes ended P each owed = each entries owed
 
-over_of : (e : Option Ending) → IsServed e → e ≢ None
+over_of : (e : Option Response) → IsServed e → e ≢ None
 over_of e served none = subst IsServed none served
 
-reply_over : (uri : Uri) (given : List ℕ) (e : Option Ending) (body : List ℕ) (reply : Reply) → IsReply uri given e body reply → e ≢ None
+reply_over : (uri : Uri) (given : List ℕ) (e : Option Response) (body : List ℕ) (reply : Reply) → IsReply uri given e body reply → e ≢ None
 reply_over uri given e body reply says none = subst (λ z. IsReply uri given z body reply) none says
 
 ends_done : (one : OneReading) (stays : Stays) (till : StaysAtEnd) (line : Line) (fetch : Fetch) (before : Talk) (given : List ℕ) (size : ℕ) (kept : Option Place) → CanBegin fetch.job → size ≡ fetch.job.from + length given → Ends line fetch.job before given (Done size) kept
@@ -160,7 +160,7 @@ ends_done one stays till line fetch before given size kept can at e =
     (answer_heard one stays till entries line.due fetch.job e.bytes e.ended e.heard can (over_of e.heard.ending e.says.0) e.is owed)) e.told.owed
 
 ends_other : (one : OneReading) (stays : Stays) (till : StaysAtEnd) (line : Line) (fetch : Fetch) (before : Talk) (given : List ℕ) (reply : Reply) (kept : Option Place) → CanBegin fetch.job → is_file reply ≡ false → Ends line fetch.job before given (Other reply) kept
-    → IfSome line.world (λ entries. Tells (answer_at entries fetch.job.uri) fetch.job reply)
+    → IfSome line.world (λ entries. IsReplyOf (answer_at entries fetch.job.uri) fetch.job reply)
 ends_other one stays till line fetch before given reply kept can other e =
     of_owed line.world line.due fetch.job e.bytes e.ended _
     (λ entries owed. means_other (answer_at entries fetch.job.uri) fetch.job e.heard owed.rest given owed.keep reply other e.says
@@ -193,7 +193,7 @@ idle_for (answers.Served all) job x rest keep opens (Whole begins fits is) =
 idle_for (answers.Moved to) job x rest keep opens h = absurd (let shut : leaves_open x.ending ≡ false = ap leaves_open h.1 in cc)
 idle_for (answers.Absent status) job x rest keep opens h = absurd (let shut : leaves_open x.ending ≡ false = ap leaves_open h in cc)
 
-open_some : (e : Option Ending) → leaves_open e ≡ true → e ≢ None
+open_some : (e : Option Response) → leaves_open e ≡ true → e ≢ None
 open_some e opens none = let shut : leaves_open e ≡ false = ap leaves_open none in cc
 
 talk_open : (talk : Option Talk) (before : Talk) (job : Job) (bytes : List ℕ) (ended : Bool) → ended ≡ false → IfSome talk (λ told. told ≡ asked before job bytes ended) → IfSome talk (λ told. told.ended ≡ false)
@@ -262,7 +262,7 @@ heard_of tells line r bytes g =
     let t = tells r.wire r.fetch.job.max r.fetch.job.from (g.is.given ++ bytes) g.is.reads.bytes (is_end r.behind) g.is.reads.follows in
     (t.heard, t.is, (λ big. g.fits (ap state_of (sym t.ending ∙ big))), t.body (λ big. g.fits (ap state_of big)))
 
-whole_of : (entries : World) (due : Option Due) (job : Job) (bytes rest : List ℕ) (ended : Bool) (max : ℕ) → (job.from ≡ 0) ⊎ (job.from < max) → (owed : IsOwed entries due job (bytes ++ rest) ended)
+whole_of : (entries : MirrorMap) (due : Option Due) (job : Job) (bytes rest : List ℕ) (ended : Bool) (max : ℕ) → (job.from ≡ 0) ⊎ (job.from < max) → (owed : IsOwed entries due job (bytes ++ rest) ended)
     → (y : Heard) × IsHeard max job.from (bytes ++ (rest ++ owed.rest)) true y × HeardAnswer (answer_at entries job.uri) job.uri max job.from owed.keep y
 whole_of entries due job bytes rest ended max can owed =
     let whole = owed.answers.is max can in
@@ -275,10 +275,10 @@ wide_can : (from max more : ℕ) → (from ≡ 0) ⊎ (from < max) → (from ≡
 wide_can from max more (inl none) = inl none
 wide_can from max more (inr less) = inr (omega (arith, less))
 
-not_big : (y : Heard) (how : Ending) → y.ending ≡ Some how → Some how ≢ Some TooBig → y.ending ≢ Some TooBig
+not_big : (y : Heard) (how : Response) → y.ending ≡ Some how → Some how ≢ Some TooBig → y.ending ≢ Some TooBig
 not_big y how is other big = other (sym is ∙ big)
 
-piece_of_file : (one : OneReading) (tells : AllTell) (fit : AllFit) (grow : AllGrow) (rise : AllRise) (line : Line) (entries : World) (r : Reading) (bytes all : List ℕ) (g : Gave tells line r bytes) (owed : IsOwed entries line.due r.fetch.job (g.is.reads.bytes ++ g.is.reads.rest) (is_end r.behind))
+piece_of_file : (one : OneReading) (tells : AllTell) (fit : AllFit) (grow : AllGrow) (rise : AllRise) (line : Line) (entries : MirrorMap) (r : Reading) (bytes all : List ℕ) (g : Gave tells line r bytes) (owed : IsOwed entries line.due r.fetch.job (g.is.reads.bytes ++ g.is.reads.rest) (is_end r.behind))
     → (y : Heard) → IsHeard (r.fetch.job.max + length all) r.fetch.job.from (g.is.reads.bytes ++ (g.is.reads.rest ++ owed.rest)) true y → HeardFile all (r.fetch.job.max + length all) r.fetch.job.from owed.keep y → IsPieceOf (answers.Served all) r.fetch.at bytes
 piece_of_file one tells fit grow rise line entries r bytes all g owed y whole (Big over is) = absurd (omega (arith, over))
 piece_of_file one tells fit grow rise line entries r bytes all g owed y whole (Short left_out ends is) =
@@ -295,8 +295,8 @@ piece_of_file one tells fit grow rise line entries r bytes all g owed y whole (W
     (sym (ap (λ z. z.body) is) ∙ to.1 ∙ ap (λ z. z ++ to.0) x.3 ∙ append_assoc (g.is.given ++ bytes) r.wire.body to.0)
 
 -- behind another answer no piece comes
-no_piece : (one : OneReading) (tells : AllTell) (fit : AllFit) (grow : AllGrow) (rise : AllRise) (line : Line) (entries : World) (r : Reading) (bytes : List ℕ) (g : Gave tells line r bytes) (owed : IsOwed entries line.due r.fetch.job (g.is.reads.bytes ++ g.is.reads.rest) (is_end r.behind))
-    → (y : Heard) (how : Ending) → IsHeard r.fetch.job.max r.fetch.job.from (g.is.reads.bytes ++ (g.is.reads.rest ++ owed.rest)) true y → y.ending ≡ Some how → Some how ≢ Some TooBig → bears_body (Some how) ≡ false → ⊥
+no_piece : (one : OneReading) (tells : AllTell) (fit : AllFit) (grow : AllGrow) (rise : AllRise) (line : Line) (entries : MirrorMap) (r : Reading) (bytes : List ℕ) (g : Gave tells line r bytes) (owed : IsOwed entries line.due r.fetch.job (g.is.reads.bytes ++ g.is.reads.rest) (is_end r.behind))
+    → (y : Heard) (how : Response) → IsHeard r.fetch.job.max r.fetch.job.from (g.is.reads.bytes ++ (g.is.reads.rest ++ owed.rest)) true y → y.ending ≡ Some how → Some how ≢ Some TooBig → bears_body (Some how) ≡ false → ⊥
 no_piece one tells fit grow rise line entries r bytes g owed y how whole is other bare =
     let x = heard_of tells line r bytes g in
     let none = (λ (end : is_end r.behind ≡ true). all_none g.is.reads.rest owed.rest (nothing_behind r.behind g.is.reads.rest end g.is.reads.stands) (owed.ends end)) in
@@ -304,7 +304,7 @@ no_piece one tells fit grow rise line entries r bytes g owed y how whole is othe
     let empty : y.body ≡ [] = (fit r.fetch.job.max r.fetch.job.from (g.is.reads.bytes ++ (g.is.reads.rest ++ owed.rest)) true y whole).bare (ap bears_body is ∙ bare) in
     no_body y.body g.is.given bytes (r.wire.body ++ to.0) g.some empty (to.1 ∙ ap (λ z. z ++ to.0) x.3 ∙ append_assoc (g.is.given ++ bytes) r.wire.body to.0)
 
-piece_at : (one : OneReading) (tells : AllTell) (fit : AllFit) (grow : AllGrow) (rise : AllRise) (line : Line) (entries : World) (r : Reading) (bytes : List ℕ) (g : Gave tells line r bytes) (owed : IsOwed entries line.due r.fetch.job (g.is.reads.bytes ++ g.is.reads.rest) (is_end r.behind))
+piece_at : (one : OneReading) (tells : AllTell) (fit : AllFit) (grow : AllGrow) (rise : AllRise) (line : Line) (entries : MirrorMap) (r : Reading) (bytes : List ℕ) (g : Gave tells line r bytes) (owed : IsOwed entries line.due r.fetch.job (g.is.reads.bytes ++ g.is.reads.rest) (is_end r.behind))
     → (answer : Answer) → answer_at entries r.fetch.job.uri ≡ answer → IsPieceOf answer r.fetch.at bytes
 piece_at one tells fit grow rise line entries r bytes g owed (answers.Served all) is =
     let whole = whole_of entries line.due r.fetch.job g.is.reads.bytes g.is.reads.rest (is_end r.behind) (r.fetch.job.max + length all) (wide_can r.fetch.job.from r.fetch.job.max (length all) g.is.can) owed in

@@ -5,15 +5,15 @@ use Rattle.std.proofs.lemmas.Bool.{ltb-true, ltb-false, eqb-true}
 use Rattle.acq_base.specs.declared.fetch.Job.{Job}
 use Rattle.acq_base.specs.Uri.{IsSound}
 use Rattle.acq_outside.specs.declared.word.Fetch.{Fetch}
-use Rattle.acq_base.specs.Mirror.{World}
+use Rattle.acq_base.specs.Mirror.{MirrorMap}
 use Rattle.acq_outside.specs.Word.{CanBegin}
 use Rattle.acq_net.specs.Due.{Came, Due, IsAnswerOf, owing}
 use Rattle.acq_net.specs.Talk.{Talk, receives, is_none}
-use Rattle.http_wire.specs.declared.ending.Ending.TheVariants.{TooBig as Big}
+use Rattle.http_wire.specs.declared.ending.Response.TheVariants.{TooBig as Big}
 use Rattle.http_wire.specs.BodyLaws.{Grows}
 use Rattle.http_wire.specs.Stream.{Heard, IsHeard}
 use Rattle.http_wire.specs.State.{WireState, state_of}
-use Rattle.http_wire.specs.Wire.{Follows, Takes, Tells, Finishes, Gives, held, wire_state}
+use Rattle.http_wire.specs.Wire.{Follows, Takes, IsStateOf, Finishes, Gives, held, wire_state}
 use Rattle.http_wire.specs.declared.ending.State.TheVariants.{More, TooBig}
 use Rattle.http_method.specs.declared.reading.Behind.{Behind}
 use Rattle.http_method.specs.declared.reading.Behind.TheVariants.{Nothing, End}
@@ -37,7 +37,7 @@ told_end (Some talk) before job bytes rest behind none rest_is told =
     asked_with before job l ended = record { sent = (asked before job [] ended).sent; received = l; ended = ended }
 
 -- what is due goes on with the bytes that came of it
-owed_moves : (entries : World) (due later : Option Due) (job : Job) (received piece target : List ℕ) (was ended : Bool) → target ≡ received ++ piece → (ended ≡ true → piece ≡ []) → IfSome due (λ one. Came piece one later)
+owed_moves : (entries : MirrorMap) (due later : Option Due) (job : Job) (received piece target : List ℕ) (was ended : Bool) → target ≡ received ++ piece → (ended ≡ true → piece ≡ []) → IfSome due (λ one. Came piece one later)
     → IsOwed entries due job received was → IsOwed entries later job target ended
 owed_moves entries due later job received piece target was ended same ends came owed =
     let c : Came piece (owing job.uri owed.rest owed.keep) later = subst (λ d. IfSome d (λ one. Came piece one later)) owed.is came in
@@ -54,7 +54,7 @@ owed_gets : (line later : Line) (job : Job) (received piece target : List ℕ) (
 owed_gets line later job received piece target was ended same ends gets owed =
     subst (λ w. IfSome w (λ entries. IsOwed entries later.due job target ended)) (sym gets.world) (on line.world owed)
   where
-    on : (world : Option World) → IfSome world (λ entries. IsOwed entries line.due job received was) → IfSome world (λ entries. IsOwed entries later.due job target ended)
+    on : (world : Option MirrorMap) → IfSome world (λ entries. IsOwed entries line.due job received was) → IfSome world (λ entries. IsOwed entries later.due job target ended)
     on None owed = tt
     on (Some entries) owed = owed_moves entries line.due later.due job received piece target was ended same ends gets.came owed
 
@@ -192,7 +192,7 @@ empty_is l b is none = nil_from_length l (eqb-true (length l) 0 (sym is ∙ none
 
 -- a wire tells what is heard
 abbrev pub AllTell : Type 0
-AllTell = (w : WireState) (max from : ℕ) (given bytes : List ℕ) (ended : Bool) → Follows w max from given bytes ended → Tells w max from given bytes ended
+AllTell = (w : WireState) (max from : ℕ) (given bytes : List ℕ) (ended : Bool) → Follows w max from given bytes ended → IsStateOf w max from given bytes ended
 
 -- bodies only grow
 abbrev pub AllGrow : Type 0

@@ -13,24 +13,24 @@ use Rattle.acq_base.specs.declared.uri.Scheme.{Scheme}
 use Rattle.acq_base.specs.declared.uri.Scheme.TheVariants.{File, Http}
 use Rattle.acq_base.specs.declared.fetch.Answer.{Answer}
 use Rattle.acq_base.specs.declared.fetch.Answer.TheVariants as answers
-use Rattle.acq_base.specs.Mirror.{World, answer_at}
+use Rattle.acq_base.specs.Mirror.{MirrorMap, answer_at}
 use Rattle.acq_base.specs.Uri.{same_uri, scheme_index}
-use Rattle.acq_outside.specs.Word.{IsWord, Tells, begun}
+use Rattle.acq_outside.specs.Word.{IsWord, IsReplyOf, begun}
 use Rattle.acq_outside.proofs.Framed.{rises}
 use Rattle.http_method.specs.Line.{Line}
 use Rattle.http_method.specs.declared.reading.Place.{Place}
 use Rattle.http_method.specs.declared.reading.Reading.{Reading}
 use Rattle.http_method.specs.declared.reading.Said.{Said}
 use Rattle.http_method.specs.HttpMethod.{HttpState, CountsFault}
-use Rattle.http_method.specs.Reading.{Hears, IsTold, SaysOn, has_no_file, is_http, under_of, world_of}
+use Rattle.http_method.specs.Reading.{Hears, IsMirrorsWord, SaysOn, has_no_file, is_http, under_of, world_of}
 use Rattle.http_method.proofs.Mirrors.{means_fault, told_word, untold_word}
 
-fault_word : (world : Option World) (n k m : ℕ) (fetch : Fetch) → k ≡ n → m ≡ one_more n → IsWord n m world fetch None (Other (replies.Fault k m))
+fault_word : (world : Option MirrorMap) (n k m : ℕ) (fetch : Fetch) → k ≡ n → m ≡ one_more n → IsWord n m world fetch None (Other (replies.Fault k m))
 fault_word world n k m fetch same rose =
     let is : IsWord n m None fetch None (Other (replies.Fault k m)) = record { counted = (same, refl, rises n m rose); ended = refl; told = tt } in
     told_word n m world fetch None (Other (replies.Fault k m)) is (means_fault world fetch k m)
 
-pub settled_word : (world : Option World) (n k m : ℕ) (fetch : Fetch) (said : Result Said Fault) (word : Word) (reading : Option Reading) → k ≡ n → IfOk said (IsTold world fetch) → IfOk said (λ one. word ≡ one.word) → IfOk said (λ one. reading ≡ one.reading)
+pub settled_word : (world : Option MirrorMap) (n k m : ℕ) (fetch : Fetch) (said : Result Said Fault) (word : Word) (reading : Option Reading) → k ≡ n → IfOk said (IsMirrorsWord world fetch) → IfOk said (λ one. word ≡ one.word) → IfOk said (λ one. reading ≡ one.reading)
     → OnOk said (m ≡ k) → OnErr said (word ≡ Other (replies.Fault k m)) → OnErr said (reading ≡ None) → OnErr said (m ≡ one_more k) → IsWord n m world fetch (under_of reading) word
 settled_word world n k m fetch (Ok one) word reading same told word_is reading_is quiet fault over counted =
     subst (λ w. IsWord n m world fetch (under_of reading) w) (sym word_is)
@@ -53,7 +53,7 @@ quiet_word a b fetch under (Other (replies.Garbled at)) same is = same
 quiet_word a b fetch under (Other (replies.Fault x y)) same is = absurd (never_rises is.counted.2)
 quiet_word a b fetch under (Other replies.NoMemory) same is = same
 
-pub settled_link : (world : Option World) (a i b c x y : ℕ) (fetch : Fetch) (said : Result Said Fault) (word : Word) → i ≡ a → b ≡ c → IfOk said (IsTold world fetch) → OnErr said (Rose i c) → OnOk said (c ≡ i) → IfOk said (λ one. word ≡ one.word)
+pub settled_link : (world : Option MirrorMap) (a i b c x y : ℕ) (fetch : Fetch) (said : Result Said Fault) (word : Word) → i ≡ a → b ≡ c → IfOk said (IsMirrorsWord world fetch) → OnErr said (Rose i c) → OnOk said (c ≡ i) → IfOk said (λ one. word ≡ one.word)
     → OnErr said (word ≡ Other (replies.Fault x y)) → CountsFault a b word
 settled_link world a i b c x y fetch (Ok one) word before after told rose quiet word_is fault =
     subst (λ w. CountsFault a b w) (sym word_is) (quiet_word a b fetch (under_of one.reading) one.word (after ∙ quiet ∙ before) (untold_word 0 0 world fetch (under_of one.reading) one.word (told.is 0)))
@@ -91,12 +91,12 @@ link_same of is = ap (λ (method : HttpState _). of method.link) is
 
 -- ---- the mirror without `file` URIs
 
-narrowed_by : (n m : ℕ) (entries : World) (test : Bool) (fetch : Fetch) (under : Option Fetch) (word : Word) → IsWord n m (Some entries) fetch under word → IsWord n m (if test then Some entries else None) fetch under word
+narrowed_by : (n m : ℕ) (entries : MirrorMap) (test : Bool) (fetch : Fetch) (under : Option Fetch) (word : Word) → IsWord n m (Some entries) fetch under word → IsWord n m (if test then Some entries else None) fetch under word
 narrowed_by n m entries true fetch under word is = is
 narrowed_by n m entries false fetch under word is = untold_word n m (Some entries) fetch under word is
 
 -- what is told of the link's mirror is told of the method's
-pub narrowed : (n m : ℕ) (world : Option World) (fetch : Fetch) (under : Option Fetch) (word : Word) → IsWord n m world fetch under word → IsWord n m (world_of world) fetch under word
+pub narrowed : (n m : ℕ) (world : Option MirrorMap) (fetch : Fetch) (under : Option Fetch) (word : Word) → IsWord n m world fetch under word → IsWord n m (world_of world) fetch under word
 narrowed n m None fetch under word is = is
 narrowed n m (Some entries) fetch under word is = narrowed_by n m entries (has_no_file entries) fetch under word is
 
@@ -108,22 +108,22 @@ other_uri : (a uri : Uri) → uri.scheme ≡ File → is_http a.scheme ≡ true 
 other_uri a uri is other = ap (λ b. b && bytes_eq a.host uri.host && (a.port == uri.port) && bytes_eq a.path uri.path) (ap (λ s. scheme_index a.scheme == scheme_index s) is ∙ http_apart a.scheme other)
 
 -- a `file` URI is absent there
-file_absent : (uri : Uri) → uri.scheme ≡ File → (entries : World) → has_no_file entries ≡ true → answer_at entries uri ≡ answers.Absent 404
+file_absent : (uri : Uri) → uri.scheme ≡ File → (entries : MirrorMap) → has_no_file entries ≡ true → answer_at entries uri ≡ answers.Absent 404
 file_absent uri is [] none = refl
 file_absent uri is (entry ∷ entries) none =
     let both = and_parts (is_http entry.0.scheme) (has_no_file entries) none in
     ap (λ b. if b then entry.1 else answer_at entries uri) (other_uri entry.0 uri is both.0) ∙ file_absent uri is entries both.1
 
-tells_absent : (answer : Answer) (job : Job) → answer ≡ answers.Absent 404 → Tells answer job (replies.Absent 404)
-tells_absent answer job is = subst (λ a. Tells a job (replies.Absent 404)) (sym is) refl
+tells_absent : (answer : Answer) (job : Job) → answer ≡ answers.Absent 404 → IsReplyOf answer job (replies.Absent 404)
+tells_absent answer job is = subst (λ a. IsReplyOf a job (replies.Absent 404)) (sym is) refl
 
-file_told : (entries : World) (test : Bool) (job : Job) → has_no_file entries ≡ test → job.uri.scheme ≡ File → IfSome (if test then Some entries else None) (λ some. Tells (answer_at some job.uri) job (replies.Absent 404))
+file_told : (entries : MirrorMap) (test : Bool) (job : Job) → has_no_file entries ≡ test → job.uri.scheme ≡ File → IfSome (if test then Some entries else None) (λ some. IsReplyOf (answer_at some job.uri) job (replies.Absent 404))
 file_told entries true job none is = tells_absent (answer_at entries job.uri) job (file_absent job.uri is entries none)
 file_told entries false job none is = tt
 
-file_means : (world : Option World) (job : Job) → job.uri.scheme ≡ File → IfSome (world_of world) (λ some. Tells (answer_at some job.uri) job (replies.Absent 404))
+file_means : (world : Option MirrorMap) (job : Job) → job.uri.scheme ≡ File → IfSome (world_of world) (λ some. IsReplyOf (answer_at some job.uri) job (replies.Absent 404))
 file_means None job is = tt
 file_means (Some entries) job is = file_told entries (has_no_file entries) job refl is
 
-pub file_word : (n m : ℕ) (world : Option World) (job : Job) (under : Option Fetch) → m ≡ n → under ≡ None → job.uri.scheme ≡ File → IsWord n m (world_of world) (begun job) under (Other (replies.Absent 404))
+pub file_word : (n m : ℕ) (world : Option MirrorMap) (job : Job) (under : Option Fetch) → m ≡ n → under ≡ None → job.uri.scheme ≡ File → IsWord n m (world_of world) (begun job) under (Other (replies.Absent 404))
 file_word n m world job under same none is = record { counted = same; ended = none; told = file_means world job is }

@@ -1,7 +1,7 @@
 -- What a method over HTTP shows.
 use Rattle.std.specs.Prelude.{◌≡◌, ◌≤◌, ℕ, Option}
 use Rattle.acq_base.specs.declared.fetch.Reply.TheVariants as replies
-use Rattle.acq_base.specs.Mirror.{World}
+use Rattle.acq_base.specs.Mirror.{MirrorMap}
 use Rattle.acq_outside.specs.Count.{Rose}
 use Rattle.acq_outside.specs.Frame.{FetchesBy}
 use Rattle.acq_outside.specs.declared.word.Word.{Word}
@@ -41,7 +41,7 @@ abbrev pub faults_of : {L : Type 0} → HttpState L → ℕ
 faults_of method = method.faults
 
 -- the mirror that it tells
-abbrev pub told_mirror : {L : Type 0} → Ghosts L → HttpState L → Option World
+abbrev pub told_mirror : {L : Type 0} → Ghosts L → HttpState L → Option MirrorMap
 told_mirror g method = world_of (g.world method.link)
 
 -- The frame of a call: that of any method; and the link's count never falls, and rose exactly where the word is a fault.

@@ -1,6 +1,6 @@
 -- What a link tells of its connection, and what its calls make of that.
 use Rattle.std.specs.Prelude.{◌≡◌, ℕ, List, Option, Some, IfSome, option_map}
-use Rattle.acq_base.specs.Mirror.{World}
+use Rattle.acq_base.specs.Mirror.{MirrorMap}
 use Rattle.acq_net.specs.declared.link.Link.{Ghosts}
 use Rattle.acq_net.specs.Due.{Came, Due, Owes, fresh}
 use Rattle.acq_net.specs.Talk.{Talk, receives, sends, silent}
@@ -8,7 +8,7 @@ use Rattle.acq_net.specs.Talk.{Talk, receives, sends, silent}
 -- what was said on it; the mirror that the link stands for, if it does; and what is due of that
 pub record Line : Type 0 where
   pub talk : Option Talk
-  pub world : Option World
+  pub world : Option MirrorMap
   pub due : Option Due
 
 abbrev pub line_of : {L : Type 0} → Ghosts L → L → Line

@@ -6,7 +6,7 @@ use Rattle.acq_base.specs.declared.fetch.Reply.TheVariants as replies
 use Rattle.acq_base.specs.declared.uri.Uri.{Uri}
 use Rattle.acq_base.specs.declared.uri.Scheme.{Scheme}
 use Rattle.acq_base.specs.declared.uri.Scheme.TheVariants.{File, Http}
-use Rattle.acq_base.specs.Mirror.{World}
+use Rattle.acq_base.specs.Mirror.{MirrorMap}
 use Rattle.acq_base.specs.Uri.{IsSound}
 use Rattle.acq_outside.specs.declared.word.Fetch.{Fetch}
 use Rattle.acq_outside.specs.declared.word.Word.{Word}
@@ -14,8 +14,8 @@ use Rattle.acq_outside.specs.declared.word.Word.TheVariants.{Piece, Done, Other}
 use Rattle.acq_outside.specs.Word.{CanBegin, IsWord}
 use Rattle.acq_net.specs.Due.{Due, IsAnswerOf, fresh, owing}
 use Rattle.acq_net.specs.Talk.{Talk, silent, is_none}
-use Rattle.http_wire.specs.declared.ending.Ending.{Ending}
-use Rattle.http_wire.specs.declared.ending.Ending.TheVariants.{Served}
+use Rattle.http_wire.specs.declared.ending.Response.{Response}
+use Rattle.http_wire.specs.declared.ending.Response.TheVariants.{Served}
 use Rattle.http_wire.specs.declared.ending.State.{State}
 use Rattle.http_wire.specs.declared.ending.State.TheVariants as states
 use Rattle.http_wire.specs.Request.{request_text}
@@ -34,7 +34,7 @@ asked before job bytes ended = record { sent = before.sent ++ request_text job.u
 
 -- of the mirror's answer these bytes came since the request, and what else is to come of it is due; nothing is, where the
 -- peer has ended
-pub record IsOwed (entries : World) (due : Option Due) (job : Job) (bytes : List ℕ) (ended : Bool) : Type 0 where
+pub record IsOwed (entries : MirrorMap) (due : Option Due) (job : Job) (bytes : List ℕ) (ended : Bool) : Type 0 where
   pub rest : List ℕ
   pub keep : Bool
   pub is : due ≡ Some (owing job.uri rest keep)
@@ -101,7 +101,7 @@ is_kept Nothing (states.Done keep) = keep
 is_kept behind state = false
 
 -- the connection may serve another request: the response leaves it so, with nothing behind it
-abbrev pub leaves_open : Option Ending → Bool
+abbrev pub leaves_open : Option Response → Bool
 leaves_open (Some (Served keep)) = keep
 leaves_open _ = false
 
@@ -131,7 +131,7 @@ ended_at_once job talk = option_map (λ before. asked before job [] true) talk
 abbrev pub before_anew : Option Place → Job → Option Talk → Option Talk
 before_anew kept job talk = if is_for kept job.uri then ended_at_once job talk else talk
 
-abbrev pub IsServed : Option Ending → Type 0
+abbrev pub IsServed : Option Response → Type 0
 IsServed (Some (Served keep)) = Unit {0}
 IsServed _ = ⊥
 
@@ -208,7 +208,7 @@ under_of None = None
 under_of (Some reading) = Some reading.fetch
 
 -- a word to a fetch, told of a mirror
-pub record IsTold (world : Option World) (fetch : Fetch) (said : Said) : Type 0 where
+pub record IsMirrorsWord (world : Option MirrorMap) (fetch : Fetch) (said : Said) : Type 0 where
   pub is : (n : ℕ) → IsWord n n world fetch (under_of said.reading) said.word
 
 abbrev pub is_http : Scheme → Bool
@@ -216,12 +216,12 @@ is_http Http = true
 is_http File = false
 
 -- a mirror that has no `file` URI
-abbrev pub has_no_file : World → Bool
+abbrev pub has_no_file : MirrorMap → Bool
 has_no_file [] = true
 has_no_file (entry ∷ entries) = is_http entry.0.scheme && has_no_file entries
 
 -- a method over HTTP tells the mirror of its link, where that has no `file` URI
-abbrev pub world_of : Option World → Option World
+abbrev pub world_of : Option MirrorMap → Option MirrorMap
 world_of None = None
 world_of (Some entries) = if has_no_file entries then Some entries else None
 

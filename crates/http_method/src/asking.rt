@@ -7,7 +7,7 @@ ghost use Rattle.acq_outside.specs.Word.{CanBegin, IsSoundWord, begun};
 ghost use Rattle.acq_net.specs.OverLink.{Asks, Opens, Says};
 ghost use Rattle.http_wire.specs.Request.{request_text};
 ghost use Rattle.http_method.specs.Line.{Connects, Sends, line_of};
-ghost use Rattle.http_method.specs.Reading.{BeginsAgain, BeginsAnew, BeginsOn, IsKeptBehind, IsOpen, IsTold, Keeps, before_anew, ended_at_once, is_end, is_for, place_of};
+ghost use Rattle.http_method.specs.Reading.{BeginsAgain, BeginsAnew, BeginsOn, IsKeptBehind, IsOpen, IsMirrorsWord, Keeps, before_anew, ended_at_once, is_end, is_for, place_of};
 
 use crate::hearing::{new_room, receive_once};
 use crate::reading::{Behind, Place, Reading, Said};
@@ -46,7 +46,7 @@ pub fn ask<L: Link>(
     ensures made { is_for kept job.now.uri ≡ true → (L.made link.new ≡ L.made link.old) ⊎ Rose (L.ends link.old) (L.ends link.new) }
     ensures anew { (L.made link.new ≡ L.made link.old) ⊎ (L.former link.new ≡ before_anew kept job.now (L.talk link.old)) }
     ensures sound { IfOk result (λ said. IsSoundWord said.word) }
-    ensures told { IfOk result (IsTold (L.world link.old) (begun job.now)) }
+    ensures told { IfOk result (IsMirrorsWord (L.world link.old) (begun job.now)) }
     ensures keeps { IfOk result (λ said. Keeps (line_of L.Link link.new) said.kept said.reading) }
     ensures behind { IfOk result (λ said. IsKeptBehind said.word said.kept) }
     ensures says { IfOk result (BeginsOn (line_of L.Link link.old) kept (line_of L.Link link.new) job.now) }
@@ -72,7 +72,7 @@ fn ask_anew<L: Link>(alloc: Global, link: &mut L, text: &Bytes, job: &Job) -> Re
 
     ensures anew { (L.made link.new ≡ L.made link.old) ⊎ (L.former link.new ≡ L.talk link.old) }
     ensures sound { IfOk result (λ said. IsSoundWord said.word) }
-    ensures told { IfOk result (IsTold (L.world link.old) (begun job.now)) }
+    ensures told { IfOk result (IsMirrorsWord (L.world link.old) (begun job.now)) }
     ensures keeps { IfOk result (λ said. Keeps (line_of L.Link link.new) said.kept said.reading) }
     ensures behind { IfOk result (λ said. IsKeptBehind said.word said.kept) }
     ensures says { IfOk result (BeginsAnew (line_of L.Link link.new) job.now) }
@@ -124,7 +124,7 @@ fn ask_again<L: Link>(alloc: Global, link: &mut L, text: &Bytes, job: &Job) -> R
     ensures made { (L.made link.new ≡ L.made link.old) ⊎ Rose (L.ends link.old) (L.ends link.new) }
     ensures anew { (L.made link.new ≡ L.made link.old) ⊎ (L.former link.new ≡ ended_at_once job.now (L.talk link.old)) }
     ensures sound { IfOk result (λ said. IsSoundWord said.word) }
-    ensures told { IfOk result (IsTold (L.world link.old) (begun job.now)) }
+    ensures told { IfOk result (IsMirrorsWord (L.world link.old) (begun job.now)) }
     ensures keeps { IfOk result (λ said. Keeps (line_of L.Link link.new) said.kept said.reading) }
     ensures behind { IfOk result (λ said. IsKeptBehind said.word said.kept) }
     ensures says { IfOk result (BeginsAgain (line_of L.Link link.old) (line_of L.Link link.new) job.now) }

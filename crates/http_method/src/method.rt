@@ -66,7 +66,7 @@ impl<L: Link> HttpMethod<L> {
     }
 
     /// Keeps what is kept behind a word, and counts a fault.
-    fn settle(&mut self, said: Result<Said, Fault>) -> Word
+    fn record_step(&mut self, said: Result<Said, Fault>) -> Word
         requires keeps { IfOk said (λ one. Keeps (line_of L.Link self.old.link) one.kept one.reading) }
         requires kept { self.old.kept ≡ None }
         requires idle { self.old.reading ≡ None }
@@ -140,7 +140,7 @@ impl<L: Link> Method for HttpMethod<L> {
             Scheme::Http => {
                 let kept = self.kept.take();
                 let said = ask(alloc, &mut self.link, kept, job);
-                self.settle(said)
+                self.record_step(said)
             }
         }
     }
@@ -160,6 +160,6 @@ impl<L: Link> Method for HttpMethod<L> {
             unreachable!()
         };
         let said = next_word(alloc, &mut self.link, reading);
-        self.settle(said)
+        self.record_step(said)
     }
 }

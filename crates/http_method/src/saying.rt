@@ -4,7 +4,7 @@ ghost use Rattle.acq_outside.specs.Word.{IsSoundWord};
 ghost use Rattle.acq_net.specs.OverLink.{Leaves, Listens};
 ghost use Rattle.http_wire.specs.Wire.{IsDone, held, wire_state};
 ghost use Rattle.http_method.specs.Line.{line_of};
-ghost use Rattle.http_method.specs.Reading.{GivesOn, IsKeptBehind, IsReading, IsTold, Keeps, SaysOn, is_file, is_kept, kept_if, part_of, word_of};
+ghost use Rattle.http_method.specs.Reading.{GivesOn, IsKeptBehind, IsReading, IsMirrorsWord, Keeps, SaysOn, is_file, is_kept, kept_if, part_of, word_of};
 
 use crate::hearing::listen;
 use crate::reading::{Behind, Place, Reading, Said};
@@ -37,7 +37,7 @@ pub fn next_word<L: Link>(alloc: Global, link: &mut L, reading: Reading) -> Resu
     ensures frame { Listens L.Link link.old link.new result }
 
     ensures sound { IfOk result (λ said. IsSoundWord said.word) }
-    ensures told { IfOk result (IsTold (L.world link.old) reading.fetch) }
+    ensures told { IfOk result (IsMirrorsWord (L.world link.old) reading.fetch) }
     ensures keeps { IfOk result (λ said. Keeps (line_of L.Link link.new) said.kept said.reading) }
     ensures behind { IfOk result (λ said. IsKeptBehind said.word said.kept) }
     ensures says { IfOk result (SaysOn (line_of L.Link link.old) reading (line_of L.Link link.new)) }
@@ -67,7 +67,7 @@ fn say<L: Link>(alloc: Global, link: &mut L, reading: Reading, bytes: Bytes) -> 
     ensures frame { Leaves L.Link link.old link.new }
 
     ensures sound { IsSoundWord result.word }
-    ensures told { IsTold (L.world link.old) reading.fetch result }
+    ensures told { IsMirrorsWord (L.world link.old) reading.fetch result }
     ensures keeps { Keeps (line_of L.Link link.new) result.kept result.reading }
     ensures behind { IsKeptBehind result.word result.kept }
     ensures gives { GivesOn (line_of L.Link link.old) reading (line_of L.Link link.new) bytes result }
@@ -113,7 +113,7 @@ fn finish<L: Link>(alloc: Global, link: &mut L, reading: Reading) -> Said
     ensures frame { Leaves L.Link link.old link.new }
 
     ensures sound { IsSoundWord result.word }
-    ensures told { IsTold (L.world link.old) reading.fetch result }
+    ensures told { IsMirrorsWord (L.world link.old) reading.fetch result }
     ensures keeps { Keeps (line_of L.Link link.new) result.kept result.reading }
     ensures behind { IsKeptBehind result.word result.kept }
     ensures says { SaysOn (line_of L.Link link.old) reading (line_of L.Link link.new) result }

@@ -5,8 +5,8 @@ use Rattle.std.proofs.lemmas.Bool.{cases_lt}
 use Rattle.std.proofs.lemmas.Bool.Decides.{nat_tests}
 use Rattle.httparse.specs.Grammar.{ResponseHead, status_code, chunk_size}
 use Rattle.httparse.specs.Spans.{name_and_value}
-use Rattle.http_wire.specs.declared.ending.Ending.{Ending}
-use Rattle.http_wire.specs.declared.ending.Ending.TheVariants.{Served, TooBig}
+use Rattle.http_wire.specs.declared.ending.Response.{Response}
+use Rattle.http_wire.specs.declared.ending.Response.TheVariants.{Served, TooBig}
 use Rattle.http_wire.specs.declared.meaning.Framing.{Framing}
 use Rattle.http_wire.specs.declared.meaning.Framing.TheVariants as framings
 use Rattle.http_wire.specs.declared.meaning.Meaning.{Meaning}
@@ -131,7 +131,7 @@ leads_in max from (suc n) s text t rest a inside = leads_in max from n a.0 a.1 t
 fits_none : (max from : ℕ) (x : Heard) → x.body ≡ [] → Fits max from x
 fits_none max from x none = record { begins = inl none; within = inl none; bare = λ _. none }
 
-fits_some : (max from start : ℕ) (how : Option Ending) (body rest : List ℕ) → bears_body how ≡ true → start ≡ from → start + length body ≤ max → Fits max from (hear how start body rest)
+fits_some : (max from start : ℕ) (how : Option Response) (body rest : List ℕ) → bears_body how ≡ true → start ≡ from → start + length body ≤ max → Fits max from (hear how start body rest)
 fits_some max from start how body rest bears begins within = record { begins = inr begins; within = inr within; bare = λ bare. absurd cc }
 
 cut_bears : (ended : Bool) (count : ℕ) → bears_body (cut ended count) ≡ true
@@ -388,7 +388,7 @@ stays_same : (max from : ℕ) (bytes more : List ℕ) (ended : Bool) (x y : Hear
 stays_same max from bytes more false x y some a b = one_reading max from (bytes ++ more) false y (followed x more) b (decided max from bytes more x some a)
 stays_same max from bytes more true x y some a b = one_reading max from (bytes ++ more) true y (followed x more) b (heard_end max from (bytes ++ more) (followed x more) some (decided max from bytes more x some a))
 
-grows_at : (max from : ℕ) (bytes more : List ℕ) (ended : Bool) (x y : Heard) (e : Option Ending) → x.ending ≡ e → IsHeard max from bytes false x → IsHeard max from (bytes ++ more) ended y → y.ending ≢ Some TooBig → Grows x y more
+grows_at : (max from : ℕ) (bytes more : List ℕ) (ended : Bool) (x y : Heard) (e : Option Response) → x.ending ≡ e → IsHeard max from bytes false x → IsHeard max from (bytes ++ more) ended y → y.ending ≢ Some TooBig → Grows x y more
 grows_at max from bytes more ended x y None is a b fits =
     let way = leads_rest max from ended (length (bytes ++ more)) a.parts b.parts (Heads 0) (bytes ++ more) a.stage b.stage (a.text ++ more) b.text y (leads_more max from a.parts (Heads 0) bytes a.stage a.text more a.leads) b.leads b.stops in
     grown_of x y more (waits_leads max from (length bytes) ended (length (bytes ++ more)) way.0 a.stage a.text more b.stage b.text x y is fits a.stops way.1 b.stops)

@@ -2,7 +2,7 @@
 use Rattle.std.proofs.Common.{◌≡◌, ◌≢◌, ℕ, suc, ◌+◌, ◌-◌, ◌<◌, ◌≤◌, inl, inr, Bool, true, false, List, [], ◌∷◌, ◌++◌, length, take, arith, sym, ap, ◌∙◌, refl, subst, append_assoc, append-nil, length-append, length-take, Some, None, nat_lt}
 use Rattle.std.specs.Prelude.{◌==◌, if◌then◌else◌}
 use Rattle.std.proofs.lemmas.Bool.Decides.{nat_tests}
-use Rattle.http_wire.specs.declared.ending.Ending.TheVariants.{Served, TooBig, Garbled}
+use Rattle.http_wire.specs.declared.ending.Response.TheVariants.{Served, TooBig, Garbled}
 use Rattle.http_wire.specs.declared.phase.Phase.TheVariants as phases
 use Rattle.http_wire.specs.Stream.{Heads, Counted, Unbounded, SizeLine, Chunk, Closing, hear, capped, garbled_at, NeverCloses, Leads}
 use Rattle.http_wire.specs.State.{WireState}

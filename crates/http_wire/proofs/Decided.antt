@@ -1,8 +1,8 @@
 -- What has been heard stays so, whatever follows.
 use Rattle.std.proofs.Common.{◌≡◌, ◌≢◌, ℕ, zero, suc, ◌+◌, ◌-◌, ◌≤◌, inl, inr, false, List, [], ◌++◌, length, take, arith, sym, ap, ◌∙◌, refl, subst, append_assoc, length-append, length-take, Option, Some, None}
 use Rattle.httparse.specs.Grammar.{status_code}
-use Rattle.http_wire.specs.declared.ending.Ending.{Ending}
-use Rattle.http_wire.specs.declared.ending.Ending.TheVariants.{Garbled}
+use Rattle.http_wire.specs.declared.ending.Response.{Response}
+use Rattle.http_wire.specs.declared.ending.Response.TheVariants.{Garbled}
 use Rattle.http_wire.specs.Forms.{Form, head_form, size_form, trailer_form}
 use Rattle.http_wire.specs.Stream.{Stage, Heads, Counted, Unbounded, SizeLine, Chunk, Closing, Trailing, Heard, hear, Next, Goes, Ends, Breaks, start_of, behind_head, capped, Step, garbled_at, Halts, EndsBehind, Stops, Leads, IsHeard, followed}
 use Rattle.http_wire.proofs.FormLemmas.{Facts, whole_more, bad_more}
@@ -35,7 +35,7 @@ same_place count text more =
     let e : (count + length more) - length (text ++ more) ≡ count - length text = omega (arith, a) in
     ap (λ n. Some (Garbled (capped n))) e
 
-stays : (x : Heard) (start : ℕ) (body text more : List ℕ) (how other : Option Ending) → x ≡ hear how start body text → how ≡ other → followed x more ≡ hear other start body (text ++ more)
+stays : (x : Heard) (start : ℕ) (body text more : List ℕ) (how other : Option Response) → x ≡ hear how start body text → how ≡ other → followed x more ≡ hear other start body (text ++ more)
 stays x start body text more how other is same = ap (λ z. followed z more) is ∙ ap (λ h. hear h start body (text ++ more)) same
 
 unheard : (x : Heard) (start : ℕ) (body text : List ℕ) → x.ending ≢ None → x ≡ hear None start body text → ⊥

@@ -1,7 +1,7 @@
 -- What a wire hears where the peer ends.
 use Rattle.std.proofs.Common.{◌≡◌, ◌≢◌, ℕ, ◌+◌, ◌<◌, ◌≤◌, ◌⊎◌, inl, inr, ⊎_elim, Bool, true, false, List, [], ◌∷◌, ◌++◌, length, arith, sym, ap, ◌∙◌, refl, subst, append_assoc, length-append, Some, None}
-use Rattle.http_wire.specs.declared.ending.Ending.{Ending}
-use Rattle.http_wire.specs.declared.ending.Ending.TheVariants.{Served, Garbled}
+use Rattle.http_wire.specs.declared.ending.Response.{Response}
+use Rattle.http_wire.specs.declared.ending.Response.TheVariants.{Served, Garbled}
 use Rattle.http_wire.specs.declared.phase.Phase.TheVariants as phases
 use Rattle.http_wire.specs.Forms.{Form, Whole, whole_lines, Never, Unfinished, Bad, head_form, size_form, trailer_form}
 use Rattle.http_wire.specs.Stream.{Stage, Heads, Counted, Unbounded, SizeLine, Chunk, Closing, Trailing, Heard, hear, capped, Halts, Stops, IsHeard}
@@ -46,7 +46,7 @@ stops_end max from count (Trailing start keep body) text x some (inr a) = inr a
 pub heard_end : (max from : ℕ) (bytes : List ℕ) (x : Heard) → x.ending ≢ None → IsHeard max from bytes false x → IsHeard max from bytes true x
 heard_end max from bytes x some a = record { parts = a.parts; stage = a.stage; text = a.text; leads = a.leads; stops = stops_end max from (length bytes) a.stage a.text x some a.stops }
 
-pub ended_stays : (w : WireState) (how : Ending) → w.ending ≡ Some how → (max from : ℕ) (given bytes : List ℕ) (ended : Bool) → Follows w max from given bytes ended → Follows w max from given bytes true
+pub ended_stays : (w : WireState) (how : Response) → w.ending ≡ Some how → (max from : ℕ) (given bytes : List ℕ) (ended : Bool) → Follows w max from given bytes ended → Follows w max from given bytes true
 ended_stays w how is max from given bytes true h = h
 ended_stays w how is max from given bytes false h =
     let at : HasEnded how w given bytes false = subst (λ e. IsAt e w given bytes false) is h.is_at in

@@ -5,8 +5,8 @@ use Rattle.std.proofs.Math.Seq.{take-length}
 use Rattle.acq_base.specs.declared.fetch.Reply.{Reply}
 use Rattle.acq_base.specs.declared.fetch.Reply.TheVariants as replies
 use Rattle.acq_base.specs.declared.uri.Uri.{Uri}
-use Rattle.http_wire.specs.declared.ending.Ending.{Ending}
-use Rattle.http_wire.specs.declared.ending.Ending.TheVariants.{Served, Absent, Moved, TooBig, Garbled}
+use Rattle.http_wire.specs.declared.ending.Response.{Response}
+use Rattle.http_wire.specs.declared.ending.Response.TheVariants.{Served, Absent, Moved, TooBig, Garbled}
 use Rattle.http_wire.specs.declared.ending.State.TheVariants as states
 use Rattle.http_wire.specs.Stream.{followed}
 use Rattle.http_wire.specs.State.{WireState, state_of}
@@ -35,7 +35,7 @@ moves_on w u v piece n m inside first second max from given bytes h =
     subst (λ t. Follows v max from given t false) (append_assoc bytes (take n piece) (take m (drop n piece)) ∙ ap (λ t. bytes ++ t) (take_more_of n m piece inside)) both
 
 -- a refusal stands, whatever follows
-holds_more : (w : WireState) (how : Ending) → is_refused (Some how) ≡ true → w.ending ≡ Some how → (max from : ℕ) (given bytes more : List ℕ) → Follows w max from given bytes false → Follows w max from given (bytes ++ more) false
+holds_more : (w : WireState) (how : Response) → is_refused (Some how) ≡ true → w.ending ≡ Some how → (max from : ℕ) (given bytes more : List ℕ) → Follows w max from given bytes false → Follows w max from given (bytes ++ more) false
 holds_more w (Served keep) refused is max from given bytes more h = cc
 holds_more w (Absent status) refused is max from given bytes more h = cc
 holds_more w (Moved place) refused is max from given bytes more h = cc
@@ -58,7 +58,7 @@ holds_more w (Garbled place) refused is max from given bytes more h =
       holds = at.holds;
     })
 
-refused_at : (w : WireState) (e : Option Ending) → w.ending ≡ e → is_refused e ≡ true → (max from : ℕ) (given bytes more : List ℕ) → Follows w max from given bytes false → Follows w max from given (bytes ++ more) false
+refused_at : (w : WireState) (e : Option Response) → w.ending ≡ e → is_refused e ≡ true → (max from : ℕ) (given bytes more : List ℕ) → Follows w max from given bytes false → Follows w max from given (bytes ++ more) false
 refused_at w None is refused max from given bytes more h = cc
 refused_at w (Some how) is refused max from given bytes more h = holds_more w how refused is max from given bytes more h
 
@@ -68,7 +68,7 @@ refused_whole w v piece n refused moves max from given bytes h =
     subst (λ t. Follows v max from given t false) (append_assoc bytes (take n piece) (drop n piece) ∙ ap (λ t. bytes ++ t) (take-append-drop n piece ∙ sym (take-length piece))) both
 
 -- what isn't refused nor done goes on
-pub on_or_done : (e : Option Ending) → is_refused e ≡ false → ¬ (IsDone (state_of e)) → e ≡ None
+pub on_or_done : (e : Option Response) → is_refused e ≡ false → ¬ (IsDone (state_of e)) → e ≡ None
 on_or_done None refused other = refl
 on_or_done (Some (Served keep)) refused other = absurd (other tt)
 on_or_done (Some (Absent status)) refused other = absurd (other tt)
@@ -76,7 +76,7 @@ on_or_done (Some (Moved place)) refused other = absurd (other tt)
 on_or_done (Some TooBig) refused other = cc
 on_or_done (Some (Garbled at)) refused other = cc
 
-pub more_is_none : (e : Option Ending) → state_of e ≡ states.More → e ≡ None
+pub more_is_none : (e : Option Response) → state_of e ≡ states.More → e ≡ None
 more_is_none None more = refl
 more_is_none (Some (Served keep)) more = cc
 more_is_none (Some (Absent status)) more = cc
@@ -97,7 +97,7 @@ pub finishes : (w v : WireState) → w.ending ≡ None → Closes w v → (max f
 finishes w v none closes max from given bytes ended h =
     closes max from given bytes (subst (λ e. Follows w max from given bytes e) (going_on w none max from given bytes ended h) h)
 
-finished_at : (w : WireState) (e : Option Ending) → w.ending ≡ e → e ≢ None → (max from : ℕ) (given bytes : List ℕ) (ended : Bool) → Follows w max from given bytes ended → Follows w max from given bytes true
+finished_at : (w : WireState) (e : Option Response) → w.ending ≡ e → e ≢ None → (max from : ℕ) (given bytes : List ℕ) (ended : Bool) → Follows w max from given bytes ended → Follows w max from given bytes true
 finished_at w None is some max from given bytes ended h = absurd (some refl)
 finished_at w (Some how) is some max from given bytes ended h = ended_stays w how is max from given bytes ended h
 
@@ -106,7 +106,7 @@ finished w some max from given bytes ended h = finished_at w w.ending refl some 
 
 -- ---- replies
 
-replies_to : (uri : Uri) (given body held : List ℕ) (e : Option Ending) (reply : Reply) → e ≢ None → reply ≡ reply_of uri e held → (e ≢ Some TooBig → body ≡ given ++ held) → IsReply uri given e body reply
+replies_to : (uri : Uri) (given body held : List ℕ) (e : Option Response) (reply : Reply) → e ≢ None → reply ≡ reply_of uri e held → (e ≢ Some TooBig → body ≡ given ++ held) → IsReply uri given e body reply
 replies_to uri given body held None reply some is whole = absurd (some refl)
 replies_to uri given body held (Some (Served keep)) reply some is whole = (held, is, sym (whole (λ e. cc)))
 replies_to uri given body held (Some (Absent status)) reply some is whole = is
@@ -123,13 +123,13 @@ replies_so uri w reply over (inr is) max from given bytes ended h =
 
 -- ---- a wire that goes on, and one that doesn't
 
-pub going_none : (e : Option Ending) → is_going e ≡ true → e ≡ None
+pub going_none : (e : Option Response) → is_going e ≡ true → e ≡ None
 going_none None test = refl
 going_none (Some how) test = cc
 
-pub over_some : (e : Option Ending) → is_going e ≡ false → e ≢ None
+pub over_some : (e : Option Response) → is_going e ≡ false → e ≢ None
 over_some None test none = cc
 over_some (Some how) test none = cc
 
-pub over_state : (e : Option Ending) → is_going e ≡ false → state_of e ≢ states.More
+pub over_state : (e : Option Response) → is_going e ≡ false → state_of e ≢ states.More
 over_state e test more = over_some e test (more_is_none e more)

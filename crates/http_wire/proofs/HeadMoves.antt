@@ -4,7 +4,7 @@ use Rattle.std.specs.Prelude.{◌==◌, if◌then◌else◌}
 use Rattle.std.proofs.lemmas.Bool.Decides.{nat_tests}
 use Rattle.httparse.specs.Grammar.{ResponseHead, status_code}
 use Rattle.httparse.specs.Spans.{name_and_value}
-use Rattle.http_wire.specs.declared.ending.Ending.TheVariants.{Served, Absent, Moved, TooBig, Garbled}
+use Rattle.http_wire.specs.declared.ending.Response.TheVariants.{Served, Absent, Moved, TooBig, Garbled}
 use Rattle.http_wire.specs.declared.meaning.Framing.{Framing}
 use Rattle.http_wire.specs.declared.meaning.Framing.TheVariants as framings
 use Rattle.http_wire.specs.declared.meaning.Meaning.{Meaning}

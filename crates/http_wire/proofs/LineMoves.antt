@@ -2,7 +2,7 @@
 use Rattle.std.proofs.Common.{◌≡◌, ℕ, zero, suc, ◌+◌, ◌<◌, ◌≤◌, inl, inr, ⊎_elim, Bool, true, false, List, [], ◌∷◌, ◌++◌, length, arith, sym, ap, ◌∙◌, refl, subst, append_assoc, append-nil, Some, None, nat_lt}
 use Rattle.std.specs.Prelude.{◌==◌, if◌then◌else◌}
 use Rattle.std.proofs.lemmas.Bool.Decides.{nat_tests}
-use Rattle.http_wire.specs.declared.ending.Ending.TheVariants.{Served, Garbled}
+use Rattle.http_wire.specs.declared.ending.Response.TheVariants.{Served, Garbled}
 use Rattle.http_wire.specs.declared.phase.Phase.TheVariants as phases
 use Rattle.http_wire.specs.declared.reading.SizeRead.{SizeRead}
 use Rattle.http_wire.specs.declared.reading.SizeRead.TheVariants as sizes

@@ -1,7 +1,7 @@
 -- How a wire that goes on takes bytes: what stays, and where the reading stops.
 use Rattle.std.proofs.Common.{◌≡◌, ℕ, ◌+◌, ◌-◌, inl, inr, Bool, true, false, List, [], ◌++◌, length, arith, sym, ap, ◌∙◌, refl, subst, length-append, Some, None}
-use Rattle.http_wire.specs.declared.ending.Ending.{Ending}
-use Rattle.http_wire.specs.declared.ending.Ending.TheVariants.{Garbled}
+use Rattle.http_wire.specs.declared.ending.Response.{Response}
+use Rattle.http_wire.specs.declared.ending.Response.TheVariants.{Garbled}
 use Rattle.http_wire.specs.declared.phase.Phase.{Phase}
 use Rattle.http_wire.specs.declared.phase.Phase.TheVariants as phases
 use Rattle.http_wire.specs.Forms.{Form, Unfinished, Bad, head_form, size_form, trailer_form}
@@ -39,7 +39,7 @@ goes v max from given bytes m f none g = record {
   is_at = (let at : IsAt None v given bytes false = (refl, g) in subst (λ e. IsAt e v given bytes false) (sym none) at);
 }
 
-pub stops_at : (v : WireState) (max from : ℕ) (given bytes : List ℕ) (ended : Bool) (how : Ending) → v.max ≡ max → v.from ≡ from → v.ending ≡ Some how → HasEnded how v given bytes ended → Follows v max from given bytes ended
+pub stops_at : (v : WireState) (max from : ℕ) (given bytes : List ℕ) (ended : Bool) (how : Response) → v.max ≡ max → v.from ≡ from → v.ending ≡ Some how → HasEnded how v given bytes ended → Follows v max from given bytes ended
 stops_at v max from given bytes ended how m f is at = record {
   max_is = m;
   from_is = f;

@@ -6,7 +6,7 @@ use Rattle.std.proofs.lemmas.Bool.Decides.{nat_tests}
 use Rattle.std.proofs.lemmas.List.Elements.{All-head, All-tail}
 use Rattle.httparse.specs.Ascii.{crlf_bytes}
 use Rattle.httparse.specs.Grammar.{ResponseHead, print_response, status_code, print_chunk_line, chunk_size, print_section}
-use Rattle.http_wire.specs.declared.ending.Ending.TheVariants.{Served, TooBig}
+use Rattle.http_wire.specs.declared.ending.Response.TheVariants.{Served, TooBig}
 use Rattle.http_wire.specs.declared.meaning.Framing.{Framing}
 use Rattle.http_wire.specs.declared.meaning.Framing.TheVariants as framings
 use Rattle.http_wire.specs.declared.meaning.Meaning.{Meaning}

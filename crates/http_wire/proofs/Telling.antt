@@ -1,12 +1,12 @@
 -- What a wire tells, and what stays when its body is taken.
 use Rattle.std.proofs.Common.{◌≡◌, ◌≢◌, ℕ, ◌+◌, ◌<◌, ◌≤◌, inl, inr, Bool, false, List, [], ◌++◌, length, arith, sym, ap, ◌∙◌, refl, subst, append-nil, length-append, Option, Some, None}
-use Rattle.http_wire.specs.declared.ending.Ending.{Ending}
-use Rattle.http_wire.specs.declared.ending.Ending.TheVariants.{Served, Absent, Moved, TooBig, Garbled}
+use Rattle.http_wire.specs.declared.ending.Response.{Response}
+use Rattle.http_wire.specs.declared.ending.Response.TheVariants.{Served, Absent, Moved, TooBig, Garbled}
 use Rattle.http_wire.specs.declared.phase.Phase.{Phase}
 use Rattle.http_wire.specs.declared.phase.Phase.TheVariants as phases
 use Rattle.http_wire.specs.Stream.{Stage, Counted, SizeLine, Closing, Trailing, Heard, hear, Stops, IsHeard}
 use Rattle.http_wire.specs.State.{WireState, state_of}
-use Rattle.http_wire.specs.Wire.{InReach, Stands, Holds, IsAt, Follows, IsDone, Tells}
+use Rattle.http_wire.specs.Wire.{InReach, Stands, IsBodyOf, IsAt, Follows, IsDone, IsStateOf}
 
 -- ---- a wire that goes on waits for more
 
@@ -50,21 +50,21 @@ waits w given bytes phases.Trailing stage text s =
     let x = hear None w.start (given ++ w.body) [] in
     subst (λ z. Stops w.max w.from false (length bytes) z text x) (sym s.0) (inl (inl (s.2, refl)))
 
-held_body : (how : Ending) (heard : Heard) (bytes : List ℕ) → Holds how heard bytes → Some how ≢ Some TooBig → heard.body ≡ bytes
+held_body : (how : Response) (heard : Heard) (bytes : List ℕ) → IsBodyOf how heard bytes → Some how ≢ Some TooBig → heard.body ≡ bytes
 held_body (Served keep) heard bytes h other = h.0
 held_body (Absent status) heard bytes h other = h.0
 held_body (Moved place) heard bytes h other = h.0
 held_body TooBig heard bytes h other = absurd (other refl)
 held_body (Garbled at) heard bytes h other = h
 
-no_rest : (how : Ending) (heard : Heard) (bytes : List ℕ) → Holds how heard bytes → IsDone (state_of (Some how)) → heard.rest ≡ []
+no_rest : (how : Response) (heard : Heard) (bytes : List ℕ) → IsBodyOf how heard bytes → IsDone (state_of (Some how)) → heard.rest ≡ []
 no_rest (Served keep) heard bytes h done = h.1
 no_rest (Absent status) heard bytes h done = h.1
 no_rest (Moved place) heard bytes h done = h.1
 no_rest TooBig heard bytes h done = absurd done
 no_rest (Garbled at) heard bytes h done = absurd done
 
-tells_at : (w : WireState) (max from : ℕ) (given bytes : List ℕ) (ended : Bool) (e : Option Ending) → w.max ≡ max → w.from ≡ from → w.ending ≡ e → IsAt e w given bytes ended → Tells w max from given bytes ended
+tells_at : (w : WireState) (max from : ℕ) (given bytes : List ℕ) (ended : Bool) (e : Option Response) → w.max ≡ max → w.from ≡ from → w.ending ≡ e → IsAt e w given bytes ended → IsStateOf w max from given bytes ended
 tells_at w max from given bytes ended None m f is at =
     let g = at.1 in
     let x = hear None w.start (given ++ w.body) [] in
@@ -86,7 +86,7 @@ tells_at w max from given bytes ended (Some how) m f is at = record {
   rest = λ done. no_rest how at.heard (given ++ w.body) at.holds (subst (λ e. IsDone (state_of e)) is done);
 }
 
-pub tells : (w : WireState) (max from : ℕ) (given bytes : List ℕ) (ended : Bool) → Follows w max from given bytes ended → Tells w max from given bytes ended
+pub tells : (w : WireState) (max from : ℕ) (given bytes : List ℕ) (ended : Bool) → Follows w max from given bytes ended → IsStateOf w max from given bytes ended
 tells w max from given bytes ended h = tells_at w max from given bytes ended w.ending h.max_is h.from_is refl h.is_at
 
 -- ---- the body is taken
@@ -107,7 +107,7 @@ stands_kept w given phases.ChunkCr stage text s = (s.0 ∙ ap (Closing w.start w
 stands_kept w given phases.ChunkLf stage text s = (s.0 ∙ ap (Closing w.start w.keep) (sym (append-nil (given ++ w.body))), s.1, reach_kept w given s.2)
 stands_kept w given phases.Trailing stage text s = (s.0 ∙ ap (Trailing w.start w.keep) (sym (append-nil (given ++ w.body))), s.1, s.2)
 
-kept_at : (w : WireState) (given bytes : List ℕ) (ended : Bool) (e : Option Ending) → IsAt e w given bytes ended → IsAt e (emptied w) (given ++ w.body) bytes ended
+kept_at : (w : WireState) (given bytes : List ℕ) (ended : Bool) (e : Option Response) → IsAt e w given bytes ended → IsAt e (emptied w) (given ++ w.body) bytes ended
 kept_at w given bytes ended None at = (
   at.0,
   record {
@@ -125,7 +125,7 @@ kept_at w given bytes ended (Some how) at = record {
   is = at.is;
   ending = at.ending;
   start = at.start;
-  holds = subst (λ z. Holds how at.heard z) (sym (append-nil (given ++ w.body))) at.holds;
+  holds = subst (λ z. IsBodyOf how at.heard z) (sym (append-nil (given ++ w.body))) at.holds;
 }
 
 pub taken_out : (w : WireState) (max from : ℕ) (given bytes : List ℕ) (ended : Bool) → Follows w max from given bytes ended → Follows (emptied w) max from (given ++ w.body) bytes ended

@@ -1,11 +1,11 @@
 -- What holds of the bodies that are heard.
 use Rattle.std.specs.Prelude.{◌≡◌, ◌⊎◌, ℕ, ◌+◌, ◌≤◌, Bool, true, false, List, [], ◌++◌, length, Option, Some, None}
-use Rattle.http_wire.specs.declared.ending.Ending.{Ending}
-use Rattle.http_wire.specs.declared.ending.Ending.TheVariants.{Served, Garbled}
+use Rattle.http_wire.specs.declared.ending.Response.{Response}
+use Rattle.http_wire.specs.declared.ending.Response.TheVariants.{Served, Garbled}
 use Rattle.http_wire.specs.Stream.{Heard}
 
 -- a body may be heard there
-abbrev pub bears_body : Option Ending → Bool
+abbrev pub bears_body : Option Response → Bool
 bears_body None = true
 bears_body (Some (Served keep)) = true
 bears_body (Some (Garbled at)) = true

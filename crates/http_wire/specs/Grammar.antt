@@ -10,7 +10,7 @@ use Rattle.http_wire.specs.declared.meaning.Meaning.{Meaning}
 use Rattle.http_wire.specs.declared.meaning.Meaning.TheVariants.{Interim, Body}
 use Rattle.http_wire.specs.Meaning.{meaning}
 use Rattle.http_wire.specs.Forms.{head_form, size_form, Trailers, trailer_form}
-use Rattle.http_wire.specs.declared.ending.Ending.TheVariants.{Served}
+use Rattle.http_wire.specs.declared.ending.Response.TheVariants.{Served}
 use Rattle.http_wire.specs.Stream.{start_of, Heard, hear}
 
 -- what a head says to the request

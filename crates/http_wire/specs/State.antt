@@ -1,7 +1,7 @@
 -- What a wire keeps, as contracts see it.
 use Rattle.std.specs.Prelude.{ℕ, Bool, false, List, Option, Some, None}
-use Rattle.http_wire.specs.declared.ending.Ending.{Ending}
-use Rattle.http_wire.specs.declared.ending.Ending.TheVariants.{Served, Absent, Moved, TooBig, Garbled}
+use Rattle.http_wire.specs.declared.ending.Response.{Response}
+use Rattle.http_wire.specs.declared.ending.Response.TheVariants.{Served, Absent, Moved, TooBig, Garbled}
 use Rattle.http_wire.specs.declared.ending.State.{State}
 use Rattle.http_wire.specs.declared.ending.State.TheVariants as states
 use Rattle.http_wire.specs.declared.phase.Phase.{Phase}
@@ -19,13 +19,13 @@ pub record WireState : Type 0 where
   pub keep : Bool
   pub reached : ℕ
   pub phase : Phase
-  pub ending : Option Ending
+  pub ending : Option Response
   pub part : List ℕ
   pub blank : ℕ
   pub body : List ℕ
 
 -- a connection isn't kept behind what isn't a whole body
-abbrev pub state_of : Option Ending → State
+abbrev pub state_of : Option Response → State
 state_of None = states.More
 state_of (Some (Served keep)) = states.Done keep
 state_of (Some (Absent status)) = states.Done false

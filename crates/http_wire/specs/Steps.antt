@@ -3,8 +3,8 @@ use Rattle.std.specs.Prelude.{◌≡◌, ◌⊎◌, ℕ, ◌+◌, ◌-◌, ◌==
 use Rattle.httparse.specs.Grammar.{ResponseHead, status_code, ChunkLine, chunk_size}
 use Rattle.httparse.specs.declared.spans.HeaderSpan.{HeaderSpan}
 use Rattle.httparse.specs.Spans.{name_and_value, IsResponseAt, IsResponseWithin}
-use Rattle.http_wire.specs.declared.ending.Ending.{Ending}
-use Rattle.http_wire.specs.declared.ending.Ending.TheVariants.{Served, Absent, Moved, TooBig, Garbled}
+use Rattle.http_wire.specs.declared.ending.Response.{Response}
+use Rattle.http_wire.specs.declared.ending.Response.TheVariants.{Served, Absent, Moved, TooBig, Garbled}
 use Rattle.http_wire.specs.declared.meaning.Framing.{Framing}
 use Rattle.http_wire.specs.declared.meaning.Framing.TheVariants as framings
 use Rattle.http_wire.specs.declared.meaning.Meaning.{Meaning}
@@ -62,7 +62,7 @@ AreTrailersRead text trails.Whole = (t : Trailers) × (rest : List ℕ) × Whole
 
 -- ---- steps
 
-abbrev pub stopped : Ending → WireState → WireState
+abbrev pub stopped : Response → WireState → WireState
 stopped how w = record w { ending = Some how }
 
 abbrev pub garbled : WireState → WireState

@@ -7,8 +7,8 @@ use Rattle.http_wire.specs.declared.meaning.Framing.{Framing}
 use Rattle.http_wire.specs.declared.meaning.Framing.TheVariants as framings
 use Rattle.http_wire.specs.declared.meaning.Meaning.{Meaning}
 use Rattle.http_wire.specs.declared.meaning.Meaning.TheVariants as meanings
-use Rattle.http_wire.specs.declared.ending.Ending.{Ending}
-use Rattle.http_wire.specs.declared.ending.Ending.TheVariants.{Served, Absent, Moved, TooBig, Garbled}
+use Rattle.http_wire.specs.declared.ending.Response.{Response}
+use Rattle.http_wire.specs.declared.ending.Response.TheVariants.{Served, Absent, Moved, TooBig, Garbled}
 use Rattle.http_wire.specs.Meaning.{meaning}
 use Rattle.http_wire.specs.Forms.{Form, Whole, Unfinished, Bad, head_form, size_form, Trailers, trailer_form}
 
@@ -26,12 +26,12 @@ pub data Stage : Type 0 where
 -- what is heard: how the reading ends, if it does; where in the file the body begins; the body so far; and the bytes
 -- behind what was read
 pub record Heard : Type 0 where
-  pub ending : Option Ending
+  pub ending : Option Response
   pub start : ℕ
   pub body : List ℕ
   pub rest : List ℕ
 
-abbrev pub hear : Option Ending → ℕ → List ℕ → List ℕ → Heard
+abbrev pub hear : Option Response → ℕ → List ℕ → List ℕ → Heard
 hear how from bytes behind = record { ending = how; start = from; body = bytes; rest = behind }
 
 -- what is heard where more bytes follow
@@ -45,7 +45,7 @@ capped n = min n (2 ^ 64 - 1)
 -- what a head leads to
 pub data Next : Type 0 where
   Goes : Stage → Next
-  Ends : Ending → Next
+  Ends : Response → Next
   Breaks : Next
 
 -- the bytes that a body is known to have
@@ -91,17 +91,17 @@ Step max from (Closing start keep body) text next rest = (text ≡ 13 ∷ 10 ∷
 Step max from (Trailing start keep body) text next rest = ⊥
 
 -- a peer that ends in the middle of a part is garbled at the count of its bytes
-abbrev pub cut : Bool → ℕ → Option Ending
+abbrev pub cut : Bool → ℕ → Option Response
 cut true count = Some (Garbled (capped count))
 cut false count = None
 
 -- a body without a known size ends with the connection
-abbrev pub closed : Bool → Option Ending
+abbrev pub closed : Bool → Option Response
 closed true = Some (Served false)
 closed false = None
 
 -- the place of the first byte of a text that ends so many bytes
-abbrev pub garbled_at : ℕ → List ℕ → Option Ending
+abbrev pub garbled_at : ℕ → List ℕ → Option Response
 garbled_at count text = Some (Garbled (capped (count - length text)))
 
 -- the reading stands in an unfinished text of lines, or before a wrong one

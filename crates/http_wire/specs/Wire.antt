@@ -5,8 +5,8 @@ use Rattle.acq_base.specs.declared.fetch.Reply.{Reply}
 use Rattle.acq_base.specs.declared.fetch.Reply.TheVariants as replies
 use Rattle.acq_base.specs.declared.uri.Uri.{Uri}
 use Rattle.uri_names.specs.Redirect.{resolve_of}
-use Rattle.http_wire.specs.declared.ending.Ending.{Ending}
-use Rattle.http_wire.specs.declared.ending.Ending.TheVariants.{Served, Absent, Moved, TooBig, Garbled}
+use Rattle.http_wire.specs.declared.ending.Response.{Response}
+use Rattle.http_wire.specs.declared.ending.Response.TheVariants.{Served, Absent, Moved, TooBig, Garbled}
 use Rattle.http_wire.specs.declared.ending.State.{State}
 use Rattle.http_wire.specs.declared.ending.State.TheVariants as states
 use Rattle.http_wire.specs.declared.phase.Phase.{Phase}
@@ -55,22 +55,22 @@ pub record GoesOn (w : WireState) (given bytes : List ℕ) : Type 0 where
 
 -- What was given out and what wasn't are the body, but where it was too big; and no byte was taken from behind a whole
 -- response.
-abbrev pub Holds : Ending → Heard → List ℕ → Type 0
-Holds (Served keep) heard bytes = (heard.body ≡ bytes) × (heard.rest ≡ [])
-Holds (Absent status) heard bytes = (heard.body ≡ bytes) × (heard.rest ≡ [])
-Holds (Moved place) heard bytes = (heard.body ≡ bytes) × (heard.rest ≡ [])
-Holds TooBig heard bytes = Unit {0}
-Holds (Garbled at) heard bytes = heard.body ≡ bytes
+abbrev pub IsBodyOf : Response → Heard → List ℕ → Type 0
+IsBodyOf (Served keep) heard bytes = (heard.body ≡ bytes) × (heard.rest ≡ [])
+IsBodyOf (Absent status) heard bytes = (heard.body ≡ bytes) × (heard.rest ≡ [])
+IsBodyOf (Moved place) heard bytes = (heard.body ≡ bytes) × (heard.rest ≡ [])
+IsBodyOf TooBig heard bytes = Unit {0}
+IsBodyOf (Garbled at) heard bytes = heard.body ≡ bytes
 
 -- the reading has ended so
-pub record HasEnded (how : Ending) (w : WireState) (given bytes : List ℕ) (ended : Bool) : Type 0 where
+pub record HasEnded (how : Response) (w : WireState) (given bytes : List ℕ) (ended : Bool) : Type 0 where
   pub heard : Heard
   pub is : IsHeard w.max w.from bytes ended heard
   pub ending : heard.ending ≡ Some how
   pub start : heard.start ≡ w.start
-  pub holds : Holds how heard (given ++ w.body)
+  pub holds : IsBodyOf how heard (given ++ w.body)
 
-abbrev pub IsAt : Option Ending → WireState → List ℕ → List ℕ → Bool → Type 0
+abbrev pub IsAt : Option Response → WireState → List ℕ → List ℕ → Bool → Type 0
 IsAt None w given bytes ended = (ended ≡ false) × GoesOn w given bytes
 IsAt (Some how) w given bytes ended = HasEnded how w given bytes ended
 
@@ -85,12 +85,12 @@ abbrev pub wire_state : WireState → State
 wire_state w = state_of w.ending
 
 -- the reading hasn't ended
-abbrev pub is_going : Option Ending → Bool
+abbrev pub is_going : Option Response → Bool
 is_going None = true
 is_going (Some how) = false
 
 -- the reading ended before a whole response
-abbrev pub is_refused : Option Ending → Bool
+abbrev pub is_refused : Option Response → Bool
 is_refused (Some TooBig) = true
 is_refused (Some (Garbled at)) = true
 is_refused _ = false
@@ -124,7 +124,7 @@ IsDone _ = ⊥
 
 -- What a wire tells of these bytes: the one thing that is heard of them, with the body so far, unless that was too big; and
 -- that no byte was taken from behind a whole response.
-pub record Tells (w : WireState) (max from : ℕ) (given bytes : List ℕ) (ended : Bool) : Type 0 where
+pub record IsStateOf (w : WireState) (max from : ℕ) (given bytes : List ℕ) (ended : Bool) : Type 0 where
   pub heard : Heard
   pub is : IsHeard max from bytes ended heard
   pub ending : heard.ending ≡ w.ending
@@ -133,7 +133,7 @@ pub record Tells (w : WireState) (max from : ℕ) (given bytes : List ℕ) (ende
   pub rest : IsDone (wire_state w) → heard.rest ≡ []
 
 -- the reply for an ending, with what is held of the body
-abbrev pub reply_of : Uri → Option Ending → List ℕ → Reply
+abbrev pub reply_of : Uri → Option Response → List ℕ → Reply
 reply_of uri (Some (Served keep)) bytes = replies.Served bytes
 reply_of uri (Some (Absent status)) bytes = replies.Absent status
 reply_of uri (Some (Moved place)) bytes = replies.Moved (resolve_of uri place)
@@ -142,7 +142,7 @@ reply_of uri (Some (Garbled at)) bytes = replies.Garbled at
 reply_of uri None bytes = replies.NoMemory
 
 -- The reply to the asker; a body's part that was given out before isn't in it.
-abbrev pub IsReply : Uri → List ℕ → Option Ending → List ℕ → Reply → Type 0
+abbrev pub IsReply : Uri → List ℕ → Option Response → List ℕ → Reply → Type 0
 IsReply uri given (Some (Served keep)) body reply = (held : List ℕ) × (reply ≡ replies.Served held) × (given ++ held ≡ body)
 IsReply uri given (Some (Absent status)) body reply = reply ≡ replies.Absent status
 IsReply uri given (Some (Moved place)) body reply = reply ≡ replies.Moved (resolve_of uri place)

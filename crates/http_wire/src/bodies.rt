@@ -4,7 +4,7 @@ ghost use Rattle.std.specs.Prelude.{◌≡◌, ◌<◌, ◌≤◌, length, take,
 ghost use Rattle.http_wire.specs.Steps.{Moves, stopped, garbled, marked, sized_taken, free_taken, chunk_taken, return_taken, feed_taken};
 
 use crate::wire::Wire;
-use crate::{Ending, Phase};
+use crate::{Phase, Response};
 use acq_base::NoMemory;
 
 /// The front of a piece, of at most so many bytes.
@@ -23,7 +23,7 @@ pub fn up_to(most: u64, piece: &[u8]) -> &[u8]
 
 impl Wire {
     /// Ends the reading.
-    pub(crate) fn stop(&mut self, how: Ending)
+    pub(crate) fn stop(&mut self, how: Response)
         ensures { self.new ≡ stopped how self.old }
     {
         self.ending = Some(how);
@@ -33,7 +33,7 @@ impl Wire {
     pub(crate) fn garble(&mut self)
         ensures { self.new ≡ garbled self.old }
     {
-        self.ending = Some(Ending::Garbled(self.place));
+        self.ending = Some(Response::Garbled(self.place));
     }
 
     /// Begins another part behind the last byte.
@@ -70,7 +70,7 @@ impl Wire {
         self.count = self.count.saturating_add(front.len() as u64);
         self.phase = Phase::Counted(left - front.len() as u64);
         if left == front.len() as u64 {
-            self.stop(Ending::Served(self.keep));
+            self.stop(Response::Served(self.keep));
         }
         Ok(())
     }
@@ -91,7 +91,7 @@ impl Wire {
         ensures { OnOk result (self.new ≡ free_taken front.now self.old) }
     {
         if front.len() as u64 > self.max.saturating_sub(self.reached) {
-            self.stop(Ending::TooBig);
+            self.stop(Response::TooBig);
             return Ok(());
         }
         self.body.extend_from_slice(front)?;
@@ -121,7 +121,7 @@ impl Wire {
         ensures { OnOk result (self.new ≡ chunk_taken left front.now self.old) }
     {
         if front.len() as u64 > self.max.saturating_sub(self.reached) {
-            self.stop(Ending::TooBig);
+            self.stop(Response::TooBig);
             return Ok(());
         }
         self.body.extend_from_slice(front)?;

@@ -10,7 +10,7 @@ ghost use Rattle.http_wire.specs.Wire.{wire_state};
 
 use crate::reading::{HeadSpans, SizeRead, TrailersRead, read_size, read_trailers, scan_head};
 use crate::wire::Wire;
-use crate::{Ending, Phase, State};
+use crate::{Phase, Response, State};
 
 impl Wire {
     /// The peer has closed.
@@ -35,7 +35,7 @@ impl Wire {
     fn cut(&mut self)
         ensures { self.new ≡ cut_off self.old }
     {
-        self.ending = Some(Ending::Garbled(self.count));
+        self.ending = Some(Response::Garbled(self.count));
     }
 
     fn close_in_head(&mut self, passed: u8)
@@ -120,7 +120,7 @@ impl Wire {
         ensures closes { Closes self.old self.new }
         ensures over { wire_state self.new ≢ State.More }
     {
-        self.stop(Ending::Served(false));
+        self.stop(Response::Served(false));
     }
 
     fn close_in_body(&mut self, left: u64)

@@ -4,7 +4,7 @@ use acq_base::Bytes;
 
 /// What a response came to.
 #[derive(Debug, PartialEq, Drop)]
-pub enum Ending {
+pub enum Response {
     /// The body is whole, and the connection is kept behind it or not.
     Served(bool),
     /// The file isn't there, with the HTTP status.

@@ -1,12 +1,12 @@
 //! What holds of every stream. Nothing here does anything.
 
 ghost use Rattle.std.specs.Prelude.{◌≡◌, ◌≢◌, ◌≤◌, ◌++◌, ℕ, Bool, true, false, List, None, Some};
-ghost use Rattle.http_wire.specs.declared.ending.Ending.TheVariants.{TooBig};
+ghost use Rattle.http_wire.specs.declared.ending.Response.TheVariants.{TooBig};
 ghost use Rattle.http_wire.specs.BodyLaws.{Fits, Grows};
 ghost use Rattle.http_wire.specs.Grammar.{IsResponse, served};
 ghost use Rattle.http_wire.specs.State.{WireState};
 ghost use Rattle.http_wire.specs.Stream.{Heard, followed, IsHeard};
-ghost use Rattle.http_wire.specs.Wire.{Follows, Tells};
+ghost use Rattle.http_wire.specs.Wire.{Follows, IsStateOf};
 
 /// One stream has one reading: two readings of the same bytes hear the same, places of refusals included.
 pub fn one_reading()
@@ -45,5 +45,5 @@ pub fn limits_rise()
 /// What a wire tells is what is heard of the bytes that it has taken, and what was given out and what it holds are the body.
 #[tactic(auto, using(crate::proofs::Telling::tells))]
 pub fn wires_tell()
-    ensures { (w : WireState) (max from : ℕ) (given bytes : List ℕ) (ended : Bool) → Follows w max from given bytes ended → Tells w max from given bytes ended }
+    ensures { (w : WireState) (max from : ℕ) (given bytes : List ℕ) (ended : Bool) → Follows w max from given bytes ended → IsStateOf w max from given bytes ended }
 {}

@@ -2,9 +2,21 @@
 //!
 //! Nothing here opens a connection. A `Wire` is fed what the peer sends, in pieces of any size, and answers as the
 //! definition of `specs/` does for all bytes together. What takes memory is handed an allocator or keeps one.
+//!
+//! `request` writes the request for a file, from a byte on. A `Wire` is fed a peer's stream in pieces of any size
+//! and tells what is heard of it: a body, a redirect, a status, too many bytes, or the place at which the peer
+//! broke the protocol. What is heard is defined once, on all bytes together: there is at most one reading of a
+//! stream (`one_reading`), which stays when more bytes follow (`endings_stay`), each whole response of known
+//! length, within the limit, is heard as its body (`responses_are_heard`), and a wire's state, body and reply are
+//! that reading of the bytes fed, however they were cut (`follows`, `replies`, `wires_tell`). What `take` gave,
+//! followed by the bytes of `reply`, is the body, which begins at the byte that was asked for, fits in the limit,
+//! and with more bytes only grows (`bodies_fit`, `bodies_grow`). Only tested: that the definition is what RFC 9112
+//! and this profile say of 91 streams cut at every place. By the form of the code, and no clause: a good head that
+//! comes whole in a piece is read twice, and any other one with each of its lines behind the empty ones at its
+//! front, of which there are at most 130, and once more by itself or at the peer's end.
 #![tactic(auto)]
 
-pub use ending::{Ending, State};
+pub use ending::{Response, State};
 pub use laws::{
     bodies_fit, bodies_grow, endings_stay, limits_rise, one_reading, responses_are_heard,
     wires_tell,

@@ -14,7 +14,7 @@ use crate::reading::{
     read_trailers,
 };
 use crate::wire::Wire;
-use crate::{Ending, Framing, Meaning, Phase};
+use crate::{Framing, Meaning, Phase, Response};
 use acq_base::NoMemory;
 use std::alloc::Global;
 
@@ -221,8 +221,8 @@ impl Wire {
     {
         match says {
             Meaning::Interim | Meaning::Wrong => self.garble(),
-            Meaning::Absent(status) => self.stop(Ending::Absent(status)),
-            Meaning::Moved(place) => self.stop(Ending::Moved(place)),
+            Meaning::Absent(status) => self.stop(Response::Absent(status)),
+            Meaning::Moved(place) => self.stop(Response::Moved(place)),
             Meaning::Body(how, keep) => self.begin_body(how, keep),
         }
     }
@@ -231,7 +231,7 @@ impl Wire {
         ensures { self.new ≡ body_begun how keep self.old }
     {
         if self.is_beyond(announced(how)) {
-            self.stop(Ending::TooBig);
+            self.stop(Response::TooBig);
             return;
         }
         self.reached = self.start;
@@ -259,7 +259,7 @@ impl Wire {
             Framing::Counted(size) => {
                 self.mark(Phase::Counted(size));
                 if size == 0 {
-                    self.stop(Ending::Served(keep));
+                    self.stop(Response::Served(keep));
                 }
             }
         }
@@ -298,7 +298,7 @@ impl Wire {
         match read {
             TrailersRead::More => {}
             TrailersRead::Bad => self.garble(),
-            TrailersRead::Whole => self.stop(Ending::Served(self.keep)),
+            TrailersRead::Whole => self.stop(Response::Served(self.keep)),
         }
     }
 }

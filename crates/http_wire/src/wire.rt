@@ -7,7 +7,7 @@ ghost use Rattle.uri_names.specs.Redirect.{resolve_of};
 ghost use Rattle.http_wire.specs.Steps.{Moves};
 ghost use Rattle.http_wire.specs.Wire.{Follows, IsDone, wire_state, is_going, is_refused, held, starts_at, Takes, Finishes, Gives, Replies, reply_of};
 
-use crate::{Ending, Phase, State};
+use crate::{Phase, Response, State};
 use acq_base::{Bytes, NoMemory, Reply, Uri};
 use std::alloc::Global;
 use std::marker::Model;
@@ -32,7 +32,7 @@ pub struct Wire {
     /// Where in the file the body has come to.
     pub(crate) reached: u64,
     pub(crate) phase: Phase,
-    pub(crate) ending: Option<Ending>,
+    pub(crate) ending: Option<Response>,
     /// What came of a head, a size line or trailers.
     pub(crate) part: Vec<u8>,
     /// How many of these bytes are empty lines before a head.
@@ -127,7 +127,10 @@ impl Wire {
     fn is_refused(&self) -> bool
         ensures { result ≡ is_refused self.now.ending }
     {
-        matches!(self.ending, Some(Ending::TooBig) | Some(Ending::Garbled(_)))
+        matches!(
+            self.ending,
+            Some(Response::TooBig) | Some(Response::Garbled(_))
+        )
     }
 
     /// Takes bytes up to the end of the reading.
@@ -184,10 +187,10 @@ impl Wire {
     {
         match &self.ending {
             None => State::More,
-            Some(Ending::Served(keep)) => State::Done { keep: *keep },
-            Some(Ending::Absent(_)) | Some(Ending::Moved(_)) => State::Done { keep: false },
-            Some(Ending::TooBig) => State::TooBig,
-            Some(Ending::Garbled(at)) => State::Garbled(*at),
+            Some(Response::Served(keep)) => State::Done { keep: *keep },
+            Some(Response::Absent(_)) | Some(Response::Moved(_)) => State::Done { keep: false },
+            Some(Response::TooBig) => State::TooBig,
+            Some(Response::Garbled(at)) => State::Garbled(*at),
         }
     }
 
@@ -222,17 +225,17 @@ impl Wire {
 }
 
 /// The reply for an ending, with what is left of the body.
-fn answer(alloc: Global, uri: &Uri, ending: Option<Ending>, body: Vec<u8>) -> Reply
+fn answer(alloc: Global, uri: &Uri, ending: Option<Response>, body: Vec<u8>) -> Reply
     requires { IsSound uri.now }
     ensures sound { IsSoundReply result }
     ensures reply { (result ≡ Reply.NoMemory) ⊎ (result ≡ reply_of uri.now ending body.items) }
 {
     match ending {
-        Some(Ending::Served(_keep)) => Reply::Served(Bytes::from(body)),
-        Some(Ending::Absent(status)) => Reply::Absent(status),
-        Some(Ending::Moved(place)) => moved(alloc, uri, place.as_slice()),
-        Some(Ending::TooBig) => Reply::TooBig,
-        Some(Ending::Garbled(at)) => Reply::Garbled(at),
+        Some(Response::Served(_keep)) => Reply::Served(Bytes::from(body)),
+        Some(Response::Absent(status)) => Reply::Absent(status),
+        Some(Response::Moved(place)) => moved(alloc, uri, place.as_slice()),
+        Some(Response::TooBig) => Reply::TooBig,
+        Some(Response::Garbled(at)) => Reply::Garbled(at),
         None => Reply::NoMemory,
     }
 }

@@ -7,9 +7,9 @@ use Rattle.acq_base.specs.Uri.{IsSound, list_name}
 use Rattle.acq_base.specs.declared.uri.Uri.{Uri}
 use Rattle.update_model.specs.Laws.{AsksAreSound, MirrorsGiveRoutes}
 use Rattle.update_model.specs.Mirrored.{over, trails_over}
-use Rattle.update_model.specs.Points.{Point, Over, At, start, step, lead}
+use Rattle.update_model.specs.Points.{Point, Over, At, start, point_after, lead}
 use Rattle.update_model.specs.Reach.{Way, On, Stop, way, moved, may_move}
-use Rattle.update_model.specs.Trails.{Told, Trail, Position, Leads, IsTrail, less}
+use Rattle.update_model.specs.Trails.{LaneAnswer, Trail, Position, Leads, IsTrail, less}
 use Rattle.update_model.specs.Walks.{Walk, Finish, Try, IsRoute, target_walk}
 use Rattle.update_model.specs.declared.ask.Ask.{Ask}
 use Rattle.update_model.specs.declared.ask.Closed.{Closed}
@@ -55,14 +55,14 @@ led-sound retries ask left next lane (Absent status) faults sound at h = lead-so
 led-sound retries ask left next lane TooBig faults sound at h = lead-sound retries ask left next (Stop endings.TooBig) tt h
 led-sound retries ask left next lane (Garbled at_byte) faults sound at h = lead-sound retries ask left next (Stop (endings.Garbled at_byte)) tt h
 
-pub step-sound : (retries : ℕ) (p : Point) (t : Told) → IsSoundAt p → IsSoundAnswer t.closed → IsSoundAt (step retries p t)
+pub step-sound : (retries : ℕ) (p : Point) (t : LaneAnswer) → IsSoundAt p → IsSoundAnswer t.closed → IsSoundAt (point_after retries p t)
 step-sound retries (Over end) t h sound = tt
 step-sound retries (At ask left faults next) t h sound = led-sound retries ask left next t.lane t.closed faults sound h.0 h.1
 
 -- ---- a whole walk: each of its trails is one of a route
 
 -- an answer without a fault before it, by which a trail ends so
-answer_for : Ending → Told
+answer_for : Ending → LaneAnswer
 answer_for (endings.Served body) = record { lane = 0; closed = Served body }
 answer_for endings.TooBig = record { lane = 0; closed = TooBig }
 answer_for (endings.Absent status) = record { lane = 0; closed = Absent status }

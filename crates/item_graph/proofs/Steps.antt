@@ -2,9 +2,9 @@
 use Rattle.std.proofs.Common.{◌≡◌, ◌∙◌, ◌-◌, ℕ, zero, suc, refl, sym, ap, arith}
 use Rattle.std.specs.Prelude.{Ok, Err}
 use Rattle.acq_base.specs.declared.uri.Uri.{Uri}
-use Rattle.update_model.specs.Points.{Point, At, start, step, lead}
+use Rattle.update_model.specs.Points.{Point, At, start, point_after, lead}
 use Rattle.update_model.specs.Reach.{Way, On, Stop, way}
-use Rattle.update_model.specs.Trails.{Told, Leads, less}
+use Rattle.update_model.specs.Trails.{LaneAnswer, Leads, less}
 use Rattle.update_model.specs.Walks.{Walk}
 use Rattle.update_model.specs.declared.ask.Ask.{Ask}
 use Rattle.update_model.specs.declared.ask.Closed.{Closed}
@@ -15,7 +15,7 @@ abbrev IsNoFault : Closed → Type 0
 IsNoFault closed = (before after : ℕ) → closed ≡ Fault before after → ⊥
 
 leads-on : (retries : ℕ) (ask : Ask) (left faults lane : ℕ) (next : Ending → Walk) (closed : Closed) → IsNoFault closed
-    → step retries (At ask left faults next) (record { lane = lane; closed = closed }) ≡ lead retries ask left next (way left ask.uri closed)
+    → point_after retries (At ask left faults next) (record { lane = lane; closed = closed }) ≡ lead retries ask left next (way left ask.uri closed)
 leads-on retries ask left faults lane next (Served body) h = refl
 leads-on retries ask left faults lane next (Moved place) h = refl
 leads-on retries ask left faults lane next (Absent status) h = refl
@@ -28,10 +28,10 @@ less-is zero = refl
 less-is (suc n) = omega arith
 
 pub heard-on : (retries : ℕ) (ask : Ask) (left more faults lane : ℕ) (next : Ending → Walk) (closed : Closed) (to : Uri) → IsNoFault closed → more ≡ left - 1 → On to ≡ way left ask.uri closed
-    → At (record ask { uri = to }) more retries next ≡ step retries (At ask left faults next) (record { lane = lane; closed = closed })
+    → At (record ask { uri = to }) more retries next ≡ point_after retries (At ask left faults next) (record { lane = lane; closed = closed })
 heard-on retries ask left more faults lane next closed to h fewer is =
     ap (λ (n : ℕ). At (record ask { uri = to }) n retries next) (fewer ∙ less-is left) ∙ ap (lead retries ask left next) is ∙ sym (leads-on retries ask left faults lane next closed h)
 
 pub heard-stop : (retries : ℕ) (ask : Ask) (left faults lane : ℕ) (next : Ending → Walk) (closed : Closed) (ending : Ending) → IsNoFault closed → Stop ending ≡ way left ask.uri closed
-    → start retries (next ending) ≡ step retries (At ask left faults next) (record { lane = lane; closed = closed })
+    → start retries (next ending) ≡ point_after retries (At ask left faults next) (record { lane = lane; closed = closed })
 heard-stop retries ask left faults lane next closed ending h is = ap (lead retries ask left next) is ∙ sym (leads-on retries ask left faults lane next closed h)

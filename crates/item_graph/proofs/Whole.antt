@@ -3,7 +3,7 @@ use Rattle.std.proofs.Common.{◌≡◌, ◌∙◌, ℕ, List, [], length, sym}
 use Rattle.update_model.specs.Laws.{RunsStandInRoutes, ListsEndAsObtained, ReleasesEndAsObtained}
 use Rattle.update_model.specs.Walks.{release_walk, target_walk}
 use Rattle.item_graph.specs.Laws.{ItemsStandInRoutes, ItemsEndInRoutes, ItemsEndAsObtained, ReleaseItemsEndAsObtained}
-use Rattle.item_graph.specs.Items.{point_of}
+use Rattle.item_graph.specs.Refinement.{point_of}
 use Rattle.item_graph.proofs.Told.{told-routes}
 
 pub items-stand : RunsStandInRoutes → ItemsStandInRoutes

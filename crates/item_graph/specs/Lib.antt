@@ -1,5 +1,5 @@
 -- Cited by the public clauses:
-pub mod Items
+pub mod Refinement
 pub mod Sound
 -- what the laws of this crate say:
 pub mod Histories

@@ -4,7 +4,7 @@ ghost use Rattle.std.specs.Prelude.{◌≡◌, ◌≤◌, None, length, IfOk, If
 ghost use Rattle.acq_base.specs.Plan.{IsPlanned, IsSoundTarget};
 ghost use Rattle.acq_base.specs.Uri.{IsSound};
 ghost use Rattle.release_file.specs.Release.{listed_sum};
-ghost use Rattle.update_model.specs.Points.{Over, start, step};
+ghost use Rattle.update_model.specs.Points.{Over, start, point_after};
 ghost use Rattle.update_model.specs.Walks.{release_walk, target_walk};
 ghost use Rattle.update_model.specs.Wanted.{want as wanted_in};
 ghost use Rattle.item_graph.specs.Sound.{IsSoundAnswer, IsSoundAt};
@@ -29,7 +29,7 @@ pub struct Item {
 }
 
 impl Item {
-    ghost use Rattle.item_graph.specs.Items.{asked, point_of, retries_of};
+    ghost use Rattle.item_graph.specs.Refinement.{asked, point_of, retries_of};
 
     /// The Release of a source: InRelease is asked for first, within 16,777,216 bytes, and Release where there is none.
     pub fn for_release(
@@ -95,7 +95,7 @@ impl Item {
     /// moves of one ask are followed, but none from http to a file. An item that has ended stays as it is. After
     /// `NoMemory` the item may only be dropped.
     pub fn answer(&mut self, alloc: Global, lane: u32, closed: Closed) -> Result<(), NoMemory>
-        ensures step { OnOk result (point_of self.new ≡ step (retries_of self.old) (point_of self.old) (record { lane = lane; closed = closed })) }
+        ensures point_after { OnOk result (point_of self.new ≡ point_after (retries_of self.old) (point_of self.old) (record { lane = lane; closed = closed })) }
         ensures retries { retries_of self.new ≡ retries_of self.old }
         ensures sound { IsSoundAt (point_of self.old) → IsSoundAnswer closed → OnOk result (IsSoundAt (point_of self.new)) }
     {

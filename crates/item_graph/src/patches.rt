@@ -95,7 +95,7 @@ pub fn after_index(
     let steps = steps_in(alloc, &wanted, &installed, bytes)?;
     match steps {
         Some(steps) => {
-            let editing = begin(alloc, installed.file)?;
+            let editing = begin_editing(alloc, installed.file)?;
             let mut later = steps.into_vec();
             later.reverse();
             next_patch(alloc, retries, wanted, part, editing, later)
@@ -148,7 +148,7 @@ fn steps_by(
 }
 
 /// The installed file before the first patch.
-fn begin(alloc: Global, old: Bytes) -> Result<Editing, NoMemory>
+fn begin_editing(alloc: Global, old: Bytes) -> Result<Editing, NoMemory>
     ensures { IfOk result (λ editing. file_in editing ≡ old) }
 {
     Ok(Editing {

@@ -1,7 +1,7 @@
 //! Where an item stands.
 
 ghost use Rattle.std.specs.Prelude.{◌≡◌, IfOk};
-ghost use Rattle.update_model.specs.Points.{At, start, step};
+ghost use Rattle.update_model.specs.Points.{At, start, point_after};
 ghost use Rattle.update_model.specs.Walks.{Try};
 ghost use Rattle.item_graph.specs.Nexts.{after, point_in};
 
@@ -70,7 +70,7 @@ impl State {
         lane: u32,
         closed: Closed,
     ) -> Result<State, NoMemory>
-        ensures { IfOk result (λ state. point_in state ≡ step retries (point_in self) (record { lane = lane; closed = closed })) }
+        ensures { IfOk result (λ state. point_in state ≡ point_after retries (point_in self) (record { lane = lane; closed = closed })) }
     {
         match self {
             State::Ended(end) => Ok(State::Ended(end)),

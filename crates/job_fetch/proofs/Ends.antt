@@ -1,66 +1,66 @@
 -- A reply that is no file, as the answer to a whole fetch.
 use Rattle.std.proofs.Common.{◌≡◌, ◌⊎◌, inr, ⊎_elim, refl, ap, ℕ, ◌<◌, ◌≤◌, Bool, true, List, length, take, Option, Some, None, IfSome, Result, Ok, Err, OnErr, arith}
 use Rattle.std.proofs.lemmas.Bool.{le-leb, lt-leb, lt-ltb}
-use Rattle.acq_base.specs.Mirror.{World, answer_at}
+use Rattle.acq_base.specs.Mirror.{MirrorMap, answer_at}
 use Rattle.acq_base.specs.declared.uri.Uri.{Uri}
 use Rattle.acq_base.specs.declared.fetch.Answer.{Answer}
 use Rattle.acq_base.specs.declared.fetch.Answer.TheVariants as answers
 use Rattle.acq_base.specs.declared.fetch.Job.{Job}
 use Rattle.acq_base.specs.declared.fetch.Reply.{Reply}
 use Rattle.acq_base.specs.declared.fetch.Reply.TheVariants as replies
-use Rattle.acq_outside.specs.Word.{CanBegin, Tells}
+use Rattle.acq_outside.specs.Word.{CanBegin, IsReplyOf}
 use Rattle.acq_outside.specs.Crash.{State}
-use Rattle.acq_outside.specs.Moments.{IsTold}
+use Rattle.acq_outside.specs.States.{IsTold}
 use Rattle.journal_model.specs.Rest.{part_bytes}
-use Rattle.update_model.specs.Trails.{Says, answered}
+use Rattle.update_model.specs.Trails.{IsFaultOr, answered}
 use Rattle.update_model.specs.declared.ask.Closed.{Closed}
 use Rattle.update_model.specs.declared.ask.Closed.TheVariants.{Served, Moved, Absent, TooBig, Garbled, Fault}
 use Rattle.job_fetch.specs.Fetched.{IsAnswer, IsKnown, LeavesFile, ask_of}
 use Rattle.job_fetch.specs.Pieces.{AnswersOver, HasMore}
 
-abbrev Telling : Option World → Job → Reply → Type 0
-Telling world job reply = IfSome world (λ entries. Tells (answer_at entries job.uri) job reply)
+abbrev Telling : Option MirrorMap → Job → Reply → Type 0
+Telling world job reply = IfSome world (λ entries. IsReplyOf (answer_at entries job.uri) job reply)
 
-lifted : (world : Option World) (front : List ℕ) (stage : Bool) (job : Job) (reply : Reply) (closed : Closed)
-    → ((answer : Answer) → Tells answer job reply → Says closed (answered front (ask_of stage job) answer)) → Telling world job reply → IsAnswer world front stage job closed
+lifted : (world : Option MirrorMap) (front : List ℕ) (stage : Bool) (job : Job) (reply : Reply) (closed : Closed)
+    → ((answer : Answer) → IsReplyOf answer job reply → IsFaultOr closed (answered front (ask_of stage job) answer)) → Telling world job reply → IsAnswer world front stage job closed
 lifted None front stage job reply closed says tells = record { told = tt }
 lifted (Some entries) front stage job reply closed says tells = record { told = says (answer_at entries job.uri) tells }
 
-moved : (front : List ℕ) (stage : Bool) (job : Job) (place : Option Uri) (answer : Answer) → Tells answer job (replies.Moved place) → Moved place ≡ answered front (ask_of stage job) answer
+moved : (front : List ℕ) (stage : Bool) (job : Job) (place : Option Uri) (answer : Answer) → IsReplyOf answer job (replies.Moved place) → Moved place ≡ answered front (ask_of stage job) answer
 moved front stage job place (answers.Served all) tells = absurd tells
 moved front stage job place (answers.Moved to) tells = ap (λ p. Moved p) tells
 moved front stage job place (answers.Absent code) tells = absurd tells
 
-pub moved_answer : (world : Option World) (front : List ℕ) (stage : Bool) (job : Job) (place : Option Uri) → Telling world job (replies.Moved place) → IsAnswer world front stage job (Moved place)
+pub moved_answer : (world : Option MirrorMap) (front : List ℕ) (stage : Bool) (job : Job) (place : Option Uri) → Telling world job (replies.Moved place) → IsAnswer world front stage job (Moved place)
 moved_answer world front stage job place = lifted world front stage job (replies.Moved place) (Moved place) (moved front stage job place)
 
-absent : (front : List ℕ) (stage : Bool) (job : Job) (status : ℕ) → CanBegin job → (answer : Answer) → Tells answer job (replies.Absent status) → Absent status ≡ answered front (ask_of stage job) answer
+absent : (front : List ℕ) (stage : Bool) (job : Job) (status : ℕ) → CanBegin job → (answer : Answer) → IsReplyOf answer job (replies.Absent status) → Absent status ≡ answered front (ask_of stage job) answer
 absent front stage job status begins (answers.Served all) tells =
     let few : length all ≤ job.max = ⊎_elim (λ none. absurd (omega (arith, none, tells.1))) (λ below. omega (arith, below, tells.2)) begins in
     rw (le-leb (length all) job.max few, lt-ltb 0 job.from tells.1, le-leb (length all) job.from tells.2) (ap (λ s. Absent s) tells.0)
 absent front stage job status begins (answers.Moved to) tells = absurd tells
 absent front stage job status begins (answers.Absent code) tells = ap (λ s. Absent s) tells
 
-pub absent_answer : (world : Option World) (front : List ℕ) (stage : Bool) (job : Job) (status : ℕ) → CanBegin job → Telling world job (replies.Absent status) → IsAnswer world front stage job (Absent status)
+pub absent_answer : (world : Option MirrorMap) (front : List ℕ) (stage : Bool) (job : Job) (status : ℕ) → CanBegin job → Telling world job (replies.Absent status) → IsAnswer world front stage job (Absent status)
 absent_answer world front stage job status begins = lifted world front stage job (replies.Absent status) (Absent status) (absent front stage job status begins)
 
-too_big : (front : List ℕ) (stage : Bool) (job : Job) (answer : Answer) → Tells answer job replies.TooBig → TooBig ≡ answered front (ask_of stage job) answer
+too_big : (front : List ℕ) (stage : Bool) (job : Job) (answer : Answer) → IsReplyOf answer job replies.TooBig → TooBig ≡ answered front (ask_of stage job) answer
 too_big front stage job (answers.Served all) tells = rw (lt-leb (length all) job.max tells) refl
 too_big front stage job (answers.Moved to) tells = absurd tells
 too_big front stage job (answers.Absent code) tells = absurd tells
 
-pub too_big_answer : (world : Option World) (front : List ℕ) (stage : Bool) (job : Job) → Telling world job replies.TooBig → IsAnswer world front stage job TooBig
+pub too_big_answer : (world : Option MirrorMap) (front : List ℕ) (stage : Bool) (job : Job) → Telling world job replies.TooBig → IsAnswer world front stage job TooBig
 too_big_answer world front stage job = lifted world front stage job replies.TooBig TooBig (too_big front stage job)
 
-garbled : (front : List ℕ) (stage : Bool) (job : Job) (at : ℕ) (answer : Answer) → Tells answer job (replies.Garbled at) → Garbled at ≡ answered front (ask_of stage job) answer
+garbled : (front : List ℕ) (stage : Bool) (job : Job) (at : ℕ) (answer : Answer) → IsReplyOf answer job (replies.Garbled at) → Garbled at ≡ answered front (ask_of stage job) answer
 garbled front stage job at (answers.Served all) tells = absurd tells
 garbled front stage job at (answers.Moved to) tells = absurd tells
 garbled front stage job at (answers.Absent code) tells = absurd tells
 
-pub garbled_answer : (world : Option World) (front : List ℕ) (stage : Bool) (job : Job) (at : ℕ) → Telling world job (replies.Garbled at) → IsAnswer world front stage job (Garbled at)
+pub garbled_answer : (world : Option MirrorMap) (front : List ℕ) (stage : Bool) (job : Job) (at : ℕ) → Telling world job (replies.Garbled at) → IsAnswer world front stage job (Garbled at)
 garbled_answer world front stage job at = lifted world front stage job (replies.Garbled at) (Garbled at) (garbled front stage job at)
 
-pub fault_answer : (world : Option World) (front : List ℕ) (stage : Bool) (job : Job) (before after : ℕ) → IsAnswer world front stage job (Fault before after)
+pub fault_answer : (world : Option MirrorMap) (front : List ℕ) (stage : Bool) (job : Job) (before after : ℕ) → IsAnswer world front stage job (Fault before after)
 fault_answer None front stage job before after = record { told = tt }
 fault_answer (Some entries) front stage job before after = record { told = tt }
 
@@ -91,7 +91,7 @@ any_more from name new (Garbled at) more = more
 any_more from name new (Fault before after) more = more
 
 -- an answer beside all bytes
-pub any_answers : (world : Option World) (name : List ℕ) (old new : List State) (job : Job) (closed : Closed) → ((part : List ℕ) → IsAnswer world part true job closed) → AnswersOver world name old new job closed
+pub any_answers : (world : Option MirrorMap) (name : List ℕ) (old new : List State) (job : Job) (closed : Closed) → ((part : List ℕ) → IsAnswer world part true job closed) → AnswersOver world name old new job closed
 any_answers world name old new job (Served body) is = λ told part front. is part
 any_answers world name old new job (Moved place) is = is
 any_answers world name old new job (Absent status) is = is
@@ -100,7 +100,7 @@ any_answers world name old new job (Garbled at) is = is
 any_answers world name old new job (Fault before after) is = is
 
 -- beside what the file on its way had before it was opened
-pub answers_beside : (world : Option World) (name : List ℕ) (mid new : List State) (part : List ℕ) (job : Job) (closed : Closed) → (IsTold new → part_bytes mid name ≡ take job.from part)
+pub answers_beside : (world : Option MirrorMap) (name : List ℕ) (mid new : List State) (part : List ℕ) (job : Job) (closed : Closed) → (IsTold new → part_bytes mid name ≡ take job.from part)
     → AnswersOver world name mid new job closed → IsKnown new closed → IsAnswer world part true job closed
 answers_beside world name mid new part job (Served body) front is known = is known part (front known)
 answers_beside world name mid new part job (Moved place) front is known = is part

@@ -4,7 +4,7 @@ use Rattle.std.proofs.lemmas.Bool.{le-leb, lt-leb, le-ltb}
 use Rattle.std.proofs.lemmas.List.{drop-append-le, take_all}
 use Rattle.std.proofs.Math.Bool.{and-false}
 use Rattle.std.proofs.Math.Seq.{take-add}
-use Rattle.acq_base.specs.Mirror.{World, answer_at}
+use Rattle.acq_base.specs.Mirror.{MirrorMap, answer_at}
 use Rattle.acq_base.specs.declared.fetch.Answer.{Answer}
 use Rattle.acq_base.specs.declared.fetch.Answer.TheVariants.{Served, Moved, Absent}
 use Rattle.acq_base.specs.declared.fetch.Job.{Job}
@@ -20,7 +20,7 @@ IsFront (Moved place) part from at bytes = Unit {0}
 IsFront (Absent status) part from at bytes = Unit {0}
 
 -- where the method tells its mirror
-pub record HasCome (world : Option World) (part : List ℕ) (job : Job) (at : ℕ) (bytes : List ℕ) : Type 0 where
+pub record HasCome (world : Option MirrorMap) (part : List ℕ) (job : Job) (at : ℕ) (bytes : List ℕ) : Type 0 where
   pub told : IfSome world (λ entries. IsFront (answer_at entries job.uri) part job.from at bytes)
 
 more : (answer : Answer) (part : List ℕ) (from at : ℕ) (bytes piece : List ℕ) → from ≤ at → IsPieceOf answer at piece → IsFront answer part from at bytes → IsFront answer part from (at + length piece) (bytes ++ piece)
@@ -35,7 +35,7 @@ more (Moved place) part from at bytes piece past goes is = tt
 more (Absent status) part from at bytes piece past goes is = tt
 
 -- a piece more
-pub more_came : (world : Option World) (part : List ℕ) (job : Job) (at : ℕ) (bytes piece : List ℕ) → job.from ≤ at → IfSome world (λ entries. IsPieceOf (answer_at entries job.uri) at piece)
+pub more_came : (world : Option MirrorMap) (part : List ℕ) (job : Job) (at : ℕ) (bytes piece : List ℕ) → job.from ≤ at → IfSome world (λ entries. IsPieceOf (answer_at entries job.uri) at piece)
     → HasCome world part job at bytes → HasCome world part job (at + length piece) (bytes ++ piece)
 more_came None part job at bytes piece past goes has = record { told = tt }
 more_came (Some entries) part job at bytes piece past goes has = record { told = more (answer_at entries job.uri) part job.from at bytes piece past goes has.told }
@@ -57,7 +57,7 @@ whole stage (Moved place) part job at bytes size is = absurd size
 whole stage (Absent status) part job at bytes size is = absurd size
 
 -- all of it
-pub all_came : (stage : Bool) (world : Option World) (part : List ℕ) (job : Job) (at : ℕ) (bytes : List ℕ) → IfSome world (λ entries. HasSize (answer_at entries job.uri) job at) → HasCome world part job at bytes
+pub all_came : (stage : Bool) (world : Option MirrorMap) (part : List ℕ) (job : Job) (at : ℕ) (bytes : List ℕ) → IfSome world (λ entries. HasSize (answer_at entries job.uri) job at) → HasCome world part job at bytes
     → IsAnswer world part stage job (closed.Served (body_for stage bytes))
 all_came stage None part job at bytes size has = record { told = tt }
 all_came stage (Some entries) part job at bytes size has = record { told = whole stage (answer_at entries job.uri) part job at bytes size has.told }

@@ -1,11 +1,11 @@
 -- One word after another.
 use Rattle.std.proofs.Common.{◌≡◌, ℕ, List, length, subst, Option, IfSome}
-use Rattle.acq_base.specs.Mirror.{World}
+use Rattle.acq_base.specs.Mirror.{MirrorMap}
 use Rattle.acq_outside.specs.Word.{IsPiece, IsWord, further}
 use Rattle.acq_outside.specs.declared.word.Fetch.{Fetch}
 use Rattle.acq_outside.specs.declared.word.Word.{Word}
 
-pub next_word : (before mid after : ℕ) (world same : Option World) (fetch : Fetch) (under later : Option Fetch) (place : ℕ) (bytes : List ℕ) (word : Word)
+pub next_word : (before mid after : ℕ) (world same : Option MirrorMap) (fetch : Fetch) (under later : Option Fetch) (place : ℕ) (bytes : List ℕ) (word : Word)
     → IsPiece before mid world fetch under place bytes → same ≡ world → IfSome under (λ f. IsWord mid after same f later word)
     → IsWord before after world (further fetch (length bytes)) later word
 next_word before mid after world same fetch under later place bytes word piece e is =

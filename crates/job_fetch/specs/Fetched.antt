@@ -1,15 +1,15 @@
 -- What a fetch comes to, beside the method's mirror, its count of faults and the disk.
 use Rattle.std.specs.Prelude.{◌≡◌, ◌⊎◌, ℕ, ◌<◌, ◌≤◌, Bool, List, length, take, Option, Some, IfSome}
 use Rattle.acq_base.specs.Fetch.{IsSoundPlace}
-use Rattle.acq_base.specs.Mirror.{World, answer_at}
+use Rattle.acq_base.specs.Mirror.{MirrorMap, answer_at}
 use Rattle.acq_base.specs.Sum.{sum_of}
 use Rattle.acq_base.specs.declared.fetch.Job.{Job}
 use Rattle.acq_base.specs.declared.sum.Sum.{Sum}
 use Rattle.acq_outside.specs.Count.{Rose}
 use Rattle.acq_outside.specs.Crash.{State, synced}
-use Rattle.acq_outside.specs.Moments.{IsTold, Since}
-use Rattle.journal_model.specs.Rest.{KeepsOthers, KeepsRest, part_bytes, part_file}
-use Rattle.update_model.specs.Trails.{Says, answered}
+use Rattle.acq_outside.specs.States.{IsTold, Since}
+use Rattle.journal_model.specs.Rest.{KeepsOtherFiles, KeptAtRestSince, part_bytes, part_file}
+use Rattle.update_model.specs.Trails.{IsFaultOr, answered}
 use Rattle.update_model.specs.declared.ask.Ask.{Ask}
 use Rattle.update_model.specs.declared.ask.Body.TheVariants.{Bytes, Staged}
 use Rattle.update_model.specs.declared.ask.Closed.{Closed}
@@ -20,8 +20,8 @@ abbrev pub ask_of : Bool → Job → Ask
 ask_of stage job = record { uri = job.uri; max = job.max; from = job.from; stage = stage }
 
 -- a fault, or what the mirror answers to the job beside these bytes at the file's front
-pub record IsAnswer (world : Option World) (front : List ℕ) (stage : Bool) (job : Job) (closed : Closed) : Type 0 where
-  pub told : IfSome world (λ entries. Says closed (answered front (ask_of stage job) (answer_at entries job.uri)))
+pub record IsAnswer (world : Option MirrorMap) (front : List ℕ) (stage : Bool) (job : Job) (closed : Closed) : Type 0 where
+  pub told : IfSome world (λ entries. IsFaultOr closed (answered front (ask_of stage job) (answer_at entries job.uri)))
 
 -- a fault tells the method's count before the fetch and after it, and comes only where it rose; anything else leaves it
 abbrev pub IsCounted : ℕ → ℕ → Closed → Type 0
@@ -38,9 +38,9 @@ IsSoundEnd (Moved place) = IsSoundPlace place
 IsSoundEnd _ = Unit {0}
 
 -- a file that came is in memory
-abbrev pub IsHeld : Closed → Type 0
-IsHeld (Served (Staged sum)) = ⊥
-IsHeld _ = Unit {0}
+abbrev pub IsInMemory : Closed → Type 0
+IsInMemory (Served (Staged sum)) = ⊥
+IsInMemory _ = Unit {0}
 
 -- the list's file on its way lasts, and has this sum
 pub record LastsAs (name : List ℕ) (now : List State) (sum : Sum) : Type 0 where
@@ -49,10 +49,10 @@ pub record LastsAs (name : List ℕ) (now : List State) (sum : Sum) : Type 0 whe
   pub sums : sum_of bytes ≡ sum
 
 -- a file that came is the list's file on its way, of the sum that is told
-abbrev pub IsStaged : List ℕ → List State → Closed → Type 0
-IsStaged name now (Served (Bytes bytes)) = ⊥
-IsStaged name now (Served (Staged sum)) = IsTold now → LastsAs name now sum
-IsStaged name now _ = Unit {0}
+abbrev pub IsStagedBody : List ℕ → List State → Closed → Type 0
+IsStagedBody name now (Served (Bytes bytes)) = ⊥
+IsStagedBody name now (Served (Staged sum)) = IsTold now → LastsAs name now sum
+IsStagedBody name now _ = Unit {0}
 
 -- what an answer over a disk rests on: a staged file on what the disk tells, anything else on nothing
 abbrev pub IsKnown : List State → Closed → Type 0
@@ -66,8 +66,8 @@ LeavesFile from name old new _ = (new ≡ old) ⊎ (IsTold new → from < length
 
 -- Calls on one list's file on its way: at every moment what is at rest stays so, and the files of all other names stay.
 pub record Staging (name : List ℕ) (old new : List State) : Type 0 where
-  pub moments : Since old new (KeepsRest old)
-  pub others : KeepsOthers name old new
+  pub moments : Since old new (KeptAtRestSince old)
+  pub others : KeepsOtherFiles name old new
 
 -- the first bytes of it stay
 pub record KeepsFront (name : List ℕ) (keep : ℕ) (old new : List State) : Type 0 where

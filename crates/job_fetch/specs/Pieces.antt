@@ -1,9 +1,9 @@
 -- What holds while the pieces of a fetch come.
 use Rattle.std.specs.Prelude.{◌≡◌, ℕ, true, ◌+◌, ◌<◌, ◌≤◌, List, length, take, Option}
-use Rattle.acq_base.specs.Mirror.{World}
+use Rattle.acq_base.specs.Mirror.{MirrorMap}
 use Rattle.acq_base.specs.declared.fetch.Job.{Job}
 use Rattle.acq_outside.specs.Crash.{State}
-use Rattle.acq_outside.specs.Moments.{IsTold, Stands}
+use Rattle.acq_outside.specs.States.{IsTold, IsNow}
 use Rattle.acq_outside.specs.declared.word.Fetch.{Fetch}
 use Rattle.hash_gate.specs.Pieces.{HasSummed, size_so_far}
 use Rattle.hash_gate.specs.declared.total.Total.{Total}
@@ -19,7 +19,7 @@ fetch_at job at = record { job = job; at = at }
 
 -- The list's file on its way is there and as long as the part says, and the total is that of its bytes.
 pub record IsFilling (now : List State) (filling : Filling) : Type 0 where
-  pub there : Stands (IsPartThere filling.part.name) now
+  pub there : IsNow (IsPartThere filling.part.name) now
   pub len : IsTold now → length (part_bytes now filling.part.name) ≡ filling.part.len
   pub small : size_so_far filling.total ≤ filling.part.len
   pub summed : IsTold now → HasSummed filling.total (part_bytes now filling.part.name)
@@ -32,7 +32,7 @@ pub record SumsOn (content : List ℕ) (at n : ℕ) (before after : Total) : Typ
 
 -- A file that came is the mirror's beside any bytes of which the file on its way had at first what the job leaves out, and
 -- any other answer is the mirror's beside all bytes.
-abbrev pub AnswersOver : Option World → List ℕ → List State → List State → Job → Closed → Type 0
+abbrev pub AnswersOver : Option MirrorMap → List ℕ → List State → List State → Job → Closed → Type 0
 AnswersOver world name old new job (Served body) =
     IsTold new → (part : List ℕ) → part_bytes old name ≡ take job.from part → IsAnswer world part true job (Served body)
 AnswersOver world name old new job closed = (part : List ℕ) → IsAnswer world part true job closed

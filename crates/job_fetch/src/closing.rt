@@ -1,11 +1,11 @@
 //! How a fetch ends that served nothing. It touches nothing and takes no memory.
 ghost use Rattle.std.specs.Prelude.{◌≡◌, ℕ, List, Bool, IfOk, OnErr, IfSome, Option};
 ghost use Rattle.acq_base.specs.Fetch.{IsSoundReply};
-ghost use Rattle.acq_base.specs.Mirror.{World, answer_at};
+ghost use Rattle.acq_base.specs.Mirror.{MirrorMap, answer_at};
 ghost use Rattle.acq_base.specs.declared.fetch.Job.{Job};
 ghost use Rattle.acq_outside.specs.Crash.{State};
-ghost use Rattle.acq_outside.specs.Word.{CanBegin, IsCounted as IsCountedReply, Tells};
-ghost use Rattle.job_fetch.specs.Fetched.{IsAnswer, IsCounted, IsHeld, IsSoundEnd, IsStaged};
+ghost use Rattle.acq_outside.specs.Word.{CanBegin, IsCounted as IsCountedReply, IsReplyOf};
+ghost use Rattle.job_fetch.specs.Fetched.{IsAnswer, IsCounted, IsInMemory, IsSoundEnd, IsStagedBody};
 
 use acq_base::{NoMemory, Reply};
 use update_model::{Body, Closed};
@@ -16,10 +16,10 @@ pub fn closed_of(reply: Reply) -> Result<Closed, NoMemory>
     ensures sound { IsSoundReply reply → IfOk result IsSoundEnd }
     ensures counted { (before after : ℕ) → IsCountedReply before after reply → IfOk result (IsCounted before after) }
     ensures dry { (before after : ℕ) → IsCountedReply before after reply → OnErr result (after ≡ before) }
-    ensures held { IfOk result IsHeld }
-    ensures staged { (before after : ℕ) → IsCountedReply before after reply → (name : List ℕ) → (now : List State) → IfOk result (IsStaged name now) }
-    ensures answer { (world : Option World) → (front : List ℕ) → (stage : Bool) → (job : Job) → CanBegin job
-        → IfSome world (λ entries. Tells (answer_at entries job.uri) job reply) → IfOk result (IsAnswer world front stage job) }
+    ensures held { IfOk result IsInMemory }
+    ensures staged { (before after : ℕ) → IsCountedReply before after reply → (name : List ℕ) → (now : List State) → IfOk result (IsStagedBody name now) }
+    ensures answer { (world : Option MirrorMap) → (front : List ℕ) → (stage : Bool) → (job : Job) → CanBegin job
+        → IfSome world (λ entries. IsReplyOf (answer_at entries job.uri) job reply) → IfOk result (IsAnswer world front stage job) }
 {
     match reply {
         // No word is so: a file comes in pieces.

@@ -2,11 +2,11 @@
 ghost use Rattle.std.specs.Prelude.{◌≡◌, ◌+◌, ◌++◌, ◌<◌, ◌≤◌, ◌^◌, length, take, IfOk, OnOk};
 ghost use Rattle.acq_base.specs.Sum.{sum_of};
 ghost use Rattle.acq_outside.specs.Stays.{Stays};
-ghost use Rattle.acq_outside.specs.Moments.{IsTold};
+ghost use Rattle.acq_outside.specs.States.{IsTold};
 ghost use Rattle.hash_gate.specs.Pieces.{HasSummed, size_so_far};
 ghost use Rattle.journal_model.specs.Names.{IsPutName};
 ghost use Rattle.journal_model.specs.Rest.{part_bytes};
-ghost use Rattle.partial_store.specs.Parts.{part_of};
+ghost use Rattle.partial_store.specs.Refinement.{part_of};
 ghost use Rattle.job_fetch.specs.Fetched.{LastsAs, Staging};
 ghost use Rattle.job_fetch.specs.Pieces.{IsFilling, SumsOn};
 
@@ -105,7 +105,7 @@ pub fn add<D: Disk>(disk: &mut D, filling: &mut Filling, piece: &[u8]) -> Result
 }
 
 /// Makes the file last, and answers its sum.
-pub fn close<D: Disk>(disk: &mut D, filling: Filling) -> Result<Sum, Fault>
+pub fn finish_file<D: Disk>(disk: &mut D, filling: Filling) -> Result<Sum, Fault>
     requires { IsFilling (D.trace disk.old) filling }
     ensures frame { Stays D.Disk disk.old disk.new result }
     ensures staging { Staging filling.part.name (D.trace disk.old) (D.trace disk.new) }

@@ -5,15 +5,15 @@ ghost use Rattle.acq_base.specs.declared.fetch.Reply.{Reply};
 ghost use Rattle.acq_outside.specs.Fetches.{Fetches};
 ghost use Rattle.acq_outside.specs.declared.word.Word.TheVariants.{Other};
 ghost use Rattle.acq_outside.specs.Stays.{StaysCounting};
-ghost use Rattle.acq_outside.specs.Moments.{IsTold};
+ghost use Rattle.acq_outside.specs.States.{IsTold};
 ghost use Rattle.acq_outside.specs.Word.{CanBegin, IsSoundWord, IsWord};
 ghost use Rattle.journal_model.specs.Names.{IsPutName};
 ghost use Rattle.journal_model.specs.Rest.{part_bytes};
-ghost use Rattle.job_fetch.specs.Fetched.{IsAnswer, IsCounted, IsKnown, IsSoundEnd, IsStaged, KeepsFront, LeavesFile, Staging};
+ghost use Rattle.job_fetch.specs.Fetched.{IsAnswer, IsCounted, IsKnown, IsSoundEnd, IsStagedBody, KeepsFront, LeavesFile, Staging};
 ghost use Rattle.job_fetch.specs.Pieces.{AnswersOver, HasMore, IsFilling, fetch_at};
 
 use crate::closing::closed_of;
-use crate::filling::{Filling, add, close, open};
+use crate::filling::{Filling, add, finish_file, open};
 use acq_base::{Job, ListName};
 use acq_outside::{Disk, Method, OutError, Word};
 use std::alloc::Global;
@@ -48,7 +48,7 @@ pub fn fetch_staged<D: Disk, M: Method>(
     ensures staging { Staging name.now.0 (D.trace disk.old) (D.trace disk.new) }
     ensures front { OnOk result (KeepsFront name.now.0 job.now.from (D.trace disk.old) (D.trace disk.new)) }
     ensures left { IfOk result (LeavesFile job.now.from name.now.0 (D.trace disk.old) (D.trace disk.new)) }
-    ensures staged { IfOk result (IsStaged name.now.0 (D.trace disk.new)) }
+    ensures staged { IfOk result (IsStagedBody name.now.0 (D.trace disk.new)) }
     ensures answer { IfOk result (λ closed. IsKnown (D.trace disk.new) closed
         → IsAnswer (M.world method.old) (part_bytes (D.trace disk.old) name.now.0) true job.now closed) }
 {
@@ -89,7 +89,7 @@ fn fill<D: Disk, M: Method>(
     ensures staging { Staging name.now.0 (D.trace disk.old) (D.trace disk.new) }
     ensures front { OnOk result (KeepsFront name.now.0 job.now.from (D.trace disk.old) (D.trace disk.new)) }
     ensures left { IfOk result (LeavesFile job.now.from name.now.0 (D.trace disk.old) (D.trace disk.new)) }
-    ensures staged { IfOk result (IsStaged name.now.0 (D.trace disk.new)) }
+    ensures staged { IfOk result (IsStagedBody name.now.0 (D.trace disk.new)) }
     ensures answer { IfOk result (λ closed. IsKnown (D.trace disk.new) closed
         → IsAnswer (M.world method.old) (part_bytes (D.trace disk.old) name.now.0) true job.now closed) }
 {
@@ -125,7 +125,7 @@ fn receive<D: Disk, M: Method>(
     ensures staging { Staging opened.part.name (D.trace disk.old) (D.trace disk.new) }
     ensures front { OnOk result (KeepsFront opened.part.name job.now.from (D.trace disk.old) (D.trace disk.new)) }
     ensures more { IfOk result (HasMore job.now.from opened.part.name (D.trace disk.new)) }
-    ensures staged { IfOk result (IsStaged opened.part.name (D.trace disk.new)) }
+    ensures staged { IfOk result (IsStagedBody opened.part.name (D.trace disk.new)) }
     ensures answer { IfOk result (AnswersOver (M.world method.old) opened.part.name (D.trace disk.old) (D.trace disk.new) job.now) }
 {
     let mut filling = opened;
@@ -134,7 +134,7 @@ fn receive<D: Disk, M: Method>(
         match word {
             Word::Piece { at: _, bytes } => add(disk, &mut filling, bytes.as_slice())?,
             Word::Done { size: _ } => {
-                let sum = close(disk, filling)?;
+                let sum = finish_file(disk, filling)?;
                 return Ok(Closed::Served(Body::Staged(sum)));
             }
             Word::Other(reply) => return Ok(closed_of(reply)?),

@@ -10,16 +10,16 @@ use Rattle.sha2.specs.Sha256.{sha256}
 use Rattle.std.proofs.lemmas.Bool.{not-true, and_parts, or_left, or_right}
 use Rattle.acq_outside.specs.Disk.{IsName, same_name}
 use Rattle.journal_model.specs.Names.{journal, lock, partial}
-use Rattle.journal_model.specs.Reading.{◌>>=◌, number_at, kind_at, step_named, most_long, clashes, is_name_of, is_allowed, name_at, step_at, steps_at, group_at, groups_at, ended, sealed, old_at, new_at, steps_of_body, gate_with, gate_of}
-use Rattle.journal_model.proofs.Twice.{Apart}
+use Rattle.journal_model.specs.Reading.{◌>>=◌, number_at, kind_at, step_named, most_long, clashes, is_name_of, is_allowed, name_at, step_at, steps_at, group_at, groups_at, ended, sealed, old_at, new_at, steps_of_body, journal_state_with, journal_state_of}
+use Rattle.journal_model.proofs.Twice.{ChangeDifferentNames}
 use Rattle.journal_model.specs.Steps.{Touches, IsIn, IsNamedStep}
 use Rattle.journal_model.specs.declared.step.Step.{Step}
 use Rattle.journal_model.specs.declared.step.Step.TheVariants.{Put, Drop}
-use Rattle.journal_model.specs.declared.step.Gate.TheVariants.{Open, Shut}
+use Rattle.journal_model.specs.declared.step.JournalState.TheVariants.{Open, Shut}
 use Rattle.journal_model.proofs.Views.{partial_one}
 
 pub record AreFine (steps : List Step) : Type 0 where
-  pub apart : Apart steps
+  pub apart : ChangeDifferentNames steps
   pub away : (step : Step) → IsIn step steps → Touches step journal → ⊥
   pub named : (step : Step) → IsIn step steps → IsNamedStep step
 
@@ -52,7 +52,7 @@ in_push [] s t (inr none) = absurd none
 in_push (u ∷ steps) s t (inl same) = inl (inl same)
 in_push (u ∷ steps) s t (inr later) = ⊎_elim (λ is. inl (inr is)) (λ is. inr is) (in_push steps s t later)
 
-apart_push : (steps : List Step) (s : Step) → Apart steps → ((b : Step) (name : List ℕ) → IsIn b steps → Touches s name → Touches b name → ⊥) → Apart (steps ++ s ∷ [])
+apart_push : (steps : List Step) (s : Step) → ChangeDifferentNames steps → ((b : Step) (name : List ℕ) → IsIn b steps → Touches s name → Touches b name → ⊥) → ChangeDifferentNames (steps ++ s ∷ [])
 apart_push [] s apart new = ((λ other name is. absurd is), tt)
 apart_push (u ∷ steps) s apart new = (
   (λ other name is touch_u touch_other. ⊎_elim
@@ -196,7 +196,7 @@ body_fine [] x e = absurd cc
 body_fine (version ∷ rest) x e = body_case (nat_eq version 1) (nat_eq version 2) version rest (length (version ∷ rest)) x e
 
 -- an open gate stands before a record
-open_case : (long : ℕ) (read : Result (List Step) ℕ) (steps : List Step) → gate_with long read ≡ Open steps → read ≡ Ok steps
+open_case : (long : ℕ) (read : Result (List Step) ℕ) (steps : List Step) → journal_state_with long read ≡ Open steps → read ≡ Ok steps
 open_case long (Ok x) steps e = ap (λ (l : List Step). Ok l) (open_is x steps e)
   where
     open_is : (a b : List Step) → Open a ≡ Open b → a ≡ b
@@ -208,15 +208,15 @@ pub record IsOpenBytes (bytes : List ℕ) (steps : List Step) : Type 0 where
   pub is : bytes ≡ 1 ∷ body
   pub read : steps_of_body body ≡ Ok steps
 
-pub open_bytes : (bytes : List ℕ) (steps : List Step) → gate_of bytes ≡ Open steps → IsOpenBytes bytes steps
+pub open_bytes : (bytes : List ℕ) (steps : List Step) → journal_state_of bytes ≡ Open steps → IsOpenBytes bytes steps
 open_bytes [] steps is = absurd cc
 open_bytes (gate ∷ body) steps is = by (nat_eq gate 1) refl is
   where
-    by : (t : Bool) → nat_eq gate 1 ≡ t → (if t then gate_with (length (gate ∷ body)) (steps_of_body body) else Shut) ≡ Open steps → IsOpenBytes (gate ∷ body) steps
+    by : (t : Bool) → nat_eq gate 1 ≡ t → (if t then journal_state_with (length (gate ∷ body)) (steps_of_body body) else Shut) ≡ Open steps → IsOpenBytes (gate ∷ body) steps
     by true test at = let one : gate ≡ 1 = grind (arith, nat_tests) in record { body = body; is = ap (λ (g : ℕ). g ∷ body) one; read = open_case (length (gate ∷ body)) (steps_of_body body) steps at }
     by false test at = absurd cc
 
-pub open_fine : (bytes : List ℕ) (steps : List Step) → gate_of bytes ≡ Open steps → AreFine steps
+pub open_fine : (bytes : List ℕ) (steps : List Step) → journal_state_of bytes ≡ Open steps → AreFine steps
 open_fine bytes steps is = let bytes_are = open_bytes bytes steps is in body_fine bytes_are.body steps bytes_are.read
 
 -- a name that a record may have is short

@@ -4,7 +4,7 @@ use Rattle.std.proofs.lemmas.Str.{IsUtf8-from_ascii, IsUtf8-append}
 use Rattle.std.proofs.lemmas.Str.Ascii.{IsAscii-nil, IsAscii-cons}
 use Rattle.std.specs.Str.{IsAscii}
 use Rattle.acq_outside.specs.Disk.{IsName}
-use Rattle.journal_model.specs.Names.{journal, beside, partial}
+use Rattle.journal_model.specs.Names.{journal, new_journal, partial}
 
 abbrev Small : List ℕ → Type 0
 Small [] = Unit {0}
@@ -24,5 +24,5 @@ partial_named name named short = record {
   short = omega (arith, short, length-append (codes "partial/") name);
 }
 
-pub beside_named : (name : List ℕ) → name ≡ beside → IsName name
+pub beside_named : (name : List ℕ) → name ≡ new_journal → IsName name
 beside_named name is = subst (λ (n : List ℕ). IsName n) (sym is) (partial_named journal (journal_named journal refl) (omega arith))

@@ -2,9 +2,9 @@
 use Rattle.std.proofs.Common.{◌≡◌, arith, ℕ, zero, suc, ◌-◌, ◌≤◌, nat_eq, nat_lt, Bool, true, false, if◌then◌else◌, List, [], ◌∷◌, ◌++◌, length, take, drop, Result, Ok, Err, length-drop, bytes_eq}
 use Rattle.std.specs.Int.{Width, w16, w32, byte_len, from_be_bytes}
 use Rattle.sha2.specs.Sha256.{sha256}
-use Rattle.journal_model.specs.Reading.{◌>>=◌, number_at, kind_at, step_named, is_allowed, name_at, step_at, steps_at, group_at, groups_at, ended, sealed, old_at, new_at, steps_of_body, gate_with, gate_of}
+use Rattle.journal_model.specs.Reading.{◌>>=◌, number_at, kind_at, step_named, is_allowed, name_at, step_at, steps_at, group_at, groups_at, ended, sealed, old_at, new_at, steps_of_body, journal_state_with, journal_state_of}
 use Rattle.journal_model.specs.declared.step.Step.{Step}
-use Rattle.journal_model.specs.declared.step.Gate.TheVariants.{Damaged, Shut}
+use Rattle.journal_model.specs.declared.step.JournalState.TheVariants.{Damaged, Shut}
 
 -- a reading leaves no more bytes than there were
 abbrev Within : {A : Type 0} → ℕ → Result (A × List ℕ) ℕ → Type 0
@@ -109,14 +109,14 @@ body_stops (version ∷ rest) = by (nat_eq version 1) (nat_eq version 2)
 damaged_is : (a b : ℕ) → Damaged a ≡ Damaged b → a ≡ b
 damaged_is a b is = cc
 
-placed : (gate : ℕ) (body : List ℕ) (read : Result (List Step) ℕ) (at : ℕ) → StopsWithin (length body) read → gate_with (length (gate ∷ body)) read ≡ Damaged at → (1 ≤ at) × (at ≤ length (gate ∷ body))
+placed : (gate : ℕ) (body : List ℕ) (read : Result (List Step) ℕ) (at : ℕ) → StopsWithin (length body) read → journal_state_with (length (gate ∷ body)) read ≡ Damaged at → (1 ≤ at) × (at ≤ length (gate ∷ body))
 placed gate body (Ok steps) at stops is = absurd cc
 placed gate body (Err left) at stops is = let here = damaged_is (length (gate ∷ body) - left) at is in (omega (arith, here, stops), omega (arith, here))
 
-pub within_file : (bytes : List ℕ) (at : ℕ) → gate_of bytes ≡ Damaged at → (1 ≤ at) × (at ≤ length bytes)
+pub within_file : (bytes : List ℕ) (at : ℕ) → journal_state_of bytes ≡ Damaged at → (1 ≤ at) × (at ≤ length bytes)
 within_file [] at is = absurd cc
 within_file (gate ∷ body) at is = by (nat_eq gate 1) is
   where
-    by : (t : Bool) → (if t then gate_with (length (gate ∷ body)) (steps_of_body body) else Shut) ≡ Damaged at → (1 ≤ at) × (at ≤ length (gate ∷ body))
+    by : (t : Bool) → (if t then journal_state_with (length (gate ∷ body)) (steps_of_body body) else Shut) ≡ Damaged at → (1 ≤ at) × (at ≤ length (gate ∷ body))
     by true gated = placed gate body (steps_of_body body) at (body_stops body) gated
     by false gated = absurd cc

@@ -7,23 +7,23 @@ use Rattle.acq_outside.specs.Crash.{State, IsSound, IsOutcome, FitsAll, names_of
 use Rattle.acq_outside.proofs.Outcomes.{only_synced}
 use Rattle.acq_outside.specs.declared.state.FileState.{FileState}
 use Rattle.journal_model.specs.Names.{journal}
-use Rattle.journal_model.specs.Reopen.{lists}
-use Rattle.journal_model.specs.Rest.{IsIdle, IsClosed, AllAside, IsSettled, IsAtRest, LeavesClosed}
+use Rattle.journal_model.specs.Reopen.{installed_files}
+use Rattle.journal_model.specs.Rest.{IsIdle, IsShut, AllChangeNoInstalledName, IsSynced, IsAtRest, LeavesShut}
 use Rattle.journal_model.proofs.Views.{view, view_image, list_not_aside, off_all, part_aside, lists_same, reads_view, instead, instead_same, instead_other}
 use Rattle.journal_model.proofs.Aside.{idle_quiet, first_kept, quiet_view, leads_now}
 
-pub closed : (s : State) → IsIdle s → LeavesClosed s
+pub closed : (s : State) → IsIdle s → LeavesShut s
 closed s idle image is =
     let first = first_kept (file_at s.files idle.number) idle.closed (is.bytes idle.number) (is.outcomes idle.number) in
     (first.0, is.shows journal ∙ ap (option_map is.bytes) (off_all s.base is.some journal (part_aside is.some s.pending is.part idle.aside) refl ∙ idle.leads) ∙ ap (λ (b : List ℕ). Some b) first.1)
 
-pub rests : (s : State) → IsIdle s → IsSettled s → IsAtRest (lists (reads s)) s
+pub rests : (s : State) → IsIdle s → IsSynced s → IsAtRest (installed_files (reads s)) s
 rests s idle settled = record {
   leaves = λ image is.
       quiet_view s (idle_quiet s idle) image is
       ∙ ap (λ (f : Files). Some f) (lists_same s.base (names_of s) is.bytes (λ i. (file_at s.files i).seen) (λ name list. sym (leads_now s name idle.aside (list_not_aside name list)))
       (λ name i list leads. only_synced (file_at s.files i).seen (is.bytes i) (subst (λ (f : FileState). IsOutcome f (is.bytes i)) (settled name i (inl list) leads) (is.outcomes i))))
-      ∙ ap (λ (f : Files). Some (lists f)) (sym (reads_view s));
+      ∙ ap (λ (f : Files). Some (installed_files f)) (sym (reads_view s));
   settled = settled;
   lists_are = λ name list. rw list refl;
 }
@@ -47,13 +47,13 @@ some_least : (file : FileState) (n : ℕ) → file.least ≡ n → BeginsClosed 
 some_least file zero is begins = absurd (let wrong = (begins [] (record { long = omega (arith, is); fits = tt })).1 in cc)
 some_least file (suc n) is begins = omega (arith, is)
 
-closed_from : (file : FileState) (later : List ℕ) → IsOutcome file (0 ∷ later) → BeginsClosed file → IsClosed file
+closed_from : (file : FileState) (later : List ℕ) → IsOutcome file (0 ∷ later) → BeginsClosed file → IsShut file
 closed_from file later one begins = let first = first_cell file file.cells later refl one begins in record { rest = first.0; cells = first.1; least = some_least file file.least refl begins }
 
-at_journal : (s : State) (o : Option ℕ) (bytes : ℕ → List ℕ) → LeavesClosed s → s.base journal ≡ o → ((i : ℕ) → IsOutcome (file_at s.files i) (bytes i)) → (later : List ℕ) × (option_map bytes o ≡ Some (0 ∷ later))
+at_journal : (s : State) (o : Option ℕ) (bytes : ℕ → List ℕ) → LeavesShut s → s.base journal ≡ o → ((i : ℕ) → IsOutcome (file_at s.files i) (bytes i)) → (later : List ℕ) × (option_map bytes o ≡ Some (0 ∷ later))
 at_journal s o bytes closed leads outcomes = let left = closed (view s.base bytes) (view_image s bytes outcomes) in (left.0, ap (option_map bytes) (sym leads) ∙ left.1)
 
-begins_closed : (s : State) (i : ℕ) → IsSound s → LeavesClosed s → s.base journal ≡ Some i → BeginsClosed (file_at s.files i)
+begins_closed : (s : State) (i : ℕ) → IsSound s → LeavesShut s → s.base journal ≡ Some i → BeginsClosed (file_at s.files i)
 begins_closed s i sound closed leads left outcome =
     let at = at_journal s (Some i) bytes closed leads outcomes in
     (at.0, sym (instead_same i left seen) ∙ same_Some (bytes i) (0 ∷ at.0) at.1)
@@ -70,7 +70,7 @@ begins_closed s i sound closed leads left outcome =
         (λ differ. subst (λ (b : List ℕ). IsOutcome (file_at s.files k) b) (sym (instead_other i left seen k differ)) (sound.outcomes k))
         (cases_eq k i)
 
-idle_at : (s : State) (o : Option ℕ) → IsSound s → AllAside s.pending → LeavesClosed s → s.base journal ≡ o → IsIdle s
+idle_at : (s : State) (o : Option ℕ) → IsSound s → AllChangeNoInstalledName s.pending → LeavesShut s → s.base journal ≡ o → IsIdle s
 idle_at s None sound aside closed leads = absurd (let wrong = (at_journal s None (λ k. (file_at s.files k).seen) closed leads sound.outcomes).1 in cc)
 idle_at s (Some i) sound aside closed leads =
     let at = at_journal s (Some i) (λ k. (file_at s.files k).seen) closed leads sound.outcomes in
@@ -82,5 +82,5 @@ idle_at s (Some i) sound aside closed leads =
       closed = closed_from (file_at s.files i) at.0 (subst (λ (b : List ℕ). IsOutcome (file_at s.files i) b) first (sound.outcomes i)) (begins_closed s i sound closed leads);
     }
 
-pub idle_again : (s : State) → IsSound s → AllAside s.pending → LeavesClosed s → IsIdle s
+pub idle_again : (s : State) → IsSound s → AllChangeNoInstalledName s.pending → LeavesShut s → IsIdle s
 idle_again s sound aside closed = idle_at s (s.base journal) sound aside closed refl

@@ -4,18 +4,18 @@ use Rattle.std.proofs.Math.Path.{fun_ext}
 use Rattle.std.proofs.lemmas.Bool.Decides.{nat_tests}
 use Rattle.std.proofs.lemmas.Bool.{or_right}
 use Rattle.acq_outside.specs.Disk.{Files, same_name}
-use Rattle.acq_outside.specs.Crash.{Names, State, IsOutcome, IsPart, none, left_out, taken, IsImage, all_renamed, renamed, with_name, moved_name, file_at, names_of, reads, seen_at}
+use Rattle.acq_outside.specs.Crash.{Names, State, IsOutcome, IsSubsequence, none, left_out, taken, IsImage, all_renamed, renamed, with_name, moved_name, file_at, names_of, reads, seen_at}
 use Rattle.acq_outside.specs.declared.state.NameChange.{NameChange}
 use Rattle.acq_outside.specs.declared.state.NameChange.TheVariants.{Made, Moved, Removed}
-use Rattle.journal_model.specs.Names.{journal, lock, partial, is_partial, is_aside, is_list}
-use Rattle.journal_model.specs.Steps.{moved_at, stepped, carried}
-use Rattle.journal_model.specs.Reading.{gate_in}
-use Rattle.journal_model.specs.Reopen.{lists, opened, reopened, IsAsOf, LeavesAsOf}
-use Rattle.journal_model.specs.Rest.{IsAside, AllAside}
+use Rattle.journal_model.specs.Names.{journal, lock, partial, is_partial, is_own_name, is_installed_name}
+use Rattle.journal_model.specs.Steps.{moved_at, after_step, after_steps}
+use Rattle.journal_model.specs.Reading.{journal_state_in}
+use Rattle.journal_model.specs.Reopen.{installed_files, opened, reopened, IsAsOf, ReopensAsAt}
+use Rattle.journal_model.specs.Rest.{ChangesNoInstalledName, AllChangeNoInstalledName}
 use Rattle.journal_model.proofs.Twice.{with_other}
 use Rattle.journal_model.specs.declared.step.Step.{Step}
 use Rattle.journal_model.specs.declared.step.Step.TheVariants.{Put, Drop}
-use Rattle.journal_model.specs.declared.step.Gate.{Gate}
+use Rattle.journal_model.specs.declared.step.JournalState.{JournalState}
 
 abbrev pub view : Names → (ℕ → List ℕ) → Files
 view m bytes = λ name. option_map bytes (m name)
@@ -26,7 +26,7 @@ image_view s image is = fun_ext is.shows
 pub settled_names : (s : State) → s.pending ≡ [] → names_of s ≡ s.base
 settled_names s settled = ap (all_renamed s.base) settled
 
-pub part_none : (all : List NameChange) → IsPart [] all
+pub part_none : (all : List NameChange) → IsSubsequence [] all
 part_none [] = none
 part_none (change ∷ all) = left_out change (part_none all)
 
@@ -37,7 +37,7 @@ view_image s bytes outcomes = record { some = []; part = part_none s.pending; by
 pub as_self : (s : State) (image : Files) → IsImage s image → IsAsOf s image
 as_self s image is = record { before = image; was = is; same = refl }
 
-pub as_by_steps : (a b c : State) → LeavesAsOf a b → LeavesAsOf b c → LeavesAsOf a c
+pub as_by_steps : (a b c : State) → ReopensAsAt a b → ReopensAsAt b c → ReopensAsAt a c
 as_by_steps a b c first later image is =
     let second = later image is in
     let earlier = first second.before second.was in
@@ -53,7 +53,7 @@ map_moved bytes m from to (Some i) name = by (same_name to name) (same_name from
     by false true = refl
     by false false = refl
 
-map_step : (bytes : ℕ → List ℕ) (m : Names) (step : Step) (name : List ℕ) → view (stepped m step) bytes name ≡ stepped (view m bytes) step name
+map_step : (bytes : ℕ → List ℕ) (m : Names) (step : Step) (name : List ℕ) → view (after_step m step) bytes name ≡ after_step (view m bytes) step name
 map_step bytes m (Put n) name = map_moved bytes m (partial n) n (m (partial n)) name
 map_step bytes m (Drop n) name = by (same_name n name)
   where
@@ -61,19 +61,19 @@ map_step bytes m (Drop n) name = by (same_name n name)
     by true = refl
     by false = refl
 
-pub map_carried : (bytes : ℕ → List ℕ) (steps : List Step) (m : Names) → view (carried m steps) bytes ≡ carried (view m bytes) steps
+pub map_carried : (bytes : ℕ → List ℕ) (steps : List Step) (m : Names) → view (after_steps m steps) bytes ≡ after_steps (view m bytes) steps
 map_carried bytes [] m = refl
-map_carried bytes (step ∷ steps) m = map_carried bytes steps (stepped m step) ∙ ap (λ (f : Files). carried f steps) (fun_ext (map_step bytes m step))
+map_carried bytes (step ∷ steps) m = map_carried bytes steps (after_step m step) ∙ ap (λ (f : Files). after_steps f steps) (fun_ext (map_step bytes m step))
 
 -- what a view stands for, by its gate
-pub gated_view : (m : Names) (bytes : ℕ → List ℕ) (gate : Gate) → gate_in (option_map bytes (m journal)) ≡ gate → reopened (view m bytes) ≡ opened (view m bytes) gate
+pub gated_view : (m : Names) (bytes : ℕ → List ℕ) (gate : JournalState) → journal_state_in (option_map bytes (m journal)) ≡ gate → reopened (view m bytes) ≡ opened (view m bytes) gate
 gated_view m bytes gate is = ap (opened (view m bytes)) is
 
 -- Names aside, and lists.
-pub apart_names : (a b : List ℕ) → is_aside a ≡ true → is_aside b ≡ false → a ≢ b
-apart_names a b aside outside same = let also : is_aside b ≡ true = subst (λ (n : List ℕ). is_aside n ≡ true) same aside in absurd cc
+pub apart_names : (a b : List ℕ) → is_own_name a ≡ true → is_own_name b ≡ false → a ≢ b
+apart_names a b aside outside same = let also : is_own_name b ≡ true = subst (λ (n : List ℕ). is_own_name n ≡ true) same aside in absurd cc
 
-pub partial_aside : (name : List ℕ) → is_aside (partial name) ≡ true
+pub partial_aside : (name : List ℕ) → is_own_name (partial name) ≡ true
 partial_aside name = or_right (same_name (partial name) lock) (is_partial (partial name)) refl
 
 -- two lists on their way under one name are one
@@ -91,13 +91,13 @@ list_case true b is = absurd cc
 list_case false true is = absurd cc
 list_case false false is = (refl, refl)
 
-pub list_not_aside : (name : List ℕ) → is_list name ≡ true → is_aside name ≡ false
-list_not_aside name list = (list_case (same_name name journal) (is_aside name) list).1
+pub list_not_aside : (name : List ℕ) → is_installed_name name ≡ true → is_own_name name ≡ false
+list_not_aside name list = (list_case (same_name name journal) (is_own_name name) list).1
 
-pub list_not_journal : (name : List ℕ) → is_list name ≡ true → name ≢ journal
-list_not_journal name list is = let wrong : is_list journal ≡ true = subst (λ (n : List ℕ). is_list n ≡ true) is list in absurd cc
+pub list_not_journal : (name : List ℕ) → is_installed_name name ≡ true → name ≢ journal
+list_not_journal name list is = let wrong : is_installed_name journal ≡ true = subst (λ (n : List ℕ). is_installed_name n ≡ true) is list in absurd cc
 
-off_one : (m : Names) (change : NameChange) (name : List ℕ) → IsAside change → is_aside name ≡ false → renamed m change name ≡ m name
+off_one : (m : Names) (change : NameChange) (name : List ℕ) → ChangesNoInstalledName change → is_own_name name ≡ false → renamed m change name ≡ m name
 off_one m (Made other i) name aside outside = with_other m other (Some i) name (apart_names other name aside outside)
 off_one m (Moved from to) name aside outside = moved_off m from to (m from) name (apart_names from name aside.0 outside) (apart_names to name aside.1 outside)
   where
@@ -107,35 +107,35 @@ off_one m (Moved from to) name aside outside = moved_off m from to (m from) name
 off_one m (Removed other) name aside outside = with_other m other None name (apart_names other name aside outside)
 
 -- changes aside change no other name
-pub off_all : (m : Names) (changes : List NameChange) (name : List ℕ) → AllAside changes → is_aside name ≡ false → all_renamed m changes name ≡ m name
+pub off_all : (m : Names) (changes : List NameChange) (name : List ℕ) → AllChangeNoInstalledName changes → is_own_name name ≡ false → all_renamed m changes name ≡ m name
 off_all m [] name aside outside = refl
 off_all m (change ∷ changes) name aside outside = off_all (renamed m change) changes name aside.1 outside ∙ off_one m change name aside.0 outside
 
-pub part_aside : (some all : List NameChange) → IsPart some all → AllAside all → AllAside some
+pub part_aside : (some all : List NameChange) → IsSubsequence some all → AllChangeNoInstalledName all → AllChangeNoInstalledName some
 part_aside some all none aside = tt
 part_aside some all (left_out change part) aside = part_aside _ _ part aside.1
 part_aside some all (taken change part) aside = (aside.0, part_aside _ _ part aside.1)
 
-pub more_aside : (changes : List NameChange) (change : NameChange) → AllAside changes → IsAside change → AllAside (changes ++ change ∷ [])
+pub more_aside : (changes : List NameChange) (change : NameChange) → AllChangeNoInstalledName changes → ChangesNoInstalledName change → AllChangeNoInstalledName (changes ++ change ∷ [])
 more_aside [] change aside one = (one, tt)
 more_aside (first ∷ changes) change aside one = (aside.0, more_aside changes change aside.1 one)
 
 -- lists are the same where the names and the bytes of lists are
-pub lists_same : (m n : Names) (a b : ℕ → List ℕ) → ((name : List ℕ) → is_list name ≡ true → m name ≡ n name) → ((name : List ℕ) (i : ℕ) → is_list name ≡ true → n name ≡ Some i → a i ≡ b i) → lists (view m a) ≡ lists (view n b)
-lists_same m n a b names bytes = fun_ext (λ name. at name (is_list name) refl)
+pub lists_same : (m n : Names) (a b : ℕ → List ℕ) → ((name : List ℕ) → is_installed_name name ≡ true → m name ≡ n name) → ((name : List ℕ) (i : ℕ) → is_installed_name name ≡ true → n name ≡ Some i → a i ≡ b i) → installed_files (view m a) ≡ installed_files (view n b)
+lists_same m n a b names bytes = fun_ext (λ name. at name (is_installed_name name) refl)
   where
-    there : (name : List ℕ) → is_list name ≡ true → (o : Option ℕ) → n name ≡ o → option_map a o ≡ option_map b o
+    there : (name : List ℕ) → is_installed_name name ≡ true → (o : Option ℕ) → n name ≡ o → option_map a o ≡ option_map b o
     there name list None is = refl
     there name list (Some i) is = ap (λ (c : List ℕ). Some c) (bytes name i list is)
 
-    at : (name : List ℕ) (t : Bool) → is_list name ≡ t → (if t then view m a name else None) ≡ (if t then view n b name else None)
+    at : (name : List ℕ) (t : Bool) → is_installed_name name ≡ t → (if t then view m a name else None) ≡ (if t then view n b name else None)
     at name true list = ap (option_map a) (names name list) ∙ there name list (n name) refl
     at name false list = refl
 
-pub files_same : (a b : Files) → ((name : List ℕ) → is_list name ≡ true → a name ≡ b name) → lists a ≡ lists b
-files_same a b same = fun_ext (λ name. at name (is_list name) refl)
+pub files_same : (a b : Files) → ((name : List ℕ) → is_installed_name name ≡ true → a name ≡ b name) → installed_files a ≡ installed_files b
+files_same a b same = fun_ext (λ name. at name (is_installed_name name) refl)
   where
-    at : (name : List ℕ) (t : Bool) → is_list name ≡ t → (if t then a name else None) ≡ (if t then b name else None)
+    at : (name : List ℕ) (t : Bool) → is_installed_name name ≡ t → (if t then a name else None) ≡ (if t then b name else None)
     at name true list = same name list
     at name false list = refl
 

@@ -14,18 +14,18 @@ abbrev pub partial : List ℕ → List ℕ
 partial name = codes "partial/" ++ name
 
 -- where a new journal is made
-abbrev pub beside : List ℕ
-beside = codes "partial/journal"
+abbrev pub new_journal : List ℕ
+new_journal = codes "partial/journal"
 
 abbrev pub is_partial : List ℕ → Bool
 is_partial name = same_name (take 8 name) (codes "partial/")
 
 -- neither a list nor the journal
-abbrev pub is_aside : List ℕ → Bool
-is_aside name = same_name name lock || is_partial name
+abbrev pub is_own_name : List ℕ → Bool
+is_own_name name = same_name name lock || is_partial name
 
-abbrev pub is_list : List ℕ → Bool
-is_list name = not (same_name name journal) && not (is_aside name)
+abbrev pub is_installed_name : List ℕ → Bool
+is_installed_name name = not (same_name name journal) && not (is_own_name name)
 
 -- a name under which a record may put a list: with `partial/` before it, it is a name too
 pub record IsPutName (name : List ℕ) : Type 0 where

@@ -11,8 +11,8 @@ use Rattle.journal_model.specs.declared.step.Step.{Step}
 use Rattle.journal_model.specs.declared.step.Step.TheVariants.{Put, Drop}
 use Rattle.journal_model.specs.declared.record.ReadError.{ReadError}
 use Rattle.journal_model.specs.declared.record.ReadError.TheVariants as errors
-use Rattle.journal_model.specs.declared.step.Gate.{Gate}
-use Rattle.journal_model.specs.declared.step.Gate.TheVariants.{Open, Damaged, Shut}
+use Rattle.journal_model.specs.declared.step.JournalState.{JournalState}
+use Rattle.journal_model.specs.declared.step.JournalState.TheVariants.{Open, Damaged, Shut}
 
 infixl 10 ◌>>=◌
 abbrev pub ◌>>=◌ : {A B : Type 0} → Result A ℕ → (A → Result B ℕ) → Result B ℕ
@@ -113,17 +113,17 @@ steps_of_body [] = Err 0
 steps_of_body (version ∷ rest) = if nat_eq version 1 then old_at rest else (if nat_eq version 2 then new_at (version ∷ rest) rest else Err (length (version ∷ rest)))
 
 -- Byte 0 is the gate: open where it is 1. Behind an open gate stands the record, or damage at a place of the file.
-abbrev pub gate_with : ℕ → Result (List Step) ℕ → Gate
-gate_with long (Ok steps) = Open steps
-gate_with long (Err left) = Damaged (long - left)
+abbrev pub journal_state_with : ℕ → Result (List Step) ℕ → JournalState
+journal_state_with long (Ok steps) = Open steps
+journal_state_with long (Err left) = Damaged (long - left)
 
-abbrev pub gate_of : List ℕ → Gate
-gate_of [] = Shut
-gate_of (gate ∷ body) = if nat_eq gate 1 then gate_with (length (gate ∷ body)) (steps_of_body body) else Shut
+abbrev pub journal_state_of : List ℕ → JournalState
+journal_state_of [] = Shut
+journal_state_of (gate ∷ body) = if nat_eq gate 1 then journal_state_with (length (gate ∷ body)) (steps_of_body body) else Shut
 
-abbrev pub gate_in : Option (List ℕ) → Gate
-gate_in None = Shut
-gate_in (Some bytes) = gate_of bytes
+abbrev pub journal_state_in : Option (List ℕ) → JournalState
+journal_state_in None = Shut
+journal_state_in (Some bytes) = journal_state_of bytes
 
 -- Why a reading stopped, as the code says it.
 

@@ -2,29 +2,29 @@
 use Rattle.std.specs.Prelude.{◌≡◌, ◌≢◌, ◌⊎◌, ℕ, ◌≤◌, true, nat_lt, if◌then◌else◌, List, [], ◌∷◌, Option, Some, None, option_map}
 use Rattle.acq_outside.specs.Disk.{Files}
 use Rattle.acq_outside.specs.Crash.{State, IsOutcome, IsImage, reads, names_of, file_at, synced}
-use Rattle.acq_outside.specs.Moments.{From}
+use Rattle.acq_outside.specs.States.{From}
 use Rattle.acq_outside.specs.declared.state.FileState.{FileState}
 use Rattle.acq_outside.specs.declared.state.NameChange.{NameChange}
 use Rattle.acq_outside.specs.declared.state.NameChange.TheVariants.{Made, Moved, Removed}
-use Rattle.journal_model.specs.Names.{journal, partial, is_aside, is_list}
-use Rattle.journal_model.specs.Reading.{gate_of, gate_in}
-use Rattle.journal_model.specs.Reopen.{Leaves}
+use Rattle.journal_model.specs.Names.{journal, partial, is_own_name, is_installed_name}
+use Rattle.journal_model.specs.Reading.{journal_state_of, journal_state_in}
+use Rattle.journal_model.specs.Reopen.{CrashLeaves}
 use Rattle.journal_model.specs.declared.step.Step.{Step}
 use Rattle.journal_model.specs.declared.step.Step.TheVariants.{Put, Drop}
-use Rattle.journal_model.specs.declared.step.Gate.TheVariants.{Open, Shut}
+use Rattle.journal_model.specs.declared.step.JournalState.TheVariants.{Open, Shut}
 
 -- a change of names that changes no list and no journal
-abbrev pub IsAside : NameChange → Type 0
-IsAside (Made name i) = is_aside name ≡ true
-IsAside (Moved from to) = (is_aside from ≡ true) × (is_aside to ≡ true)
-IsAside (Removed name) = is_aside name ≡ true
+abbrev pub ChangesNoInstalledName : NameChange → Type 0
+ChangesNoInstalledName (Made name i) = is_own_name name ≡ true
+ChangesNoInstalledName (Moved from to) = (is_own_name from ≡ true) × (is_own_name to ≡ true)
+ChangesNoInstalledName (Removed name) = is_own_name name ≡ true
 
-abbrev pub AllAside : List NameChange → Type 0
-AllAside [] = Unit {0}
-AllAside (change ∷ changes) = IsAside change × AllAside changes
+abbrev pub AllChangeNoInstalledName : List NameChange → Type 0
+AllChangeNoInstalledName [] = Unit {0}
+AllChangeNoInstalledName (change ∷ changes) = ChangesNoInstalledName change × AllChangeNoInstalledName changes
 
 -- whatever a crash leaves of a file, its first byte is there and 0
-pub record IsClosed (file : FileState) : Type 0 where
+pub record IsShut (file : FileState) : Type 0 where
   pub rest : List (Option ℕ)
   pub cells : file.cells ≡ Some 0 ∷ rest
   pub least : 1 ≤ file.least
@@ -32,52 +32,52 @@ pub record IsClosed (file : FileState) : Type 0 where
 -- A commit may be prepared: no change of a list's name or of the journal's is pending, and a crash leaves a journal whose
 -- gate is 0.
 pub record IsIdle (s : State) : Type 0 where
-  pub aside : AllAside s.pending
+  pub aside : AllChangeNoInstalledName s.pending
   pub number : ℕ
   pub leads : s.base journal ≡ Some number
-  pub closed : IsClosed (file_at s.files number)
+  pub closed : IsShut (file_at s.files number)
 
 -- no change of a list's name or of the journal's is pending, and a crash leaves no gate open
 pub record IsQuiet (s : State) : Type 0 where
-  pub aside : AllAside s.pending
-  pub shut : (i : ℕ) → s.base journal ≡ Some i → (bytes : List ℕ) → IsOutcome (file_at s.files i) bytes → gate_of bytes ≡ Shut
+  pub aside : AllChangeNoInstalledName s.pending
+  pub shut : (i : ℕ) → s.base journal ≡ Some i → (bytes : List ℕ) → IsOutcome (file_at s.files i) bytes → journal_state_of bytes ≡ Shut
 
 -- whatever a crash leaves, the journal is there and its gate is 0
-abbrev pub LeavesClosed : State → Type 0
-LeavesClosed s = (image : Files) → IsImage s image → (rest : List ℕ) × (image journal ≡ Some (0 ∷ rest))
+abbrev pub LeavesShut : State → Type 0
+LeavesShut s = (image : Files) → IsImage s image → (rest : List ℕ) × (image journal ≡ Some (0 ∷ rest))
 
 -- these steps put a list that is on its way under this name
-abbrev pub PutsFrom : List Step → List ℕ → Type 0
-PutsFrom [] name = ⊥
-PutsFrom (Put list ∷ steps) name = (name ≡ partial list) ⊎ PutsFrom steps name
-PutsFrom (Drop list ∷ steps) name = PutsFrom steps name
+abbrev pub PutsPart : List Step → List ℕ → Type 0
+PutsPart [] name = ⊥
+PutsPart (Put list ∷ steps) name = (name ≡ partial list) ⊎ PutsPart steps name
+PutsPart (Drop list ∷ steps) name = PutsPart steps name
 
 -- a record whose gate a crash may leave open puts a list that is on its way under this name
-pub record IsRecorded (s : State) (name : List ℕ) : Type 0 where
+pub record MayBePutByRecord (s : State) (name : List ℕ) : Type 0 where
   pub image : Files
   pub left : IsImage s image
   pub steps : List Step
-  pub gate : gate_in (image journal) ≡ Open steps
-  pub puts : PutsFrom steps name
+  pub gate : journal_state_in (image journal) ≡ Open steps
+  pub puts : PutsPart steps name
 
 -- no list, and none that is on its way and that a record names whose gate may be open, was written or cut since its last
 -- sync
-abbrev pub IsSettled : State → Type 0
-IsSettled s = (name : List ℕ) (i : ℕ) → (is_list name ≡ true) ⊎ IsRecorded s name → names_of s name ≡ Some i → file_at s.files i ≡ synced (file_at s.files i).seen
+abbrev pub IsSynced : State → Type 0
+IsSynced s = (name : List ℕ) (i : ℕ) → (is_installed_name name ≡ true) ⊎ MayBePutByRecord s name → names_of s name ≡ Some i → file_at s.files i ≡ synced (file_at s.files i).seen
 
 -- between two commits the disk has these lists, and a crash leaves them
 pub record IsAtRest (folder : Files) (s : State) : Type 0 where
-  pub leaves : Leaves folder s
-  pub settled : IsSettled s
-  pub lists_are : (name : List ℕ) → is_list name ≡ true → reads s name ≡ folder name
+  pub leaves : CrashLeaves folder s
+  pub settled : IsSynced s
+  pub lists_are : (name : List ℕ) → is_installed_name name ≡ true → reads s name ≡ folder name
 
 -- where a commit might be prepared, one still may, and what was at rest is so with its lists
-pub record StaysAtRest (s t : State) : Type 0 where
+pub record KeepsAtRest (s t : State) : Type 0 where
   pub rest : IsIdle s → (folder : Files) → IsAtRest folder s → IsAtRest folder t
   pub idle : IsIdle s → IsIdle t
 
-abbrev pub KeepsRest : List State → State → Type 0
-KeepsRest = From StaysAtRest
+abbrev pub KeptAtRestSince : List State → State → Type 0
+KeptAtRestSince = From KeepsAtRest
 
 -- Files by their names.
 
@@ -104,8 +104,8 @@ abbrev pub part_bytes : List State → List ℕ → List ℕ
 part_bytes trace name = bytes_in (part_file trace name)
 
 -- the files of all other names stay, and so does what lasts of them
-abbrev pub KeepsOthers : List ℕ → List State → List State → Type 0
-KeepsOthers name old new = (other : List ℕ) → other ≢ partial name → file_now new other ≡ file_now old other
+abbrev pub KeepsOtherFiles : List ℕ → List State → List State → Type 0
+KeepsOtherFiles name old new = (other : List ℕ) → other ≢ partial name → file_now new other ≡ file_now old other
 
 -- a list is on its way
 pub record IsPartThere (name : List ℕ) (s : State) : Type 0 where

@@ -15,13 +15,13 @@ moved_at m from to None = m
 moved_at m from to (Some x) = with_at (with_at m from None) to (Some x)
 
 -- a Put moves the list on its way to its name, where it is there; a Drop removes
-abbrev pub stepped : {A : Type 0} → (List ℕ → Option A) → Step → List ℕ → Option A
-stepped m (Put name) = moved_at m (partial name) name (m (partial name))
-stepped m (Drop name) = with_at m name None
+abbrev pub after_step : {A : Type 0} → (List ℕ → Option A) → Step → List ℕ → Option A
+after_step m (Put name) = moved_at m (partial name) name (m (partial name))
+after_step m (Drop name) = with_at m name None
 
-abbrev pub carried : {A : Type 0} → (List ℕ → Option A) → List Step → List ℕ → Option A
-carried m [] = m
-carried m (step ∷ steps) = carried (stepped m step) steps
+abbrev pub after_steps : {A : Type 0} → (List ℕ → Option A) → List Step → List ℕ → Option A
+after_steps m [] = m
+after_steps m (step ∷ steps) = after_steps (after_step m step) steps
 
 -- What each step changes, and with which calls.
 

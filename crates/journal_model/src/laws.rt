@@ -2,11 +2,11 @@
 ghost use Rattle.std.specs.Prelude.{◌≡◌, ◌<◌, ◌≤◌, ◌^◌, ℕ, List, [], length, Ok};
 ghost use Rattle.acq_outside.specs.Choice.{AreBytes};
 ghost use Rattle.acq_outside.specs.Crash.{State, IsSound, reads};
-ghost use Rattle.journal_model.specs.Reading.{steps_of_body, gate_of};
-ghost use Rattle.journal_model.specs.Reopen.{lists};
-ghost use Rattle.journal_model.specs.Rest.{IsIdle, IsSettled, IsAtRest, LeavesClosed, AllAside};
+ghost use Rattle.journal_model.specs.Reading.{steps_of_body, journal_state_of};
+ghost use Rattle.journal_model.specs.Reopen.{installed_files};
+ghost use Rattle.journal_model.specs.Rest.{IsIdle, IsSynced, IsAtRest, LeavesShut, AllChangeNoInstalledName};
 ghost use Rattle.journal_model.specs.Spelling.{body_of, old_body_of, all_steps, AreAllowed, AreShort, IsRecord};
-ghost use Rattle.journal_model.specs.declared.step.Gate.TheVariants.{Damaged};
+ghost use Rattle.journal_model.specs.declared.step.JournalState.TheVariants.{Damaged};
 ghost use Rattle.journal_model.specs.declared.step.Step.{Step};
 
 /// What is spelled as a record is read as the steps that it spells, in the version that is written and in the one before.
@@ -22,18 +22,18 @@ pub fn records_only()
 
 /// The place of damage is behind the gate, and within the file or at its end.
 pub fn damage_is_within()
-    ensures { (bytes : List ℕ) (at : ℕ) → gate_of bytes ≡ Damaged at → (1 ≤ at) × (at ≤ length bytes) }
+    ensures { (bytes : List ℕ) (at : ℕ) → journal_state_of bytes ≡ Damaged at → (1 ≤ at) × (at ≤ length bytes) }
 {}
 
 /// A commit may be prepared where no change of a list's name or of the journal's is pending, and whatever a crash leaves
 /// has a journal whose gate is 0; and there alone.
-pub fn idle_is_closed()
-    ensures closed { (s : State) → IsIdle s → LeavesClosed s }
-    ensures idle { (s : State) → IsSound s → AllAside s.pending → LeavesClosed s → IsIdle s }
+pub fn idle_is_shut()
+    ensures closed { (s : State) → IsIdle s → LeavesShut s }
+    ensures idle { (s : State) → IsSound s → AllChangeNoInstalledName s.pending → LeavesShut s → IsIdle s }
 {}
 
 /// Where a commit may be prepared and no list is written or cut since its last sync, a crash leaves the lists that reads
 /// give.
 pub fn idle_rests()
-    ensures { (s : State) → IsIdle s → IsSettled s → IsAtRest (lists (reads s)) s }
+    ensures { (s : State) → IsIdle s → IsSynced s → IsAtRest (installed_files (reads s)) s }
 {}

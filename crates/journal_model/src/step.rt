@@ -13,7 +13,7 @@ pub enum Step {
 
 /// What a journal's bytes say.
 #[derive(Debug, Drop)]
-pub enum Gate {
+pub enum JournalState {
     /// The gate is open before a record of these steps.
     Open(Row<Step>),
     /// The gate is open, and the byte at this place of the file can't stand there in a record; the file's length where it

@@ -77,7 +77,7 @@ fn write_unsealed(alloc: Global, groups: &[Row<Step>]) -> Result<Bytes, NoMemory
 /// The bytes of a record of these groups, in version 2: what stands in a journal behind its gate. There are fewer than
 /// 2^32 groups, each of fewer than 2^32 steps, and a record may have these steps.
 #[tactic(auto, using(crate::proofs::Shorts::short_groups))]
-pub fn write_body(alloc: Global, groups: &[Row<Step>]) -> Result<Bytes, NoMemory>
+pub fn body_bytes(alloc: Global, groups: &[Row<Step>]) -> Result<Bytes, NoMemory>
     requires few { length groups.now < 2 ^ 32 }
     requires short { AreShort groups.now }
     requires allowed { AreAllowed [] (all_steps groups.now) }

@@ -2,7 +2,7 @@
 use Rattle.std.proofs.Common.{◌≡◌, ◌∙◌, ℕ, List, [], ◌∷◌, ◌++◌, Option, None, sym, refl, subst, arith}
 use Rattle.acq_base.specs.declared.fetch.Reply.{Reply}
 use Rattle.acq_base.specs.declared.fetch.Reply.TheVariants as replies
-use Rattle.acq_base.specs.Mirror.{World}
+use Rattle.acq_base.specs.Mirror.{MirrorMap}
 use Rattle.acq_outside.specs.declared.word.Fetch.{Fetch}
 use Rattle.acq_outside.specs.declared.word.Word.{Word}
 use Rattle.acq_outside.specs.declared.word.Word.TheVariants.{Piece, Done, Other}
@@ -11,7 +11,7 @@ use Rattle.acq_outside.specs.Word.{IsSoundWord, IsOther}
 use Rattle.lane_pool.specs.Words.{count_after, IsHeard}
 use Rattle.lane_pool.specs.Laws.{AreApart, FaultsAreApart, OwnWordsAreHeard, fault_of, faults_of}
 
-one_word : (world : Option World) (last end : ℕ) (fetch : Fetch) (word : Word) (faults : List (ℕ × ℕ)) → IsHeard last world fetch word → AreApart (count_after last word) faults end
+one_word : (world : Option MirrorMap) (last end : ℕ) (fetch : Fetch) (word : Word) (faults : List (ℕ × ℕ)) → IsHeard last world fetch word → AreApart (count_after last word) faults end
     → AreApart last (fault_of word ++ faults) end
 one_word world last end fetch (Piece place bytes) faults h apart = apart
 one_word world last end fetch (Done size) faults h apart = apart
@@ -29,7 +29,7 @@ faults_apart world start count [] heard = heard
 faults_apart world start count (step ∷ steps) heard =
     one_word world start count step.0 step.1 (faults_of steps) heard.0 (faults_apart world (count_after start step.1) count steps heard.1)
 
-quiet_own : (before after : ℕ) (world : Option World) (fetch : Fetch) (under : Option Fetch) (reply : Reply) → IsSoundWord (Other reply) → IsOther before after world fetch under reply → after ≡ before
+quiet_own : (before after : ℕ) (world : Option MirrorMap) (fetch : Fetch) (under : Option Fetch) (reply : Reply) → IsSoundWord (Other reply) → IsOther before after world fetch under reply → after ≡ before
     → count_after before (Other reply) ≡ before → IsHeard before world fetch (Other reply) × (count_after before (Other reply) ≡ after)
 quiet_own before after world fetch under reply sound is still same = (
   record {

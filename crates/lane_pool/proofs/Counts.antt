@@ -2,13 +2,13 @@
 use Rattle.std.proofs.Common.{ℕ, ◌≤◌, max, Option, arith}
 use Rattle.acq_base.specs.declared.fetch.Job.{Job}
 use Rattle.acq_base.specs.declared.fetch.Reply.TheVariants as replies
-use Rattle.acq_base.specs.Mirror.{World}
+use Rattle.acq_base.specs.Mirror.{MirrorMap}
 use Rattle.acq_outside.specs.declared.word.Word.{Word}
 use Rattle.acq_outside.specs.declared.word.Word.TheVariants.{Piece, Done, Other}
 use Rattle.lane_pool.specs.Words.{count_after, IsWordTo, IsInOrder}
 
 -- a word that is in order leaves the last count at or above what it was
-pub rises_to : (last : ℕ) (world : Option World) (job : Job) (word : Word) → IsInOrder last word → IsWordTo world job word → last ≤ count_after last word
+pub rises_to : (last : ℕ) (world : Option MirrorMap) (job : Job) (word : Word) → IsInOrder last word → IsWordTo world job word → last ≤ count_after last word
 rises_to last world job (Piece place bytes) order is = omega arith
 rises_to last world job (Done size) order is = omega arith
 rises_to last world job (Other (replies.Fault before after)) order is = let a = is.says.counted.0 in let b = is.says.counted.1 in let c = is.rises in omega arith

@@ -4,20 +4,20 @@ use mathlib.Core.Logic.{dite}
 use native.Mathlib.Decide.{ℕ_discrete}
 use Rattle.std.proofs.lemmas.List.{length-append, get_or-map, ext_get_or, length-map}
 use Rattle.crossbeam_channel.specs.Claims.{view}
-use Rattle.acq_base.specs.Mirror.{World}
+use Rattle.acq_base.specs.Mirror.{MirrorMap}
 use Rattle.acq_outside.specs.declared.word.Fetch.{Fetch}
 use Rattle.lane_pool.specs.declared.rule.View.{View}
-use Rattle.lane_pool.specs.declared.desk.Desk.{Desk}
+use Rattle.lane_pool.specs.declared.desk.Coordinator.{Coordinator}
 use Rattle.lane_pool.specs.declared.replies.Replies.{Replies}
 use Rattle.lane_pool.specs.declared.lane.Lane.{Lane}
 use Rattle.lane_pool.specs.Pool.{NoneFell}
 use Rattle.lane_pool.specs.Rule.{with_note, AreBounded}
-use Rattle.lane_pool.specs.Standing.{IsLane, AreLanes, AreBack, pool_of}
+use Rattle.lane_pool.specs.Refinement.{IsLane, AreLanes, AreBack, pool_of}
 use Rattle.lane_pool.proofs.Rows.{get_snoc_or, get_last_or, none_fell_at}
 
-module _ {M : Type 0} (world : M → Option World) (faults : M → ℕ) where
+module _ {M : Type 0} (world : M → Option MirrorMap) (faults : M → ℕ) where
   -- where a loop that joins the workers stands: those of `lanes` were joined
-  pub record AreJoined (before : Replies) (desk : Desk) (all : List M) (lanes : List (Lane M)) (back : List M) : Type 0 where
+  pub record AreJoined (before : Replies) (desk : Coordinator) (all : List M) (lanes : List (Lane M)) (back : List M) : Type 0 where
     pub sends : desk.sends ≡ before.sends
     pub taken : (view desk.pass).taken ≡ (view before.pass).taken
     pub notes : length (view desk.pass).notes ≡ 1 + length lanes
@@ -26,8 +26,8 @@ module _ {M : Type 0} (world : M → Option World) (faults : M → ℕ) where
     pub worlds : (i : ℕ) (d : M) (e : Lane M) → i < length lanes → world (slice_index_or back (length all + i) d) ≡ world (slice_index_or lanes i e).worker.method.value
     pub counts : (i : ℕ) (d : M) → i < length lanes → slice_index (view desk.pass).notes (1 + i) ≤ faults (slice_index_or back (length all + i) d)
 
-module _ {M : Type 0} (world : M → Option World) (faults : M → ℕ) where
-  pub joins : (before : Replies) (desk desk' : Desk) (all : List M) (lanes : List (Lane M)) (back : List M) (p : Lane M) (w : View) (m : M) → AreJoined world faults before desk all lanes back
+module _ {M : Type 0} (world : M → Option MirrorMap) (faults : M → ℕ) where
+  pub joins : (before : Replies) (desk desk' : Coordinator) (all : List M) (lanes : List (Lane M)) (back : List M) (p : Lane M) (w : View) (m : M) → AreJoined world faults before desk all lanes back
       → desk'.sends ≡ desk.sends → view desk'.pass ≡ with_note (view desk.pass) w → world m ≡ world p.worker.method.value → w.last ≤ faults m
       → AreJoined world faults before desk' all (lanes ++ p ∷ []) (back ++ m ∷ [])
   joins before desk desk' all lanes back p w m j e v same last =
@@ -56,7 +56,7 @@ module _ {M : Type 0} (world : M → Option World) (faults : M → ℕ) where
             let f = get_snoc_or (view desk.pass).notes w.last 0 (1 + i) (let g = j.notes in omega arith) in let o = j.counts i d h' in omega arith);
       }
 
-  pub all_back : (before : Replies) (desk desk' : Desk) (all : List M) (lanes : List (Lane M)) (back : List M) → AreLanes world before lanes → AreJoined world faults before desk all lanes back
+  pub all_back : (before : Replies) (desk desk' : Coordinator) (all : List M) (lanes : List (Lane M)) (back : List M) → AreLanes world before lanes → AreJoined world faults before desk all lanes back
       → view desk'.pass ≡ view desk.pass → AreBounded (view desk'.pass) → AreBack world faults all lanes back
   all_back before desk desk' all lanes back s j v b = record {
     len = j.len;
@@ -81,7 +81,7 @@ no_more lanes yielded (x ∷ xs) n e l z = absurd (omega arith)
 pub one_more : {A : Type 0} (lanes yielded rest rest' : List A) (p : A) → lanes ≡ yielded ++ rest → rest ≡ p ∷ rest' → lanes ≡ (yielded ++ p ∷ []) ++ rest'
 one_more lanes yielded rest rest' p e s = e ∙ ap (λ y. yielded ++ y) s ∙ sym (append_assoc yielded (p ∷ []) rest')
 
-module _ {M : Type 0} (world : M → Option World) (faults : M → ℕ) (under : M → Option Fetch) where
+module _ {M : Type 0} (world : M → Option MirrorMap) (faults : M → ℕ) (under : M → Option Fetch) where
   len_back : (own : M) (all : List M) (lanes : List (Lane M)) (back : List M) → all ≡ own ∷ [] → AreBack world faults all lanes back → length back ≡ suc (length lanes)
   len_back own all lanes back one b = let a = ap length one in let e = b.len in omega arith
 
@@ -94,7 +94,7 @@ module _ {M : Type 0} (world : M → Option World) (faults : M → ℕ) (under :
   -- the methods that are back tell the mirrors of the lanes
   pub worlds_back : (own : M) (all : List M) (lanes : List (Lane M)) (back : List M) → all ≡ own ∷ [] → AreBack world faults all lanes back → map world back ≡ (pool_of world faults under own lanes).worlds
   worlds_back own all lanes back one b =
-      let f : Lane M → Option World = λ z. world z.worker.method.value in
+      let f : Lane M → Option MirrorMap = λ z. world z.worker.method.value in
       let len = len_back own all lanes back one b in
       ext_get_or None (map world back) (world own ∷ map f lanes) (length-map back world ∙ len ∙ ap suc (sym (length-map lanes f)))
       (λ i h. at i (let a = length-map back world in omega arith))

@@ -5,17 +5,17 @@ use native.Mathlib.Decide.{ℕ_discrete}
 use Rattle.std.proofs.lemmas.List.{length-append, map-append}
 use Rattle.crossbeam_channel.specs.Claims.{view}
 use Rattle.crossbeam_channel.specs.Ends.{sends_on}
-use Rattle.acq_base.specs.Mirror.{World}
+use Rattle.acq_base.specs.Mirror.{MirrorMap}
 use Rattle.lane_pool.specs.declared.rule.View.{View}
 use Rattle.lane_pool.specs.declared.replies.Replies.{Replies}
 use Rattle.lane_pool.specs.declared.lane.Lane.{Lane}
 use Rattle.lane_pool.specs.Rule.{with_lane}
-use Rattle.lane_pool.specs.Standing.{IsLane, AreLanes}
+use Rattle.lane_pool.specs.Refinement.{IsLane, AreLanes}
 use Rattle.lane_pool.proofs.Rows.{get_snoc_or, get_last_or}
 
-module _ {M : Type 0} (world : M → Option World) where
+module _ {M : Type 0} (world : M → Option MirrorMap) where
   -- one lane more
-  pub opened : (replies replies' : Replies) (lanes : List (Lane M)) (p : Lane M) (w : Option World) (count number : ℕ) → AreLanes world replies lanes → replies'.sends ≡ replies.sends
+  pub opened : (replies replies' : Replies) (lanes : List (Lane M)) (p : Lane M) (w : Option MirrorMap) (count number : ℕ) → AreLanes world replies lanes → replies'.sends ≡ replies.sends
       → view replies'.pass ≡ with_lane w count (view replies.pass) → p.worker.lane ≡ number → number ≡ length lanes + 1 → sends_on p.worker.sends.value ≡ sends_on replies.sends
       → w ≡ world p.worker.method.value → p.last ≡ count → AreLanes world replies' (lanes ++ p ∷ [])
   opened replies replies' lanes p w count number s e v lane is on mirror last =
@@ -31,7 +31,7 @@ module _ {M : Type 0} (world : M → Option World) where
             (λ (q : i ≡ length lanes). subst (λ (y : Lane M). IsLane world replies' (1 + i) y) (sym (get_last_or lanes p d i q)) record {
               number_is = lane ∙ is ∙ omega arith;
               on = on ∙ sym (ap sends_on e);
-              mirror = ap (λ (l : List (Option World)). get_or l (1 + i) None) worlds ∙ get_last_or u.worlds w None (1 + i) (let c = s.worlds in omega arith) ∙ mirror;
+              mirror = ap (λ (l : List (Option MirrorMap)). get_or l (1 + i) None) worlds ∙ get_last_or u.worlds w None (1 + i) (let c = s.worlds in omega arith) ∙ mirror;
               below = let a = ap (λ (l : List ℕ). get_or l (1 + i) 0) taken in let b = get_last_or u.taken count 0 (1 + i) (let c = s.taken in omega arith) in omega arith;
             })
             (λ (q : i ≢ length lanes). let h' : i < length lanes = omega arith in
@@ -39,7 +39,7 @@ module _ {M : Type 0} (world : M → Option World) where
             subst (λ (y : Lane M). IsLane world replies' (1 + i) y) (sym (get_snoc_or lanes p d i h')) record {
               number_is = o.number_is;
               on = o.on ∙ sym (ap sends_on e);
-              mirror = ap (λ (l : List (Option World)). get_or l (1 + i) None) worlds ∙ get_snoc_or u.worlds w None (1 + i) (let c = s.worlds in omega arith) ∙ o.mirror;
+              mirror = ap (λ (l : List (Option MirrorMap)). get_or l (1 + i) None) worlds ∙ get_snoc_or u.worlds w None (1 + i) (let c = s.worlds in omega arith) ∙ o.mirror;
               below = let a = ap (λ (l : List ℕ). get_or l (1 + i) 0) taken in let b = get_snoc_or u.taken count 0 (1 + i) (let c = s.taken in omega arith) in let d = o.below in omega arith;
             });
       }

@@ -8,7 +8,7 @@ use Rattle.std.proofs.Math.ListN.{length-set}
 use Rattle.std.proofs.lemmas.List.{get_or-set_same, get_or-set_other, length-append}
 use Rattle.crossbeam_channel.specs.Fifo.{Pushes, Pops, Forks, Merges, Learns}
 use Rattle.atomic_table.proofs.Lists.{at_set, at_snoc}
-use Rattle.acq_base.specs.Mirror.{World}
+use Rattle.acq_base.specs.Mirror.{MirrorMap}
 use Rattle.lane_pool.specs.declared.told.Told.{Told}
 use Rattle.lane_pool.specs.declared.rule.View.{View}
 use Rattle.lane_pool.specs.Words.{count_after, IsWordTo, IsInOrder}
@@ -90,7 +90,7 @@ begins = record {
     zeros zero = refl
     zeros (suc l) = refl
 
-    nones : (l : ℕ) → (let z : Option World = None in get_or (z ∷ []) l z ≡ z)
+    nones : (l : ℕ) → (let z : Option MirrorMap = None in get_or (z ∷ []) l z ≡ z)
     nones zero = refl
     nones (suc l) = refl
 
@@ -132,7 +132,7 @@ sends n pass v x live away lane word order items views room k at =
             (λ (is : x ≡ y). subst (λ (z : Told). FitsWaiting k.world last k.lanes z) is record {
               a_worker = omega arith;
               a_lane = let a = mine.a_lane in omega arith;
-              word = subst (λ (z : Option World). IsWordTo z x.job x.word) same word;
+              word = subst (λ (z : Option MirrorMap). IsWordTo z x.job x.word) same word;
               below = let a = here x.lane lane in omega arith;
             }) (at_snoc items x y i e);
         known = each_set F views pass w
@@ -195,11 +195,11 @@ receives pass v live lane x items views k at =
             })
             (λ j u other e up. k.known j u e up);
       },
-      record { a_worker = fits.a_worker; a_lane = a_lane; word = subst (λ (z : Option World). IsWordTo z x.job x.word) (sym (c.worlds x.lane fits.a_lane)) fits.word; then = refl },
+      record { a_worker = fits.a_worker; a_lane = a_lane; word = subst (λ (z : Option MirrorMap). IsWordTo z x.job x.word) (sym (c.worlds x.lane fits.a_lane)) fits.word; then = refl },
     )
 
 -- splitting off a new worker's pass
-pub splits : (world : Option World) (count pass : ℕ) (v : View) → v.live ≡ true → v.lane ≡ 0 → Forks IsKept pass v (with_lane world count v) (worker_of world count v)
+pub splits : (world : Option MirrorMap) (count pass : ℕ) (v : View) → v.live ≡ true → v.lane ≡ 0 → Forks IsKept pass v (with_lane world count v) (worker_of world count v)
 splits world count pass v live lane items views k at =
     let mine = k.known pass v at live in
     let c : FitsCoordinator k.world k.last k.lanes k.back v = mine.coordinator lane in
@@ -208,7 +208,7 @@ splits world count pass v live lane items views k at =
     let pass' : ℕ = length (set views pass w) in
     let owner : ℕ → ℕ = put k.owner k.lanes pass' in
     let last : ℕ → ℕ = put k.last k.lanes count in
-    let worlds : ℕ → Option World = put k.world k.lanes world in
+    let worlds : ℕ → Option MirrorMap = put k.world k.lanes world in
     let same : (l : ℕ) → l < k.lanes → worlds l ≡ k.world l = λ l h. put_else k.world k.lanes world l (λ e. omega arith) in
     let owned : (l : ℕ) → l < k.lanes → owner l ≡ k.owner l = λ l h. put_else k.owner k.lanes pass' l (λ e. omega arith) in
     let lasts : (l : ℕ) → l < k.lanes → last l ≡ k.last l = λ l h. put_else k.last k.lanes count l (λ e. omega arith) in
@@ -223,7 +223,7 @@ splits world count pass v live lane items views k at =
       back = k.back;
       some_back = k.some_back;
       few_back = let a = k.few_back in omega arith;
-      waiting = λ i y e. let f = k.waiting i y e in record { a_worker = f.a_worker; a_lane = let a = f.a_lane in omega arith; word = subst (λ (z : Option World). IsWordTo z y.job y.word) (sym (same y.lane f.a_lane)) f.word; below = let a = f.below in let b = lasts y.lane f.a_lane in omega arith };
+      waiting = λ i y e. let f = k.waiting i y e in record { a_worker = f.a_worker; a_lane = let a = f.a_lane in omega arith; word = subst (λ (z : Option MirrorMap). IsWordTo z y.job y.word) (sym (same y.lane f.a_lane)) f.word; below = let a = f.below in let b = lasts y.lane f.a_lane in omega arith };
       known = each_snoc F (set views pass w) new
           (λ _. record {
             owns = sym (ap owner c.counted ∙ put_here k.owner k.lanes pass' k.lanes refl);

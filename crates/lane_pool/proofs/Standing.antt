@@ -8,17 +8,17 @@ use Rattle.std.proofs.Math.Seq.{map-set_same}
 use Rattle.std.proofs.lemmas.List.{get_or-set_same, get_or-set_other, set-get_or}
 use Rattle.crossbeam_channel.specs.Claims.{view}
 use Rattle.crossbeam_channel.specs.Ends.{sends_on}
-use Rattle.acq_base.specs.Mirror.{World}
+use Rattle.acq_base.specs.Mirror.{MirrorMap}
 use Rattle.acq_outside.specs.declared.word.Fetch.{Fetch}
 use Rattle.lane_pool.specs.declared.told.Told.{Told}
 use Rattle.lane_pool.specs.declared.rule.View.{View}
 use Rattle.lane_pool.specs.declared.replies.Replies.{Replies}
 use Rattle.lane_pool.specs.declared.lane.Lane.{Lane}
 use Rattle.lane_pool.specs.Words.{count_after, IsHeard}
-use Rattle.lane_pool.specs.Pool.{Pool, IsTold, NoneFell}
+use Rattle.lane_pool.specs.Pool.{Pool, IsWordTaken, NoneFell}
 use Rattle.lane_pool.specs.Rule.{world_at, IsReceived}
 use Rattle.lane_pool.specs.Slot.{IsChecked}
-use Rattle.lane_pool.specs.Standing.{pool_of, IsLane, AreLanes, HasReplies}
+use Rattle.lane_pool.specs.Refinement.{pool_of, IsLane, AreLanes, HasReplies}
 use Rattle.lane_pool.proofs.Counts.{after_within}
 use Rattle.lane_pool.proofs.Heard.{is_heard}
 use Rattle.lane_pool.proofs.Rows.{set_behind, slice_get_behind, get_or_behind, none_fell_refl, none_fell_set}
@@ -29,7 +29,7 @@ pub last_below : (o : Option Told) (told : Told) (out out' : Option Fetch) (B : 
 last_below None told out out' B last last' n some none same low = let e = same none in omega arith
 last_below (Some t) told out out' B last last' n some none same low = let e = some.1.counts in let h = after_within last n told.word low in omega arith
 
-module _ {M : Type 0} (world : M → Option World) where
+module _ {M : Type 0} (world : M → Option MirrorMap) where
   pub took : (replies replies' : Replies) (lanes : List (Lane M)) (x : Told) (p p' : Lane M) → AreLanes world replies lanes → replies'.sends ≡ replies.sends
       → IsReceived (view replies.pass) x (view replies'.pass) → p ≡ get_or lanes (x.lane - 1) p → p'.worker ≡ p.worker
       → ((n : ℕ) → p.last ≤ n → p'.last ≤ max n (count_after 0 x.word)) → AreLanes world replies' (set lanes (x.lane - 1) p')
@@ -69,10 +69,10 @@ module _ {M : Type 0} (world : M → Option World) where
             });
       }
 
-module _ {M : Type 0} (world : M → Option World) (faults : M → ℕ) (under : M → Option Fetch) where
+module _ {M : Type 0} (world : M → Option MirrorMap) (faults : M → ℕ) (under : M → Option Fetch) where
   pub same_worlds : (own : M) (lanes : List (Lane M)) (k : ℕ) (p p' : Lane M) → p ≡ get_or lanes k p → p'.worker ≡ p.worker
       → (pool_of world faults under own (set lanes k p')).worlds ≡ (pool_of world faults under own lanes).worlds
-  same_worlds own lanes k p p' is same = ap (λ (y : List (Option World)). world own ∷ y)
+  same_worlds own lanes k p p' is same = ap (λ (y : List (Option MirrorMap)). world own ∷ y)
       (map-set_same (λ (y : Lane M). world y.worker.method.value) lanes k p' p (ap (λ y. world y.method.value) same ∙ ap (λ (y : Lane M). world y.worker.method.value) is))
 
   pub same_counts : (own : M) (lanes : List (Lane M)) (k : ℕ) (p p' : Lane M) → p ≡ get_or lanes k p → p'.last ≡ p.last
@@ -86,7 +86,7 @@ module _ {M : Type 0} (world : M → Option World) (faults : M → ℕ) (under :
   pub told : (own : M) (replies : Replies) (v' : View) (lanes : List (Lane M)) (x : Told) (p p' : Lane M) (o : Option Told) → AreLanes world replies lanes
       → IsReceived (view replies.pass) x v' → p ≡ get_or lanes (x.lane - 1) p → p'.worker ≡ p.worker
       → IfSome o (λ t. (t ≡ x) × IsChecked p.slot p.last x p'.slot p'.last)
-      → IfSome o (λ t. IsTold (pool_of world faults under own lanes) t (pool_of world faults under own (set lanes (x.lane - 1) p')))
+      → IfSome o (λ t. IsWordTaken (pool_of world faults under own lanes) t (pool_of world faults under own (set lanes (x.lane - 1) p')))
   told own replies v' lanes x p p' None s t is same h = tt
   told own replies v' lanes x p p' (Some y) s t is same h =
       let k : ℕ = x.lane - 1 in
@@ -103,12 +103,12 @@ module _ {M : Type 0} (world : M → Option World) (faults : M → ℕ) (under :
       ∙ ap (λ (z : Lane M). world z.worker.method.value) (sym is) ∙ sym old.mirror ∙ ap (λ l. world_at (view replies.pass) l) lane in
       let before : get_or P.counts x.lane 0 ≡ p.last = get_or_behind (λ (z : Lane M). z.last) (faults own) lanes p 0 x.lane a_worker there ∙ ap (λ (z : Lane M). z.last) (sym is) in
       let heard : IsHeard p.last (world_at (view replies.pass) x.lane) test.fetch x.word = is_heard p.last (world_at (view replies.pass) x.lane) test.fetch x.job x.word t.word test.job test.stands test.in_order in
-      subst (λ (z : Told). IsTold P z Q) (sym h.0) record {
+      subst (λ (z : Told). IsWordTaken P z Q) (sym h.0) record {
         fetch = test.fetch;
         worker = a_worker;
         out = out ∙ ap (λ (z : Option Fetch). Some z) test.out_is;
         job = test.job;
-        heard = subst (λ (z : ℕ × Option World). IsHeard z.0 z.1 test.fetch x.word) (λ j. (sym before j, sym w j)) heard;
+        heard = subst (λ (z : ℕ × Option MirrorMap). IsHeard z.0 z.1 test.fetch x.word) (λ j. (sym before j, sym w j)) heard;
         worlds = same_worlds own lanes k p p' is same;
         counts = set_behind (λ (z : Lane M). z.last) (faults own) lanes p' x.lane a_worker ∙ ap (λ (n : ℕ). set P.counts x.lane n) (c.counts ∙ ap (λ (n : ℕ). count_after n x.word) (sym before));
         outs = set_behind (λ (z : Lane M). z.slot) (under own) lanes p' x.lane a_worker ∙ ap (λ (z : Option Fetch). set P.outs x.lane z) c.goes_on;
@@ -119,11 +119,11 @@ pub unchanged : {A : Type 0} (o : Option Told) (xs : List A) (k : ℕ) (p p' : A
 unchanged None xs k p p' is same = ap (λ y. set xs k y) (same ∙ is) ∙ set-get_or xs k p
 unchanged (Some t) xs k p p' is same = tt
 
-pub told_worlds : (o : Option Told) (P Q : Pool) → IfSome o (λ t. IsTold P t Q) → IfNone o (Q ≡ P) → Q.worlds ≡ P.worlds
+pub told_worlds : (o : Option Told) (P Q : Pool) → IfSome o (λ t. IsWordTaken P t Q) → IfNone o (Q ≡ P) → Q.worlds ≡ P.worlds
 told_worlds None P Q some none = ap (λ (p : Pool). p.worlds) none
 told_worlds (Some t) P Q some none = some.worlds
 
-pub told_counts : (o : Option Told) (P Q : Pool) → IfSome o (λ t. IsTold P t Q) → IfNone o (Q ≡ P) → NoneFell P.counts Q.counts
+pub told_counts : (o : Option Told) (P Q : Pool) → IfSome o (λ t. IsWordTaken P t Q) → IfNone o (Q ≡ P) → NoneFell P.counts Q.counts
 told_counts None P Q some none = subst (λ (p : Pool). NoneFell P.counts p.counts) (sym none) (none_fell_refl P.counts)
 told_counts (Some t) P Q some none = subst (λ (l : List ℕ). NoneFell P.counts l) (sym some.counts) (none_fell_set P.counts t.lane _ (let h = some.heard in let a = h.in_order in let b = h.rises in omega arith))
 
@@ -132,7 +132,7 @@ if_none None P Q f h = f h
 if_none (Some x) P Q f h = tt
 
 -- a job that went to a lane or came back
-module _ {M : Type 0} (world : M → Option World) where
+module _ {M : Type 0} (world : M → Option MirrorMap) where
   pub given : (replies : Option Replies) (lanes : List (Lane M)) (k : ℕ) (p p' : Lane M) → HasReplies world replies lanes → k < length lanes → p ≡ get_or lanes k p → p'.worker ≡ p.worker → p'.last ≡ p.last
       → HasReplies world replies (set lanes k p')
   given None lanes k p p' s there is same last = absurd (let e = ap length s in omega arith)

@@ -1,7 +1,7 @@
 -- What holds of a lane's words over a whole run.
 use Rattle.std.specs.Prelude.{◌≡◌, ℕ, ◌≤◌, List, [], ◌∷◌, ◌++◌, Option}
 use Rattle.acq_base.specs.declared.fetch.Reply.TheVariants as replies
-use Rattle.acq_base.specs.Mirror.{World}
+use Rattle.acq_base.specs.Mirror.{MirrorMap}
 use Rattle.acq_outside.specs.declared.word.Fetch.{Fetch}
 use Rattle.acq_outside.specs.declared.word.Word.{Word}
 use Rattle.acq_outside.specs.declared.word.Word.TheVariants.{Piece, Done, Other}
@@ -10,7 +10,7 @@ use Rattle.lane_pool.specs.Words.{count_after, IsHeard}
 
 -- Words of a lane, each with the fetch that was out, taken one after another: the lane's count is `last` before them, and its
 -- method's count is `count` when it comes back.
-abbrev pub AreHeard : Option World → ℕ → List (Fetch × Word) → ℕ → Type 0
+abbrev pub AreHeard : Option MirrorMap → ℕ → List (Fetch × Word) → ℕ → Type 0
 AreHeard world last [] count = last ≤ count
 AreHeard world last (step ∷ steps) count = IsHeard last world step.0 step.1 × AreHeard world (count_after last step.1) steps count
 
@@ -38,9 +38,9 @@ AreApart start (fault ∷ faults) end = (start ≤ fault.0) × (fault.0 ≤ faul
 
 -- The faults of a lane don't overlap, and lie between the lane's count before them and its method's at the end.
 abbrev pub FaultsAreApart : Type 0
-FaultsAreApart = (world : Option World) (start count : ℕ) (steps : List (Fetch × Word)) → AreHeard world start steps count → AreApart start (faults_of steps) count
+FaultsAreApart = (world : Option MirrorMap) (start count : ℕ) (steps : List (Fetch × Word)) → AreHeard world start steps count → AreApart start (faults_of steps) count
 
 -- A word of the coordinator's own fetch is one that could have come over a lane, whose count it leaves at the method's.
 abbrev pub OwnWordsAreHeard : Type 0
-OwnWordsAreHeard = (before after : ℕ) (world : Option World) (fetch : Fetch) (under : Option Fetch) (word : Word) → before ≤ after → IsSoundWord word → IsWord before after world fetch under word
+OwnWordsAreHeard = (before after : ℕ) (world : Option MirrorMap) (fetch : Fetch) (under : Option Fetch) (word : Word) → before ≤ after → IsSoundWord word → IsWord before after world fetch under word
     → IsHeard before world fetch word × (count_after before word ≡ after)

@@ -8,4 +8,4 @@ pub mod Rule
 pub mod Slot
 pub mod Working
 pub mod Promises
-pub mod Standing
+pub mod Refinement

@@ -1,6 +1,6 @@
 -- Lanes as callers see them. Lane 0 is the coordinator's own method, and each further lane is a worker's.
 use Rattle.std.specs.Prelude.{◌≡◌, ℕ, ◌<◌, ◌≤◌, List, [], ◌∷◌, map, slice_get, slice_set, slice_index, slice_index_or, Option, Some, None}
-use Rattle.acq_base.specs.Mirror.{World}
+use Rattle.acq_base.specs.Mirror.{MirrorMap}
 use Rattle.acq_outside.specs.declared.word.Fetch.{Fetch}
 use Rattle.acq_outside.specs.Word.{after_word}
 use Rattle.lane_pool.specs.declared.told.Told.{Told}
@@ -9,7 +9,7 @@ use Rattle.lane_pool.specs.Words.{count_after, IsHeard}
 -- By lane: the mirror that its method tells, if it tells one; its last count of faults, at first the method's own; and the
 -- fetch that is out on it.
 pub record Pool : Type 0 where
-  pub worlds : List (Option World)
+  pub worlds : List (Option MirrorMap)
   pub counts : List ℕ
   pub outs : List (Option Fetch)
 
@@ -19,7 +19,7 @@ outs_at_start under [] = []
 outs_at_start under (own ∷ others) = under own ∷ map (λ method. None) others
 
 -- the coordinator's own lane
-abbrev pub own_world : Pool → Option World
+abbrev pub own_world : Pool → Option MirrorMap
 own_world pool = slice_index_or pool.worlds 0 None
 
 abbrev pub own_count : Pool → ℕ
@@ -38,7 +38,7 @@ pub record OthersStay (old new : Pool) : Type 0 where
 
 -- A word was taken: it is to the job that is out on its lane, at the place where that job's bytes end, and its lane goes on
 -- behind it.
-pub record IsTold (old : Pool) (told : Told) (new : Pool) : Type 0 where
+pub record IsWordTaken (old : Pool) (told : Told) (new : Pool) : Type 0 where
   -- the fetch that was out
   pub fetch : Fetch
   pub worker : 0 < told.lane

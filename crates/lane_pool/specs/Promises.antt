@@ -2,13 +2,13 @@
 use Rattle.std.specs.Prelude.{◌≡◌, ℕ, Option}
 use Rattle.crossbeam_channel.specs.Claims.{view, IsSeatAt}
 use Rattle.crossbeam_channel.specs.Ends.{sends_on}
-use Rattle.acq_base.specs.Mirror.{World}
+use Rattle.acq_base.specs.Mirror.{MirrorMap}
 use Rattle.acq_outside.specs.Frame.{FetchesBy}
 use Rattle.lane_pool.specs.declared.work.Returned.{Returned}
 use Rattle.lane_pool.specs.declared.worker.Promised.{Promised}
 use Rattle.lane_pool.specs.Working.{IsWorker}
 
-module _ {M : Type 0} (world : M → Option World) (faults : M → ℕ) where
+module _ {M : Type 0} (world : M → Option MirrorMap) (faults : M → ℕ) where
   -- It hands back its method, with the same mirror and no lower count, and its lane's pass, whose last count is at or below
   -- the method's.
   pub record HandsBack (promised : Promised M) (back : Returned M) : Type 0 where

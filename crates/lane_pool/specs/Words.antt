@@ -2,7 +2,7 @@
 use Rattle.std.specs.Prelude.{◌≡◌, ℕ, ◌≤◌, Option}
 use Rattle.acq_base.specs.declared.fetch.Job.{Job}
 use Rattle.acq_base.specs.declared.fetch.Reply.TheVariants as replies
-use Rattle.acq_base.specs.Mirror.{World}
+use Rattle.acq_base.specs.Mirror.{MirrorMap}
 use Rattle.acq_outside.specs.declared.word.Fetch.{Fetch}
 use Rattle.acq_outside.specs.declared.word.Word.{Word}
 use Rattle.acq_outside.specs.declared.word.Word.TheVariants.{Piece, Done, Other}
@@ -31,7 +31,7 @@ abbrev pub fetch_at : Job → Word → Fetch
 fetch_at job word = record { job = job; at = place_of job word }
 
 -- A word that a method with this mirror gives to this very job, at the word's own place.
-pub record IsWordTo (world : Option World) (job : Job) (word : Word) : Type 0 where
+pub record IsWordTo (world : Option MirrorMap) (job : Job) (word : Word) : Type 0 where
   -- the method's counts of faults before it and after it
   pub before : ℕ
   pub after : ℕ
@@ -59,7 +59,7 @@ IsInOrder last (Other replies.NoMemory) = Unit {0}
 
 -- A word of a method with this mirror to the fetch that is out on its lane, where the last count taken of the lane is
 -- `last`: the method's count stood at `before` when it was asked, and is the lane's count from now on.
-pub record IsHeard (last : ℕ) (world : Option World) (fetch : Fetch) (word : Word) : Type 0 where
+pub record IsHeard (last : ℕ) (world : Option MirrorMap) (fetch : Fetch) (word : Word) : Type 0 where
   pub before : ℕ
   pub in_order : last ≤ before
   pub rises : before ≤ count_after last word

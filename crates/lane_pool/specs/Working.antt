@@ -1,12 +1,12 @@
 -- What a worker keeps while it answers jobs.
 use Rattle.std.specs.Prelude.{◌≡◌, ℕ, ◌<◌, ◌≤◌, Bool, true, false, Option}
-use Rattle.acq_base.specs.Mirror.{World}
+use Rattle.acq_base.specs.Mirror.{MirrorMap}
 use Rattle.acq_outside.specs.declared.word.Word.{Word}
 use Rattle.acq_outside.specs.declared.word.Word.TheVariants.{Piece, Done, Other}
 use Rattle.lane_pool.specs.declared.rule.View.{View}
 
 -- a worker's view, beside the mirror and the count of its method
-pub record IsWorker (lane : ℕ) (v : View) (world : Option World) (count : ℕ) : Type 0 where
+pub record IsWorker (lane : ℕ) (v : View) (world : Option MirrorMap) (count : ℕ) : Type 0 where
   pub live : v.live ≡ true
   pub lane_is : v.lane ≡ lane
   pub a_worker : 0 < lane

@@ -8,7 +8,7 @@ use crate::rule::{Bounds, LanePass, ReplySender, TakesBack};
 
 /// The coordinator's pass once nothing is received any more.
 #[derive(Drop)]
-pub struct Desk {
+pub struct Coordinator {
     pub sends: ReplySender,
     pub pass: LanePass,
     ghost seat: { IsSeatAt (sends_on sends) pass },
@@ -16,7 +16,7 @@ pub struct Desk {
     ghost coordinator: { (view pass).lane ≡ 0 },
 }
 
-impl Desk {
+impl Coordinator {
     /// Takes the pass of the next worker's lane back in.
     pub fn take_back(&mut self, pass: LanePass)
         requires seat { IsSeatAt (sends_on self.old.sends) pass }
@@ -29,7 +29,7 @@ impl Desk {
     }
 
     /// What was taken of the lanes that are back is at or below their last counts.
-    pub fn settle(&mut self)
+    pub fn learn_counts(&mut self)
         ensures sends { self.new.sends ≡ self.old.sends }
         ensures view { view self.new.pass ≡ view self.old.pass }
         ensures bounds { AreBounded (view self.new.pass) }

@@ -1,7 +1,7 @@
 //! Ending the workers.
 ghost use Rattle.std.specs.Prelude.{◌≡◌, ◌<◌, map, vec_len, vec_capacity};
 ghost use Rattle.lane_pool.specs.Pool.{NoneFell};
-ghost use Rattle.lane_pool.specs.Standing.{AreBack, AreLanes};
+ghost use Rattle.lane_pool.specs.Refinement.{AreBack, AreLanes};
 
 use crate::Lanes;
 use crate::lane::Lane;
@@ -67,6 +67,6 @@ fn join_all<M: Method + Send + 'static, R: Threads>(
             unreachable!()
         };
     }
-    desk.settle();
+    desk.learn_counts();
     all
 }

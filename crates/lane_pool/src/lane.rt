@@ -11,7 +11,7 @@ ghost use Rattle.lane_pool.specs.Words.{count_after, fetch_at, IsInOrder, Stands
 use crate::Told;
 use crate::replies::Replies;
 use crate::rule::ReplySender;
-use crate::slot::Slot;
+use crate::slot::FetchOut;
 use crate::work::Sent;
 use crate::worker::{Worker, hire};
 use acq_base::{Job, Reply};
@@ -26,7 +26,7 @@ use std::thread::Threads;
 #[derive(Drop)]
 pub struct Lane<M: Method> {
     pub worker: Worker<M>,
-    pub slot: Slot,
+    pub slot: FetchOut,
     pub last: u64,
 }
 
@@ -35,7 +35,7 @@ pub struct Lane<M: Method> {
 pub struct Kit {
     pub jobs: (Sender<Sent>, Receiver<Sent>),
     pub sends: ReplySender,
-    pub slot: Slot,
+    pub slot: FetchOut,
 }
 
 /// Opens the next lane, and starts its worker.
@@ -79,7 +79,7 @@ impl<M: Method> Lane<M> {
         if self.slot.is_out() {
             return Err(job);
         }
-        self.slot.note(&job);
+        self.slot.record_out(&job);
         match self.worker.give(rt, job) {
             Ok(()) => Ok(()),
             Err(job) => {

@@ -2,8 +2,8 @@
 ghost use Rattle.std.specs.Prelude.{◌≡◌, ◌<◌, ℕ, None, Some, slice_get, slice_set, vec_len, vec_capacity, IfSome, IfNone, IfErr, IsSome, OnErr, OnOk};
 ghost use Rattle.acq_base.specs.Uri.{IsSound};
 ghost use Rattle.acq_outside.specs.Word.{CanBegin, IsSoundWord, IsWord, begun};
-ghost use Rattle.lane_pool.specs.Pool.{IsTold, OthersStay, NoneFell, own_count, own_fetch, own_world};
-ghost use Rattle.lane_pool.specs.Standing.{AreLanes, pool_of};
+ghost use Rattle.lane_pool.specs.Pool.{IsWordTaken, OthersStay, NoneFell, own_count, own_fetch, own_world};
+ghost use Rattle.lane_pool.specs.Refinement.{AreLanes, pool_of};
 
 use crate::Told;
 use crate::lane::Lane;
@@ -30,7 +30,7 @@ pub struct Lanes<M: Method> {
 impl<M: Method> Model for Lanes<M> {
     ghost use Rattle.std.specs.Prelude.{◌≡◌, ◌<◌, ◌≤◌, vec_len, vec_capacity};
     ghost use Rattle.lane_pool.specs.Pool.{Pool};
-    ghost use Rattle.lane_pool.specs.Standing.{pool_of, HasReplies};
+    ghost use Rattle.lane_pool.specs.Refinement.{pool_of, HasReplies};
 
     ghost Value = { Pool };
 
@@ -66,7 +66,7 @@ impl<M: Method + Send + 'static> Lanes<M> {
     pub fn take<R: Wait>(&mut self, rt: &R) -> Option<Told>
         ensures worlds { self.new.worlds ≡ self.old.worlds }
         ensures counts { NoneFell self.old.counts self.new.counts }
-        ensures told { IfSome result (λ told. IsTold self.old told self.new) }
+        ensures told { IfSome result (λ told. IsWordTaken self.old told self.new) }
         ensures none { IfNone result (self.new ≡ self.old) }
     {
         let waits = self.has_out();
@@ -114,7 +114,7 @@ fn take_from<M: Method, R: Wait>(
     requires { AreLanes M.world replies.old lanes.old.items }
     ensures lanes { AreLanes M.world replies.new lanes.new.items }
     ensures len { vec_len lanes.new ≡ vec_len lanes.old }
-    ensures told { (own : M) → IfSome result (λ told. IsTold (pool_of M.world M.faults M.under own lanes.old.items) told (pool_of M.world M.faults M.under own lanes.new.items)) }
+    ensures told { (own : M) → IfSome result (λ told. IsWordTaken (pool_of M.world M.faults M.under own lanes.old.items) told (pool_of M.world M.faults M.under own lanes.new.items)) }
     ensures none { IfNone result (lanes.new.items ≡ lanes.old.items) }
 {
     let told = replies.receive(rt, waits)?;

@@ -4,6 +4,11 @@
 //! Lane 0 is the coordinator's own method. Each further lane is a worker's, which takes one job at a time and sends each
 //! word of its method by itself. All words come over one channel, whose rule says that each is the word of its lane's
 //! method to the job that it names. Nothing here says that a word comes, or in which order words of different lanes do.
+//!
+//! `start` takes the methods, `give` hands a job out or back (`back`), `take` gives a word that is its lane's
+//! method's to the very job that is out there (`told`), or none, `own` and `own_more` are the coordinator's own
+//! fetch, and `finish` hands the methods back, in their order, with their mirrors. Faults of one lane don't overlap
+//! (`faults_are_apart`, a law). That a word comes, and when, is claimed nowhere.
 #![tactic(auto)]
 
 pub use lanes::Lanes;

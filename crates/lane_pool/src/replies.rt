@@ -5,7 +5,7 @@ ghost use Rattle.crossbeam_channel.specs.Ends.{sends_on, receives_on};
 ghost use Rattle.lane_pool.specs.Rule.{fresh, with_lane, worker_of, IsReceived};
 
 use crate::Told;
-use crate::desk::Desk;
+use crate::desk::Coordinator;
 use crate::rule::{
     LanePass, LaneRule, Opening, Receives, ReplyReceiver, ReplySender, Splits, View,
 };
@@ -74,7 +74,7 @@ impl Replies {
     }
 
     /// Gives up receiving.
-    pub fn close(self) -> Desk
+    pub fn close(self) -> Coordinator
         ensures sends { result.sends ≡ self.sends }
         ensures pass { result.pass ≡ self.pass }
     {
@@ -84,6 +84,6 @@ impl Replies {
             pass,
         } = self;
         drop(receives);
-        Desk { sends, pass }
+        Coordinator { sends, pass }
     }
 }

@@ -13,7 +13,7 @@ const LONGEST: usize = 16_384;
 
 /// The fetch that is out on a lane, in room that was taken before. Contracts see it as that fetch, or none.
 #[derive(Drop)]
-pub struct Slot {
+pub struct FetchOut {
     is_out: bool,
     no: u64,
     max: u64,
@@ -25,10 +25,10 @@ pub struct Slot {
     path: Vec<u8>,
 }
 
-impl Model for Slot {
+impl Model for FetchOut {
     ghost use Rattle.std.specs.Prelude.{◌≤◌, Option, vec_capacity};
     ghost use Rattle.acq_outside.specs.declared.word.Fetch.{Fetch as fetch_type};
-    ghost use Rattle.lane_pool.specs.Slot.{fetch_of};
+    ghost use Rattle.lane_pool.specs.FetchOut.{fetch_of};
 
     ghost Value = { Option fetch_type };
 
@@ -37,12 +37,12 @@ impl Model for Slot {
     ghost invariant = { λ s. (16384 ≤ vec_capacity s.host) × (16384 ≤ vec_capacity s.path) };
 }
 
-impl Slot {
+impl FetchOut {
     /// A slot with room for any job whose URI is sound.
-    pub fn new(alloc: Global) -> Result<Slot, NoMemory>
+    pub fn new(alloc: Global) -> Result<FetchOut, NoMemory>
         ensures { IfOk result (λ slot. slot ≡ None) }
     {
-        Ok(Slot {
+        Ok(FetchOut {
             is_out: false,
             no: 0,
             max: 0,
@@ -56,7 +56,7 @@ impl Slot {
     }
 
     /// Notes that this job goes out.
-    pub fn note(&mut self, job: &Job)
+    pub fn record_out(&mut self, job: &Job)
         requires { HasRoom job.now.uri }
         ensures { self.new ≡ Some (begun job.now) }
     {

@@ -4,12 +4,12 @@ ghost use Rattle.crossbeam_channel.specs.Claims.{view};
 ghost use Rattle.crossbeam_channel.specs.Ends.{sends_on};
 ghost use Rattle.lane_pool.specs.Pool.{outs_at_start};
 ghost use Rattle.lane_pool.specs.Rule.{fresh};
-ghost use Rattle.lane_pool.specs.Standing.{AreLanes};
+ghost use Rattle.lane_pool.specs.Refinement.{AreLanes};
 
 use crate::Lanes;
 use crate::lane::{Kit, Lane, open_lane};
 use crate::replies::Replies;
-use crate::slot::Slot;
+use crate::slot::FetchOut;
 use acq_base::NoMemory;
 use acq_outside::Method;
 use crossbeam_channel::bounded;
@@ -68,7 +68,7 @@ fn kits(alloc: Global, replies: &Replies, n: usize) -> Result<Vec<Kit>, NoMemory
     for _ in 0..n {
         let jobs = bounded(alloc, 1)?;
         let sends = replies.sends.try_clone()?;
-        let slot = Slot::new(alloc)?;
+        let slot = FetchOut::new(alloc)?;
         kits.push(Kit { jobs, sends, slot })?;
     }
     Ok(kits)

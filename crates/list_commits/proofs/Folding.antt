@@ -4,7 +4,7 @@ use Rattle.std.specs.List.{AllByRecursion as Each}
 use Rattle.acq_base.specs.Sum.{sum_of}
 use Rattle.acq_base.specs.declared.uri.ListName.{ListName}
 use Rattle.acq_outside.specs.Disk.{Files, with_file}
-use Rattle.journal_model.specs.Names.{is_list}
+use Rattle.journal_model.specs.Names.{is_installed_name}
 use Rattle.journal_model.proofs.Twice.{with_same, with_other}
 use Rattle.update_model.specs.Files.{sum_of_body}
 use Rattle.update_model.specs.declared.ask.Body.{Body}
@@ -30,17 +30,17 @@ abbrev pub there_after : (List ℕ → List ℕ) → Change → Option (List ℕ
 there_after part (Put name content) = Some (content_of part name.0 content)
 there_after part (Drop name) = None
 
-step_at : (part : List ℕ → List ℕ) (folder : Files) (change : Change) → is_list (name_in change) ≡ true → folder_step folder (filled_one part change) (name_in change) ≡ there_after part change
+step_at : (part : List ℕ → List ℕ) (folder : Files) (change : Change) → is_installed_name (name_in change) ≡ true → folder_step folder (filled_one part change) (name_in change) ≡ there_after part change
 step_at part folder (Put name content) list = rw list (with_same folder name.0 (Some (content_of part name.0 content)) name.0 refl)
 step_at part folder (Drop name) list = rw list (with_same folder name None name refl)
 
 step_beside : (part : List ℕ → List ℕ) (folder : Files) (change : Change) (name : List ℕ) → name_in change ≢ name → folder_step folder (filled_one part change) name ≡ folder name
-step_beside part folder (Put list content) name differ = by (is_list list.0)
+step_beside part folder (Put list content) name differ = by (is_installed_name list.0)
   where
     by : (t : Bool) → (if t then with_file folder list.0 (Some (content_of part list.0 content)) else folder) name ≡ folder name
     by true = with_other folder list.0 (Some (content_of part list.0 content)) name differ
     by false = refl
-step_beside part folder (Drop list) name differ = by (is_list list)
+step_beside part folder (Drop list) name differ = by (is_installed_name list)
   where
     by : (t : Bool) → (if t then with_file folder list None else folder) name ≡ folder name
     by true = with_other folder list None name differ
@@ -53,7 +53,7 @@ steps_beside part (change ∷ changes) folder name none = steps_beside part chan
 -- each is the name of a list
 abbrev pub AllLists : List (List ℕ) → Type 0
 AllLists [] = Unit {0}
-AllLists (name ∷ names) = (is_list name ≡ true) × AllLists names
+AllLists (name ∷ names) = (is_installed_name name ≡ true) × AllLists names
 
 -- one of the changes
 pub one_made : (part : List ℕ → List ℕ) (before : List Change) (change : Change) (rest : List Change) (folder : Files) → AreApart (names_in (before ++ change ∷ rest)) → AllLists (names_in (before ++ change ∷ rest))

@@ -8,8 +8,8 @@ use Rattle.acq_base.specs.declared.plan.Plan.{Plan}
 use Rattle.acq_base.specs.declared.plan.Source.{Source}
 use Rattle.acq_base.proofs.Lists.{first-or-rest}
 use Rattle.acq_outside.specs.Disk.{Files, same_name, with_file}
-use Rattle.journal_model.specs.Names.{journal, lock, partial, is_aside, is_list}
-use Rattle.journal_model.specs.Reopen.{lists}
+use Rattle.journal_model.specs.Names.{journal, lock, partial, is_own_name, is_installed_name}
+use Rattle.journal_model.specs.Reopen.{installed_files}
 use Rattle.journal_model.proofs.Twice.{with_same}
 use Rattle.journal_model.proofs.Views.{list_not_aside, partial_aside}
 use Rattle.update_model.specs.Carried.{AreLoose, Does}
@@ -18,7 +18,7 @@ use Rattle.board_model.proofs.Making.{none-in}
 use Rattle.commit_journal.specs.Changes.{DropFile, filled, folder_step, folder_steps}
 use Rattle.list_commits.specs.Changes.{drops_for}
 use Rattle.list_commits.specs.Loose.{AreLooseNames, kept_names, kept_of, with_parts}
-use Rattle.list_commits.specs.SetLaws.{HasListsAlone}
+use Rattle.list_commits.specs.SetLaws.{HasInstalledFilesAlone}
 use Rattle.list_commits.proofs.Apart.{here, none_if, there}
 use Rattle.list_commits.proofs.Folding.{names_in, steps_beside}
 
@@ -27,7 +27,7 @@ names_gone [] = refl
 names_gone (name ∷ names) = ap (λ (l : List (List ℕ)). name ∷ l) (names_gone names)
 
 dropped_none : (folder : Files) (gone name : List ℕ) → folder name ≡ None → folder_step folder (DropFile gone) name ≡ None
-dropped_none folder gone name none = by (is_list gone)
+dropped_none folder gone name none = by (is_installed_name gone)
   where
     absent : (t : Bool) → (if t then None else folder name) ≡ None
     absent true = refl
@@ -37,25 +37,25 @@ dropped_none folder gone name none = by (is_list gone)
     by true = absent (same_name gone name)
     by false = none
 
-dropped_here : (folder : Files) (gone name : List ℕ) → HasListsAlone folder → gone ≡ name → folder_step folder (DropFile gone) name ≡ None
-dropped_here folder gone name alone same = by (is_list gone) refl
+dropped_here : (folder : Files) (gone name : List ℕ) → HasInstalledFilesAlone folder → gone ≡ name → folder_step folder (DropFile gone) name ≡ None
+dropped_here folder gone name alone same = by (is_installed_name gone) refl
   where
-    by : (t : Bool) → is_list gone ≡ t → (if t then with_file folder gone None else folder) name ≡ None
+    by : (t : Bool) → is_installed_name gone ≡ t → (if t then with_file folder gone None else folder) name ≡ None
     by true list = with_same folder gone None name same
-    by false other = alone name (sym (ap is_list same) ∙ other)
+    by false other = alone name (sym (ap is_installed_name same) ∙ other)
 
 stays_none : (part : List ℕ → List ℕ) (names : List (List ℕ)) (folder : Files) (name : List ℕ) → folder name ≡ None → folder_steps (filled part (drops_for names)) folder name ≡ None
 stays_none part [] folder name none = none
 stays_none part (gone ∷ names) folder name none = stays_none part names (folder_step folder (DropFile gone)) name (dropped_none folder gone name none)
 
-gone_all : (part : List ℕ → List ℕ) (names : List (List ℕ)) (folder : Files) → HasListsAlone folder → (name : List ℕ) → Contains names name → folder_steps (filled part (drops_for names)) folder name ≡ None
+gone_all : (part : List ℕ → List ℕ) (names : List (List ℕ)) (folder : Files) → HasInstalledFilesAlone folder → (name : List ℕ) → Contains names name → folder_steps (filled part (drops_for names)) folder name ≡ None
 gone_all part [] folder alone name is = absurd (none-in name is)
 gone_all part (gone ∷ names) folder alone name is = ⊎_elim
     (λ same. stays_none part names (folder_step folder (DropFile gone)) name (dropped_here folder gone name alone same))
     (gone_all part names (folder_step folder (DropFile gone)) (λ other aside. dropped_none folder gone other (alone other aside)) name)
     (first-or-rest gone names name is)
 
-pub cleans_up : (part : List ℕ → List ℕ) (names : List (List ℕ)) (folder : Files) → HasListsAlone folder → Does (CleansUp names) folder (folder_steps (filled part (drops_for names)) folder)
+pub cleans_up : (part : List ℕ → List ℕ) (names : List (List ℕ)) (folder : Files) → HasInstalledFilesAlone folder → Does (CleansUp names) folder (folder_steps (filled part (drops_for names)) folder)
 cleans_up part names folder alone = (
   gone_all part names folder alone,
   λ name never. steps_beside part (drops_for names) folder name (none_if name (names_in (drops_for names)) (λ is. never (subst (λ (l : List (List ℕ)). Contains l name) (names_gone names) is))),
@@ -109,26 +109,26 @@ all_cases (source ∷ sources) name is = ⊎_elim
     (Contains-append_cases (kept_of source) (flat_map kept_of sources) name is)
 
 -- a name that stays and is a list's is planned
-kept_list : (sources : List Source) (name : List ℕ) → is_list name ≡ true → Contains (kept_names sources) name → Contains (flat_map names_of sources) name
+kept_list : (sources : List Source) (name : List ℕ) → is_installed_name name ≡ true → Contains (kept_names sources) name → Contains (flat_map names_of sources) name
 kept_list sources name list is = ⊎_elim
-    (λ same. absurd (let wrong : is_list lock ≡ true = subst (λ (n : List ℕ). is_list n ≡ true) (sym same) list in cc))
+    (λ same. absurd (let wrong : is_installed_name lock ≡ true = subst (λ (n : List ℕ). is_installed_name n ≡ true) (sym same) list in cc))
     (λ behind. ⊎_elim
-    (λ same. absurd (let wrong : is_list journal ≡ true = subst (λ (n : List ℕ). is_list n ≡ true) (sym same) list in cc))
-    (λ later. ⊎_elim (λ planned. planned) (λ (other, same). absurd (let wrong = sym (list_not_aside name list) ∙ sym (ap is_aside same) ∙ partial_aside other in cc)) (all_cases sources name later))
+    (λ same. absurd (let wrong : is_installed_name journal ≡ true = subst (λ (n : List ℕ). is_installed_name n ≡ true) (sym same) list in cc))
+    (λ later. ⊎_elim (λ planned. planned) (λ (other, same). absurd (let wrong = sym (list_not_aside name list) ∙ sym (ap is_own_name same) ∙ partial_aside other in cc)) (all_cases sources name later))
     (first-or-rest journal (flat_map kept_of sources) name behind))
     (first-or-rest lock (journal ∷ flat_map kept_of sources) name is)
 
-pub are_loose : (files : Files) (plan : Plan) (names : List (List ℕ)) → AreLooseNames files plan.sources names → AreLoose (lists files) plan names
+pub are_loose : (files : Files) (plan : Plan) (names : List (List ℕ)) → AreLooseNames files plan.sources names → AreLoose (installed_files files) plan names
 are_loose files plan names are = record {
   apart = λ name is planned. are.loose name is (there lock (journal ∷ flat_map kept_of plan.sources) name (there journal (flat_map kept_of plan.sources) name (all_kept plan.sources name planned)));
-  all = λ name not_planned not_loose. by_list name not_planned not_loose (is_list name) refl;
+  all = λ name not_planned not_loose. by_list name not_planned not_loose (is_installed_name name) refl;
 }
   where
-    by_file : (name : List ℕ) → (Contains (plan_names plan) name → ⊥) → (Contains names name → ⊥) → is_list name ≡ true → (o : Option (List ℕ)) → files name ≡ o → o ≡ None
+    by_file : (name : List ℕ) → (Contains (plan_names plan) name → ⊥) → (Contains names name → ⊥) → is_installed_name name ≡ true → (o : Option (List ℕ)) → files name ≡ o → o ≡ None
     by_file name not_planned not_loose list None is = refl
     by_file name not_planned not_loose list (Some bytes) is =
         absurd (⊎_elim not_loose (λ kept. not_planned (kept_list plan.sources name list kept)) (are.all name (ap is_some is)))
 
-    by_list : (name : List ℕ) → (Contains (plan_names plan) name → ⊥) → (Contains names name → ⊥) → (t : Bool) → is_list name ≡ t → (if t then files name else None) ≡ None
+    by_list : (name : List ℕ) → (Contains (plan_names plan) name → ⊥) → (Contains names name → ⊥) → (t : Bool) → is_installed_name name ≡ t → (if t then files name else None) ≡ None
     by_list name not_planned not_loose true list = by_file name not_planned not_loose list (files name) refl
     by_list name not_planned not_loose false other = refl

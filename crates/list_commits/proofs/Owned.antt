@@ -7,11 +7,11 @@ use Rattle.acq_base.specs.Sum.{sum_of}
 use Rattle.acq_base.specs.declared.plan.Source.{Source}
 use Rattle.acq_base.specs.declared.uri.ListName.{ListName}
 use Rattle.acq_outside.specs.Disk.{Files}
-use Rattle.journal_model.specs.Names.{is_list}
+use Rattle.journal_model.specs.Names.{is_installed_name}
 use Rattle.update_model.specs.Carried.{Does}
 use Rattle.update_model.specs.Files.{sum_of_body}
-use Rattle.update_model.specs.Next.{Leaves, Installs}
-use Rattle.update_model.specs.Outcomes.{Admitted}
+use Rattle.update_model.specs.Next.{OutcomeLeaves, Installs}
+use Rattle.update_model.specs.Outcomes.{AdmittedRelease}
 use Rattle.update_model.specs.declared.ask.Body.{Body}
 use Rattle.update_model.specs.declared.settled.Settled.{Settled}
 use Rattle.board_model.specs.Changes.{AreMade, release_name_in, touched}
@@ -79,13 +79,13 @@ changed_apart source settled owns =
     subst (λ (cs : List Change). AreApart (names_in cs)) (sym (are_arranged source settled))
     (stay_apart source.release_name settled.release settled.puts settled.drops (subst AreApart (touched_is source settled) (apart_of (touched source settled) owns.apart)))
 
-lists_if : (names : List (List ℕ)) → ((name : List ℕ) → Contains names name → is_list name ≡ true) → AllLists names
+lists_if : (names : List (List ℕ)) → ((name : List ℕ) → Contains names name → is_installed_name name ≡ true) → AllLists names
 lists_if [] are = tt
 lists_if (name ∷ names) are = (are name (here name names name refl), lists_if names (λ other is. are other (there name names other is)))
 
-changed_lists : (source : Source) (settled : Settled) → OwnsChanges source settled → All (λ name. is_list name ≡ true) (names_of source) → AllLists (names_in (changes_for source settled))
+changed_lists : (source : Source) (settled : Settled) → OwnsChanges source settled → All (λ name. is_installed_name name ≡ true) (names_of source) → AllLists (names_in (changes_for source settled))
 changed_lists source settled owns lists =
-    lists_if (names_in (changes_for source settled)) (λ name is. All-contains (λ n. is_list n ≡ true) (names_of source) name lists (owns.own name (changed_is_touched source settled name is)))
+    lists_if (names_in (changes_for source settled)) (λ name is. All-contains (λ n. is_installed_name n ≡ true) (names_of source) name lists (owns.own name (changed_is_touched source settled name is)))
 
 made_so : (part : List ℕ → List ℕ) (source : Source) (settled : Settled) (folder : Files) (changes : List Change) → changes ≡ arranged source.release_name settled.release settled.puts settled.drops → AreApart (names_in changes) → AllLists (names_in changes)
     → ((name : List ℕ) → Contains (names_in changes) name → Contains (touched source settled) name) → HaveSums part settled → AreMade source settled folder (folder_steps (filled part changes) folder)
@@ -114,5 +114,5 @@ pub sets_made : (part : List ℕ → List ℕ) (source : Source) (settled : Sett
 sets_made part source settled folder names owns have =
     made_so part source settled folder (changes_for source settled) (are_arranged source settled) (changed_apart source settled owns) (changed_lists source settled owns names.listed) (changed_is_touched source settled) have
 
-pub installed : (source : Source) (settled : Settled) (set : Admitted) (before after : Files) → OwnsChanges source settled → AreMade source settled before after → Leaves (Ok set) source before after → Does (Installs source set) before after
+pub installed : (source : Source) (settled : Settled) (set : AdmittedRelease) (before after : Files) → OwnsChanges source settled → AreMade source settled before after → OutcomeLeaves (Ok set) source before after → Does (Installs source set) before after
 installed source settled set before after owns made leaves = (leaves, λ name never. made.others name (λ is. never (owns.own name is)))

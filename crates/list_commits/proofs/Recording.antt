@@ -23,11 +23,11 @@ use Rattle.board_model.proofs.Making.{none-in}
 use Rattle.journal_model.proofs.Views.{partial_one}
 use Rattle.commit_journal.specs.declared.changing.Change.{Change}
 use Rattle.commit_journal.specs.declared.changing.Change.TheVariants.{Put, Drop}
-use Rattle.commit_journal.specs.Changes.{AllAllowed, AreAllStaged, AreApart, AreStaged, CanRecord, IsDropName, IsNone, IsStaged, all_changes, touched, touched_all}
+use Rattle.commit_journal.specs.Changes.{AllAllowed, AreAllStaged, AreApart, AreStaged, CanRecord, IsDropName, IsNone, IsStaged, all_changes, changed_names, all_changed_names}
 use Rattle.list_commits.specs.Changes.{changes_for, content_for, drop_for, drops_for, put_for, release_for}
 use Rattle.list_commits.specs.Loose.{AreSorted, IsLoose, kept_of}
 use Rattle.list_commits.specs.SetLaws.{HasPutNames, OwnsChanges}
-use Rattle.list_commits.specs.RecordLaws.{AllLast, AreGathered, Lasts, MayGo, group_of, groups_of, names_gathered, names_of_group}
+use Rattle.list_commits.specs.RecordLaws.{AllSynced, AreGathered, IsSyncedPart, MayBeRemoved, group_of, groups_of, names_gathered, names_of_group}
 use Rattle.list_commits.proofs.Apart.{apart_append, apart_of, here, none_if, not_in, there}
 use Rattle.list_commits.proofs.Gone.{names_gone, all_kept, parts_kept}
 use Rattle.list_commits.proofs.Folding.{names_in}
@@ -51,17 +51,17 @@ aside_tail name names [] aside = tt
 aside_tail name names (Put list content ∷ changes) aside = (aside.0.1, aside_tail name names changes aside.1)
 aside_tail name names (Drop list ∷ changes) aside = aside_tail name names changes aside
 
-none_touched : (name : List ℕ) (names : List (List ℕ)) (changes : List Change) → IsNone name (names_in changes) → PutsAside (name ∷ names) changes → IsNone name (touched changes)
+none_touched : (name : List ℕ) (names : List (List ℕ)) (changes : List Change) → IsNone name (names_in changes) → PutsAside (name ∷ names) changes → IsNone name (changed_names changes)
 none_touched name names [] none aside = tt
 none_touched name names (Put list content ∷ changes) none aside = (none.0, (λ same. aside.0.0 (sym same), none_touched name names changes none.1 aside.1))
 none_touched name names (Drop list ∷ changes) none aside = (none.0, none_touched name names changes none.1 aside)
 
-none_on_way : (name : List ℕ) (changes : List Change) → IsNone name (names_in changes) → IsNone (partial name) (names_in changes) → IsNone (partial name) (touched changes)
+none_on_way : (name : List ℕ) (changes : List Change) → IsNone name (names_in changes) → IsNone (partial name) (names_in changes) → IsNone (partial name) (changed_names changes)
 none_on_way name [] none none_part = tt
 none_on_way name (Put list content ∷ changes) none none_part = (none_part.0, (λ same. none.0 (partial_one list.0 name same), none_on_way name changes none.1 none_part.1))
 none_on_way name (Drop list ∷ changes) none none_part = (none_part.0, none_on_way name changes none.1 none_part.1)
 
-touched_apart : (changes : List Change) → AreApart (names_in changes) → PutsAside (names_in changes) changes → AreApart (touched changes)
+touched_apart : (changes : List Change) → AreApart (names_in changes) → PutsAside (names_in changes) changes → AreApart (changed_names changes)
 touched_apart [] apart aside = tt
 touched_apart (Put list content ∷ changes) apart aside = (
   (λ same. aside.0.0 (sym same), none_touched list.0 (names_in changes) changes apart.0 aside.1),
@@ -208,7 +208,7 @@ drop_named sources name loose named = record {
   not_journal = λ same. loose (there lock (journal ∷ flat_map kept_of sources) name (here journal (flat_map kept_of sources) name (sym same)));
 }
 
-clean_up_alone : (sources : List Source) (loose : Option (List (List ℕ))) → IfSome loose (MayGo sources) → Gathers [] (names_of_group loose) (all_changes (group_of loose))
+clean_up_alone : (sources : List Source) (loose : Option (List (List ℕ))) → IfSome loose (MayBeRemoved sources) → Gathers [] (names_of_group loose) (all_changes (group_of loose))
 clean_up_alone sources None may = record { within = λ name is. absurd (none-in name is); apart = tt; allowed = tt; puts = tt; short = omega arith }
 clean_up_alone sources (Some names) may = subst (Gathers [] names) (sym (append-nil (drops_for names))) (record {
   within = λ name is. inr (subst (λ (l : List (List ℕ)). Contains l name) (names_gone names) is);
@@ -218,7 +218,7 @@ clean_up_alone sources (Some names) may = subst (Gathers [] names) (sym (append-
   short = omega (arith, as_many (drops_for names), ap (length {A = List ℕ}) (names_gone names));
 })
 
-gathers : (sources : List Source) (loose : Option (List (List ℕ))) (gathered : List (Source × Settled)) → IfSome loose (MayGo sources) → Each (λ s. HasPutNames s.0) gathered → Each (λ s. OwnsChanges s.0 s.1) gathered
+gathers : (sources : List Source) (loose : Option (List (List ℕ))) (gathered : List (Source × Settled)) → IfSome loose (MayBeRemoved sources) → Each (λ s. HasPutNames s.0) gathered → Each (λ s. OwnsChanges s.0 s.1) gathered
     → AreApart (names_gathered gathered) → AreAway (names_gathered gathered) (names_of_group loose) → Gathers (names_gathered gathered) (names_of_group loose) (all_changes (groups_of gathered loose))
 gathers sources loose [] may put own apart away = clean_up_alone sources loose may
 gathers sources loose (s ∷ gathered) may put own apart away =
@@ -236,11 +236,11 @@ others_gathered (s ∷ gathered) put name other is same = ⊎_elim
 kept_away : (sources : List Source) (names : List (List ℕ)) (name : List ℕ) → All (IsLoose sources) names → Contains (flat_map kept_of sources) name → Contains names name → ⊥
 kept_away sources names name loose kept is = All-contains (IsLoose sources) names name loose is (there lock (journal ∷ flat_map kept_of sources) name (there journal (flat_map kept_of sources) name kept))
 
-are_away : (sources : List Source) (gathered : List (Source × Settled)) (loose : Option (List (List ℕ))) → AreGathered sources gathered → IfSome loose (MayGo sources) → AreAway (names_gathered gathered) (names_of_group loose)
+are_away : (sources : List Source) (gathered : List (Source × Settled)) (loose : Option (List (List ℕ))) → AreGathered sources gathered → IfSome loose (MayBeRemoved sources) → AreAway (names_gathered gathered) (names_of_group loose)
 are_away sources gathered None are may name planned is = none-in name is
 are_away sources gathered (Some names) are may name planned is = kept_away sources names name may.loose (all_kept sources name (are.among name planned)) is
 
-parts_away : (sources : List Source) (gathered : List (Source × Settled)) (loose : Option (List (List ℕ))) → AreGathered sources gathered → IfSome loose (MayGo sources) → (name : List ℕ) → Contains (names_gathered gathered) name → Contains (names_of_group loose) (partial name) → ⊥
+parts_away : (sources : List Source) (gathered : List (Source × Settled)) (loose : Option (List (List ℕ))) → AreGathered sources gathered → IfSome loose (MayBeRemoved sources) → (name : List ℕ) → Contains (names_gathered gathered) name → Contains (names_of_group loose) (partial name) → ⊥
 parts_away sources gathered None are may name planned is = none-in (partial name) is
 parts_away sources gathered (Some names) are may name planned is = kept_away sources names (partial name) may.loose (parts_kept sources name (are.among name planned)) is
 
@@ -252,11 +252,11 @@ few_groups : (loose : Option (List (List ℕ))) → length (group_of loose) ≤ 
 few_groups None = omega arith
 few_groups (Some names) = omega arith
 
-few_gone : (sources : List Source) (loose : Option (List (List ℕ))) → IfSome loose (MayGo sources) → length (names_of_group loose) < 2 ^ 31
+few_gone : (sources : List Source) (loose : Option (List (List ℕ))) → IfSome loose (MayBeRemoved sources) → length (names_of_group loose) < 2 ^ 31
 few_gone sources None may = omega arith
 few_gone sources (Some names) may = may.few
 
-pub can_record : (sources : List Source) (gathered : List (Source × Settled)) (loose : Option (List (List ℕ))) → AreGathered sources gathered → IfSome loose (MayGo sources) → CanRecord (groups_of gathered loose)
+pub can_record : (sources : List Source) (gathered : List (Source × Settled)) (loose : Option (List (List ℕ))) → AreGathered sources gathered → IfSome loose (MayBeRemoved sources) → CanRecord (groups_of gathered loose)
 can_record sources gathered loose are may = record {
   few = omega (arith, are.few, many_names gathered, few_groups loose, length-append (map (λ s. changes_for s.0 s.1) gathered) (group_of loose));
   short = omega (arith, so.short, are.few, few_gone sources loose may);
@@ -272,12 +272,12 @@ can_record sources gathered loose are may = record {
     so = gathers sources loose gathered may are.put are.own (apart_of (names_gathered gathered) are.distinct) (are_away sources gathered loose are may)
 
 -- Other files stay.
-none_joined : (other : List ℕ) (a b : List Change) → IsNone other (touched a) → IsNone other (touched b) → IsNone other (touched (a ++ b))
+none_joined : (other : List ℕ) (a b : List Change) → IsNone other (changed_names a) → IsNone other (changed_names b) → IsNone other (changed_names (a ++ b))
 none_joined other [] b none_a none_b = none_b
 none_joined other (Put list content ∷ a) b none_a none_b = (none_a.0, (none_a.1.0, none_joined other a b none_a.1.1 none_b))
 none_joined other (Drop list ∷ a) b none_a none_b = (none_a.0, none_joined other a b none_a.1 none_b)
 
-untouched : (other : List ℕ) (names : List (List ℕ)) (changes : List Change) → ((name : List ℕ) → Contains (names_in changes) name → Contains names name) → (Contains names other → ⊥) → ((name : List ℕ) → Contains names name → partial name ≢ other) → IsNone other (touched changes)
+untouched : (other : List ℕ) (names : List (List ℕ)) (changes : List Change) → ((name : List ℕ) → Contains (names_in changes) name → Contains names name) → (Contains names other → ⊥) → ((name : List ℕ) → Contains names name → partial name ≢ other) → IsNone other (changed_names changes)
 untouched other names [] within away parts = tt
 untouched other names (Put list content ∷ changes) within away parts =
     let one = within list.0 (here list.0 (names_in changes) list.0 refl) in
@@ -286,16 +286,16 @@ untouched other names (Drop list ∷ changes) within away parts =
     let one = within list (here list (names_in changes) list refl) in
     (λ same. away (subst (Contains names) same one), untouched other names changes (λ name is. within name (there list (names_in changes) name is)) away parts)
 
-untouched_gone : (other : List ℕ) (names : List (List ℕ)) → (Contains names other → ⊥) → IsNone other (touched (drops_for names))
+untouched_gone : (other : List ℕ) (names : List (List ℕ)) → (Contains names other → ⊥) → IsNone other (changed_names (drops_for names))
 untouched_gone other [] away = tt
 untouched_gone other (name ∷ names) away = (λ same. away (here name names other same), untouched_gone other names (λ is. away (there name names other is)))
 
-untouched_group : (other : List ℕ) (loose : Option (List (List ℕ))) → (Contains (names_of_group loose) other → ⊥) → IsNone other (touched_all (group_of loose))
+untouched_group : (other : List ℕ) (loose : Option (List (List ℕ))) → (Contains (names_of_group loose) other → ⊥) → IsNone other (all_changed_names (group_of loose))
 untouched_group other None away = tt
-untouched_group other (Some names) away = subst (λ (changes : List Change). IsNone other (touched changes)) (sym (append-nil (drops_for names))) (untouched_gone other names away)
+untouched_group other (Some names) away = subst (λ (changes : List Change). IsNone other (changed_names changes)) (sym (append-nil (drops_for names))) (untouched_gone other names away)
 
 untouched_all : (gathered : List (Source × Settled)) (loose : Option (List (List ℕ))) (other : List ℕ) → Each (λ s. OwnsChanges s.0 s.1) gathered
-    → (Contains (names_gathered gathered) other → ⊥) → ((name : List ℕ) → Contains (names_gathered gathered) name → partial name ≢ other) → (Contains (names_of_group loose) other → ⊥) → IsNone other (touched_all (groups_of gathered loose))
+    → (Contains (names_gathered gathered) other → ⊥) → ((name : List ℕ) → Contains (names_gathered gathered) name → partial name ≢ other) → (Contains (names_of_group loose) other → ⊥) → IsNone other (all_changed_names (groups_of gathered loose))
 untouched_all [] loose other own away parts not_gone = untouched_group other loose not_gone
 untouched_all (s ∷ gathered) loose other own away parts not_gone =
     none_joined other (changes_for s.0 s.1) (all_changes (groups_of gathered loose))
@@ -304,7 +304,7 @@ untouched_all (s ∷ gathered) loose other own away parts not_gone =
     (untouched_all gathered loose other own.1 (λ is. away (Contains-append_right (names_of s.0) (names_gathered gathered) other is)) (λ name is. parts name (Contains-append_right (names_of s.0) (names_gathered gathered) name is)) not_gone)
 
 pub keep_others : (sources : List Source) (gathered : List (Source × Settled)) (loose : Option (List (List ℕ))) (other : List ℕ) → AreGathered sources gathered
-    → (Contains (names_gathered gathered) other → ⊥) → ((name : List ℕ) → Contains (names_gathered gathered) name → partial name ≢ other) → (Contains (names_of_group loose) other → ⊥) → IsNone other (touched_all (groups_of gathered loose))
+    → (Contains (names_gathered gathered) other → ⊥) → ((name : List ℕ) → Contains (names_gathered gathered) name → partial name ≢ other) → (Contains (names_of_group loose) other → ⊥) → IsNone other (all_changed_names (groups_of gathered loose))
 keep_others sources gathered loose other are away parts not_gone = untouched_all gathered loose other are.own away parts not_gone
 
 -- What is staged.
@@ -312,11 +312,11 @@ staged_joined : (s : State) (a b : List Change) → AreStaged a s → AreStaged 
 staged_joined s [] b in_a in_b = in_b
 staged_joined s (change ∷ a) b in_a in_b = (in_a.0, staged_joined s a b in_a.1 in_b)
 
-staged_put : (s : State) (name : ListName) (body : Body) → Lasts s name body → IsStaged s (Put name (content_for body))
+staged_put : (s : State) (name : ListName) (body : Body) → IsSyncedPart s name body → IsStaged s (Put name (content_for body))
 staged_put s name (bodies.Bytes bytes) lasts = tt
 staged_put s name (bodies.Staged sum) lasts = lasts
 
-staged_puts : (s : State) (puts : List (ListName × Body)) → Each (λ put. Lasts s put.0 put.1) puts → AreStaged (map put_for puts) s
+staged_puts : (s : State) (puts : List (ListName × Body)) → Each (λ put. IsSyncedPart s put.0 put.1) puts → AreStaged (map put_for puts) s
 staged_puts s [] last = tt
 staged_puts s (put ∷ puts) last = (staged_put s put.0 put.1 last.0, staged_puts s puts last.1)
 
@@ -336,7 +336,7 @@ staged_group : (s : State) (loose : Option (List (List ℕ))) → AreAllStaged (
 staged_group s None = tt
 staged_group s (Some names) = staged_joined s (drops_for names) [] (staged_gone s names) tt
 
-pub all_staged : (gathered : List (Source × Settled)) (loose : Option (List (List ℕ))) (s : State) → AllLast s gathered → AreAllStaged (groups_of gathered loose) s
+pub all_staged : (gathered : List (Source × Settled)) (loose : Option (List (List ℕ))) (s : State) → AllSynced s gathered → AreAllStaged (groups_of gathered loose) s
 all_staged [] loose s last = staged_group s loose
 all_staged (one ∷ gathered) loose s last =
     staged_joined s (changes_for one.0 one.1) (all_changes (groups_of gathered loose))

@@ -3,14 +3,14 @@ use Rattle.std.specs.Prelude.{◌≡◌, ℕ, List, [], ◌∷◌, Option, Some,
 use Rattle.std.specs.List.{AllByRecursion as Each}
 use Rattle.acq_base.specs.declared.plan.Source.{Source}
 use Rattle.acq_outside.specs.Disk.{Files}
-use Rattle.journal_model.specs.Reopen.{lists}
+use Rattle.journal_model.specs.Reopen.{installed_files}
 use Rattle.update_model.specs.Carried.{Does}
 use Rattle.update_model.specs.Next.{CleansUp}
 use Rattle.update_model.specs.declared.settled.Settled.{Settled}
 use Rattle.board_model.specs.Changes.{AreMade}
-use Rattle.commit_journal.specs.Changes.{Filled, filled_all, stepped_all}
+use Rattle.commit_journal.specs.Changes.{Filled, filled_all, after_commit}
 use Rattle.list_commits.specs.RecordLaws.{groups_of}
-use Rattle.list_commits.specs.SetLaws.{HasListsAlone, HasPutNames, HaveSums, OwnsChanges}
+use Rattle.list_commits.specs.SetLaws.{HasInstalledFilesAlone, HasPutNames, HaveSums, OwnsChanges}
 
 -- the sets of these sources are made one after another, and the clean-up is done behind them
 abbrev pub AreCarried : List (Source × Settled) → Option (List (List ℕ)) → Files → Files → Type 0
@@ -24,12 +24,12 @@ AreCarried (one ∷ gathered) loose before after = (between : Files) × AreMade 
 abbrev pub GatheredAreCarried : Type 0
 GatheredAreCarried =
     (part : List ℕ → List ℕ) (gathered : List (Source × Settled)) (loose : Option (List (List ℕ))) (folder : Files)
-    → Each (λ one. HasPutNames one.0) gathered → Each (λ one. OwnsChanges one.0 one.1) gathered → Each (λ one. HaveSums part one.1) gathered → HasListsAlone folder
-    → AreCarried gathered loose folder (stepped_all (filled_all part (groups_of gathered loose)) folder)
+    → Each (λ one. HasPutNames one.0) gathered → Each (λ one. OwnsChanges one.0 one.1) gathered → Each (λ one. HaveSums part one.1) gathered → HasInstalledFilesAlone folder
+    → AreCarried gathered loose folder (after_commit (filled_all part (groups_of gathered loose)) folder)
 
 -- no commit puts a file that is no list's among the lists
 abbrev pub CommitsKeepLists : Type 0
-CommitsKeepLists = (commit : List (List Filled)) (folder : Files) → HasListsAlone folder → HasListsAlone (stepped_all commit folder)
+CommitsKeepLists = (commit : List (List Filled)) (folder : Files) → HasInstalledFilesAlone folder → HasInstalledFilesAlone (after_commit commit folder)
 
 abbrev pub ListsAreAlone : Type 0
-ListsAreAlone = (files : Files) → HasListsAlone (lists files)
+ListsAreAlone = (files : Files) → HasInstalledFilesAlone (installed_files files)

@@ -12,7 +12,7 @@ use Rattle.update_model.specs.declared.ask.Body.{Body}
 use Rattle.update_model.specs.declared.ask.Body.TheVariants.{Bytes, Staged}
 use Rattle.update_model.specs.declared.settled.Settled.{Settled}
 use Rattle.commit_journal.specs.declared.changing.Change.{Change}
-use Rattle.commit_journal.specs.Changes.{IsNone, AreAllStaged, CanRecord, touched_all}
+use Rattle.commit_journal.specs.Changes.{IsNone, AreAllStaged, CanRecord, all_changed_names}
 use Rattle.list_commits.specs.Changes.{changes_for, drops_for}
 use Rattle.list_commits.specs.Loose.{AreSorted, IsLoose}
 use Rattle.list_commits.specs.SetLaws.{HasPutNames, OwnsChanges}
@@ -30,7 +30,7 @@ pub record AreGathered (sources : List Source) (gathered : List (Source × Settl
   pub few : length (names_gathered gathered) ≤ 4096
 
 -- names that a clean-up takes
-pub record MayGo (sources : List Source) (names : List (List ℕ)) : Type 0 where
+pub record MayBeRemoved (sources : List Source) (names : List (List ℕ)) : Type 0 where
   pub sorted : AreSorted names
   pub loose : All (IsLoose sources) names
   pub named : All IsName names
@@ -50,12 +50,12 @@ names_of_group None = []
 names_of_group (Some names) = names
 
 -- what is put from its way is there, and lasts
-abbrev pub Lasts : State → ListName → Body → Type 0
-Lasts s name (Bytes bytes) = Unit {0}
-Lasts s name (Staged sum) = (bytes : List ℕ) × IsPartSynced name.0 bytes s
+abbrev pub IsSyncedPart : State → ListName → Body → Type 0
+IsSyncedPart s name (Bytes bytes) = Unit {0}
+IsSyncedPart s name (Staged sum) = (bytes : List ℕ) × IsPartSynced name.0 bytes s
 
-abbrev pub AllLast : State → List (Source × Settled) → Type 0
-AllLast s gathered = Each (λ one. Each (λ put. Lasts s put.0 put.1) one.1.puts) gathered
+abbrev pub AllSynced : State → List (Source × Settled) → Type 0
+AllSynced s gathered = Each (λ one. Each (λ put. IsSyncedPart s put.0 put.1) one.1.puts) gathered
 
 -- ---- laws
 
@@ -63,7 +63,7 @@ AllLast s gathered = Each (λ one. Each (λ put. Lasts s put.0 put.1) one.1.puts
 abbrev pub GatheredCanBeRecorded : Type 0
 GatheredCanBeRecorded =
     (sources : List Source) (gathered : List (Source × Settled)) (loose : Option (List (List ℕ)))
-    → AreGathered sources gathered → IfSome loose (MayGo sources) → CanRecord (groups_of gathered loose)
+    → AreGathered sources gathered → IfSome loose (MayBeRemoved sources) → CanRecord (groups_of gathered loose)
 
 -- and they change no file but the lists of their sources, installed or on their way, and what the clean-up takes
 abbrev pub GatheredKeepOthers : Type 0
@@ -71,9 +71,9 @@ GatheredKeepOthers =
     (sources : List Source) (gathered : List (Source × Settled)) (loose : Option (List (List ℕ))) (other : List ℕ)
     → AreGathered sources gathered
     → (Contains (names_gathered gathered) other → ⊥) → ((name : List ℕ) → Contains (names_gathered gathered) name → partial name ≢ other)
-    → (Contains (names_of_group loose) other → ⊥) → IsNone other (touched_all (groups_of gathered loose))
+    → (Contains (names_of_group loose) other → ⊥) → IsNone other (all_changed_names (groups_of gathered loose))
 
 -- they are staged where each file that is put from its way is there and lasts
 abbrev pub GatheredAreStaged : Type 0
 GatheredAreStaged =
-    (gathered : List (Source × Settled)) (loose : Option (List (List ℕ))) (s : State) → AllLast s gathered → AreAllStaged (groups_of gathered loose) s
+    (gathered : List (Source × Settled)) (loose : Option (List (List ℕ))) (s : State) → AllSynced s gathered → AreAllStaged (groups_of gathered loose) s

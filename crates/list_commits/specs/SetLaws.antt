@@ -7,11 +7,11 @@ use Rattle.acq_base.specs.declared.plan.Plan.{Plan}
 use Rattle.acq_base.specs.declared.plan.Source.{Source}
 use Rattle.acq_base.specs.declared.uri.ListName.{ListName}
 use Rattle.acq_outside.specs.Disk.{Files}
-use Rattle.journal_model.specs.Names.{IsPutName, is_list, partial}
-use Rattle.journal_model.specs.Reopen.{lists}
+use Rattle.journal_model.specs.Names.{IsPutName, is_installed_name, partial}
+use Rattle.journal_model.specs.Reopen.{installed_files}
 use Rattle.update_model.specs.Carried.{AreLoose, Does}
-use Rattle.update_model.specs.Next.{Leaves, Installs, CleansUp}
-use Rattle.update_model.specs.Outcomes.{Admitted}
+use Rattle.update_model.specs.Next.{OutcomeLeaves, Installs, CleansUp}
+use Rattle.update_model.specs.Outcomes.{AdmittedRelease}
 use Rattle.update_model.specs.declared.ask.Body.{Body}
 use Rattle.update_model.specs.declared.ask.Body.TheVariants.{Bytes, Staged}
 use Rattle.update_model.specs.declared.settled.Settled.{Settled}
@@ -24,7 +24,7 @@ use Rattle.list_commits.specs.Loose.{AreLooseNames}
 -- is that of any list on its way
 pub record HasPutNames (source : Source) : Type 0 where
   pub put : All IsPutName (names_of source)
-  pub listed : All (λ name. is_list name ≡ true) (names_of source)
+  pub listed : All (λ name. is_installed_name name ≡ true) (names_of source)
   pub others : (name other : List ℕ) → Contains (names_of source) name → partial other ≢ name
 
 -- a source's changes touch its names alone, and none of them twice
@@ -41,8 +41,8 @@ abbrev pub HaveSums : (List ℕ → List ℕ) → Settled → Type 0
 HaveSums part settled = Each (λ put. HasSum part put.0 put.1) settled.puts
 
 -- no file but lists
-abbrev pub HasListsAlone : Files → Type 0
-HasListsAlone folder = (name : List ℕ) → is_list name ≡ false → folder name ≡ None
+abbrev pub HasInstalledFilesAlone : Files → Type 0
+HasInstalledFilesAlone folder = (name : List ℕ) → is_installed_name name ≡ false → folder name ≡ None
 
 -- ---- laws
 
@@ -56,17 +56,17 @@ ChangesMakeSets =
 -- where they leave a new set, they install it and do nothing else
 abbrev pub MadeSetsAreInstalled : Type 0
 MadeSetsAreInstalled =
-    (source : Source) (settled : Settled) (set : Admitted) (before after : Files)
-    → OwnsChanges source settled → AreMade source settled before after → Leaves (Ok set) source before after
+    (source : Source) (settled : Settled) (set : AdmittedRelease) (before after : Files)
+    → OwnsChanges source settled → AreMade source settled before after → OutcomeLeaves (Ok set) source before after
     → Does (Installs source set) before after
 
 -- the changes of a clean-up remove its names, and nothing else
 abbrev pub DropsCleanUp : Type 0
 DropsCleanUp =
     (part : List ℕ → List ℕ) (names : List (List ℕ)) (folder : Files)
-    → HasListsAlone folder → Does (CleansUp names) folder (folder_steps (filled part (drops_for names)) folder)
+    → HasInstalledFilesAlone folder → Does (CleansUp names) folder (folder_steps (filled part (drops_for names)) folder)
 
 -- the names of no source that a disk has are loose names of its lists
 abbrev pub LooseNamesAreLoose : Type 0
 LooseNamesAreLoose =
-    (files : Files) (plan : Plan) (names : List (List ℕ)) → AreLooseNames files plan.sources names → AreLoose (lists files) plan names
+    (files : Files) (plan : Plan) (names : List (List ℕ)) → AreLooseNames files plan.sources names → AreLoose (installed_files files) plan names

@@ -1,12 +1,12 @@
 //! One commit, from its changes to its end.
 ghost use Rattle.std.specs.Prelude.{◌≡◌, ◌≢◌, ℕ, OnOk, OnErr, IsErrOf, Err};
-ghost use Rattle.acq_outside.specs.Moments.{Stands};
+ghost use Rattle.acq_outside.specs.States.{IsNow};
 ghost use Rattle.acq_outside.specs.Stays.{StaysCounting};
-ghost use Rattle.journal_model.specs.Rest.{IsIdle, IsSettled, part_bytes};
+ghost use Rattle.journal_model.specs.Rest.{IsIdle, IsSynced, part_bytes};
 ghost use Rattle.commit_journal.specs.Changes.{filled_all, CanRecord, AreAllStaged};
-ghost use Rattle.commit_journal.specs.Commits.{KeepsUnnamed};
+ghost use Rattle.commit_journal.specs.Commits.{KeepsUnchangedFiles};
 ghost use Rattle.commit_journal.specs.Runs.{HasCommitted};
-ghost use Rattle.list_commits.specs.Made.{IsStopped};
+ghost use Rattle.list_commits.specs.Made.{IsCommitStopped};
 
 use acq_base::Row;
 use acq_outside::Disk;
@@ -25,18 +25,18 @@ pub fn commit_groups<D: Disk>(
     groups: Row<Row<Change>>,
 ) -> Result<(), JournalError>
     requires changes { CanRecord groups }
-    requires staged { Stands (AreAllStaged groups) (D.trace disk.old) }
-    requires idle { Stands IsIdle (D.trace disk.old) }
+    requires staged { IsNow (AreAllStaged groups) (D.trace disk.old) }
+    requires idle { IsNow IsIdle (D.trace disk.old) }
 
     ensures frame { StaysCounting JournalError.DiskFault D.Disk disk.old disk.new result }
     ensures undamaged { (at : ℕ) → result ≢ Err (JournalError.BadJournal at) }
     ensures dry { IsErrOf result JournalError.NoMemory → D.trace disk.new ≡ D.trace disk.old }
 
-    ensures settled { Stands IsSettled (D.trace disk.old) → Stands IsSettled (D.trace disk.new) }
-    ensures idle { OnOk result (Stands IsIdle (D.trace disk.new)) }
-    ensures others { KeepsUnnamed groups (D.trace disk.old) (D.trace disk.new) }
+    ensures settled { IsNow IsSynced (D.trace disk.old) → IsNow IsSynced (D.trace disk.new) }
+    ensures idle { OnOk result (IsNow IsIdle (D.trace disk.new)) }
+    ensures others { KeepsUnchangedFiles groups (D.trace disk.old) (D.trace disk.new) }
     ensures done { OnOk result (HasCommitted (filled_all (part_bytes (D.trace disk.old)) groups) (D.trace disk.old) (D.trace disk.new)) }
-    ensures stopped { OnErr result (IsStopped (filled_all (part_bytes (D.trace disk.old)) groups) (D.trace disk.old) (D.trace disk.new)) }
+    ensures stopped { OnErr result (IsCommitStopped (filled_all (part_bytes (D.trace disk.old)) groups) (D.trace disk.old) (D.trace disk.new)) }
 {
     let prepared = prepare(alloc, journal, disk, groups)?;
     commit(journal, disk, prepared)?;

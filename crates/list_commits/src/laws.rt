@@ -7,10 +7,10 @@ ghost use Rattle.list_commits.specs.SetLaws as set_law;
 /// A run that has made commits is at a moment at which all are acknowledged; one more is begun only where the next is. So
 /// it is known what a crash leaves at each exit of a run.
 #[tactic(auto, using(crate::proofs::Turns::made_moment, crate::proofs::Turns::unbegun_moment, crate::proofs::Turns::begun_moment))]
-pub fn made_is_a_moment()
-    ensures made { law.MadeIsAMoment }
-    ensures unbegun { law.UnbegunIsAMoment }
-    ensures begun { law.BegunIsAMoment }
+pub fn made_commits_are_progress()
+    ensures made { law.MadeCommitsAreProgress }
+    ensures unbegun { law.NoCommitIsProgress }
+    ensures begun { law.BegunCommitIsProgress }
 {}
 
 /// Commits made in turn, and others behind them, are made in turn.

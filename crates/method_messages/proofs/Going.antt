@@ -10,7 +10,7 @@ use Rattle.method_messages.specs.declared.step.Told.TheVariants.{Passed, GoesOn,
 use Rattle.method_messages.specs.Lines.{is_feed, is_line, ended}
 use Rattle.method_messages.specs.Streams.{IsMessage, AreMessages, IsOpen, Unended, Reads, place}
 use Rattle.method_messages.specs.Refused.{IsBad, IsTooLong}
-use Rattle.method_messages.specs.Within.{IsNextFeed, Within, EndsBadly, Tells, Steps, Refuses, unended}
+use Rattle.method_messages.specs.Within.{IsNextFeed, Within, EndsBadly, IsReadOf, Steps, Refuses, unended}
 use Rattle.method_messages.proofs.Ended.{all-append}
 use Rattle.method_messages.proofs.Open.{open_none, next_split, next_inside, next_open, all_open}
 
@@ -183,28 +183,28 @@ told_behind stream before old new after text rest line start seen begins at star
     (subst (λ n. Within stream ((before ++ old) ++ new) (drop 1 (drop at (drop start text))) 0 n) (sym counted) behind)))
 
 refused_line : (stream : List ℕ) (messages : List Message) (rest : List ℕ) (seen begins at : ℕ) (fault : MessageError) → Within stream messages rest seen begins → IsNextFeed rest seen at
-    → Tells (take at rest) begins (Err fault) → Refuses stream fault
+    → IsReadOf (take at rest) begins (Err fault) → Refuses stream fault
 refused_line stream messages rest seen begins at (BadMessage place) h next (here, bad) = inr (subst (IsBad stream) (sym here) (stops-badly stream messages rest seen begins at h next bad))
 refused_line stream messages rest seen begins at (TooLong place) h next (here, long) =
     inr (subst (IsTooLong stream) (sym here) (stops-long stream messages rest seen begins at h (next_open rest seen at h.inside next h.goes_on) long))
 refused_line stream messages rest seen begins at NoMemory h next told = inl refl
 
 pub told_err : (stream : List ℕ) (messages : List Message) (text rest line : List ℕ) (start seen begins at : ℕ) (fault : MessageError) → IsNextLine text start seen at rest line
-    → Within stream messages (drop start text) seen begins → (IsOpen line → Tells line begins (Err fault)) → Refuses stream fault
+    → Within stream messages (drop start text) seen begins → (IsOpen line → IsReadOf line begins (Err fault)) → Refuses stream fault
 told_err stream messages text rest line start seen begins at fault h within told =
     refused_line stream messages (drop start text) seen begins at fault within (next-of text rest line start seen at h)
-    (subst (λ t. Tells t begins (Err fault)) (line-of text rest line start seen at h) (told (open-of text rest line start seen at h within.inside within.goes_on)))
+    (subst (λ t. IsReadOf t begins (Err fault)) (line-of text rest line start seen at h) (told (open-of text rest line start seen at h within.inside within.goes_on)))
 
 -- ---- by what a line told
 
-pub tell_on : (line : List ℕ) (begins : ℕ) (told : Told) → told ≡ GoesOn → (IsOpen line → Tells line begins (Ok told)) → IsOpen line → IsOpen (line ++ 10 ∷ [])
-tell_on line begins told is tells opens = subst (λ t. Tells line begins (Ok t)) is (tells opens)
+pub tell_on : (line : List ℕ) (begins : ℕ) (told : Told) → told ≡ GoesOn → (IsOpen line → IsReadOf line begins (Ok told)) → IsOpen line → IsOpen (line ++ 10 ∷ [])
+tell_on line begins told is tells opens = subst (λ t. IsReadOf line begins (Ok t)) is (tells opens)
 
-pub tell_passed : (line : List ℕ) (begins : ℕ) (told : Told) → told ≡ Passed → (IsOpen line → Tells line begins (Ok told)) → IsOpen line → AreMessages (line ++ 10 ∷ []) []
-tell_passed line begins told is tells opens = are-feed line (subst (λ t. Tells line begins (Ok t)) is (tells opens))
+pub tell_passed : (line : List ℕ) (begins : ℕ) (told : Told) → told ≡ Passed → (IsOpen line → IsReadOf line begins (Ok told)) → IsOpen line → AreMessages (line ++ 10 ∷ []) []
+tell_passed line begins told is tells opens = are-feed line (subst (λ t. IsReadOf line begins (Ok t)) is (tells opens))
 
-pub tell_ends : (line : List ℕ) (begins : ℕ) (told : Told) (message : Message) → told ≡ Ends message → (IsOpen line → Tells line begins (Ok told)) → IsOpen line → AreMessages (line ++ 10 ∷ []) (message ∷ [])
-tell_ends line begins told message is tells opens = are-one (line ++ 10 ∷ []) message (subst (λ t. Tells line begins (Ok t)) is (tells opens))
+pub tell_ends : (line : List ℕ) (begins : ℕ) (told : Told) (message : Message) → told ≡ Ends message → (IsOpen line → IsReadOf line begins (Ok told)) → IsOpen line → AreMessages (line ++ 10 ∷ []) (message ∷ [])
+tell_ends line begins told message is tells opens = are-one (line ++ 10 ∷ []) message (subst (λ t. IsReadOf line begins (Ok t)) is (tells opens))
 
 -- ---- where the text ends
 

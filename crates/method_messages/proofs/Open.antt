@@ -10,7 +10,7 @@ use Rattle.method_messages.specs.declared.step.Told.{Told}
 use Rattle.method_messages.specs.declared.step.Told.TheVariants.{Passed, GoesOn, Ends}
 use Rattle.method_messages.specs.Lines.{is_line, ended, message_in, can_begin, may_follow}
 use Rattle.method_messages.specs.Streams.{IsMessage, IsOpen}
-use Rattle.method_messages.specs.Within.{IsNextFeed, Tells, TellsLine}
+use Rattle.method_messages.specs.Within.{IsNextFeed, IsReadOf, TellsLine}
 use Rattle.method_messages.proofs.Ended.{all-append, line-append, ended-push, begun-push, some-rest, none-rest}
 
 pub open_none : IsOpen []
@@ -41,7 +41,7 @@ open_feed text h follows = record {
 -- ---- what the end of its last line tells
 
 pub tells_on : (text lines line : List ℕ) (begins : ℕ) (result : Result Told MessageError) (h : IsOpen text) → lines ≡ ended h.lines → line ≡ h.line
-    → length text < 65536 → (length line == 0) ≡ false → ((before : List (List ℕ)) → lines ≡ ended before → TellsLine before line begins result) → Tells text begins result
+    → length text < 65536 → (length line == 0) ≡ false → ((before : List (List ℕ)) → lines ≡ ended before → TellsLine before line begins result) → IsReadOf text begins result
 tells_on text lines line begins (Ok Passed) h above last short some told = absurd (told h.lines above)
 tells_on text lines line begins (Ok GoesOn) h above last short some told = open_feed text h (ap (may_follow h.lines) (sym last) ∙ told h.lines above)
 tells_on text lines line begins (Ok (Ends message)) h above last short some told = absurd (told h.lines above)

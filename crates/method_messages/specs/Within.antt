@@ -43,13 +43,13 @@ pub record EndsBadly (text : List ℕ) : Type 0 where
   pub short : length text < 65536
 
 -- what is told of an open text, whose last line has just ended
-abbrev pub Tells : List ℕ → ℕ → Result Told MessageError → Type 0
-Tells text begins (Ok Passed) = text ≡ []
-Tells text begins (Ok GoesOn) = IsOpen (text ++ 10 ∷ [])
-Tells text begins (Ok (Ends message)) = IsMessage (text ++ 10 ∷ []) message
-Tells text begins (Err (BadMessage at)) = (at ≡ begins) × EndsBadly text
-Tells text begins (Err (TooLong at)) = (at ≡ begins) × (65536 ≤ length text)
-Tells text begins (Err NoMemory) = Unit {0}
+abbrev pub IsReadOf : List ℕ → ℕ → Result Told MessageError → Type 0
+IsReadOf text begins (Ok Passed) = text ≡ []
+IsReadOf text begins (Ok GoesOn) = IsOpen (text ++ 10 ∷ [])
+IsReadOf text begins (Ok (Ends message)) = IsMessage (text ++ 10 ∷ []) message
+IsReadOf text begins (Err (BadMessage at)) = (at ≡ begins) × EndsBadly text
+IsReadOf text begins (Err (TooLong at)) = (at ≡ begins) × (65536 ≤ length text)
+IsReadOf text begins (Err NoMemory) = Unit {0}
 
 -- what is told of a line that isn't empty, behind these
 abbrev pub TellsLine : List (List ℕ) → List ℕ → ℕ → Result Told MessageError → Type 0

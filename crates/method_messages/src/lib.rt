@@ -2,6 +2,12 @@
 //!
 //! A message is a line of a number and a text, lines of fields, and an empty line. How the stream is cut doesn't show:
 //! contracts speak of all its bytes together.
+//!
+//! What `feed` has given are the messages of the stream that have ended, however it was cut (`given`); it is
+//! refused exactly where the stream is, with the place of the message's first byte (`only`, `certain`), and then as
+//! it was (`unchanged`); a stream has at most one reading or refusal (`streams_read_one_way`, a law); `rest` tells
+//! where a message has begun; `encode` writes what `valid` allows (`text`), and it is read again whatever follows
+//! (`again`). That the time is linear is tested alone.
 #![tactic(auto)]
 
 pub use error::MessageError;

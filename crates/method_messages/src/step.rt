@@ -4,7 +4,7 @@ ghost use Rattle.std.specs.Prelude.{◌≡◌, ℕ, ◌∷◌, true, List, map, 
 ghost use Rattle.std.specs.List.{list_all};
 ghost use Rattle.method_messages.specs.Lines.{is_line, ended, field_in, message_in};
 ghost use Rattle.method_messages.specs.Streams.{IsOpen};
-ghost use Rattle.method_messages.specs.Within.{Tells, TellsLine};
+ghost use Rattle.method_messages.specs.Within.{IsReadOf, TellsLine};
 
 use crate::cutting::{cut_at, last_line};
 use crate::line::{field_of, may_follow, number_of, text_of};
@@ -28,7 +28,7 @@ pub enum Told {
 
 /// What the end of the last line of a text tells, which began at this place of the stream.
 pub fn line_ended(alloc: Global, text: &[u8], begins: u64) -> Result<Told, MessageError>
-    ensures { IsOpen text.now → Tells text.now begins result }
+    ensures { IsOpen text.now → IsReadOf text.now begins result }
 {
     if text.len() >= MOST_BYTES {
         return Err(MessageError::TooLong(begins));

@@ -1,6 +1,6 @@
 -- Packages, sources and commands, one more at a time.
 use Rattle.std.proofs.Common.{◌≡◌, refl, sym, ap, ◌∙◌, ℕ, zero, suc, ◌+◌, List, [], ◌∷◌, ◌++◌, append_assoc, arith}
-use Rattle.acq_base.specs.Mirror.{World}
+use Rattle.acq_base.specs.Mirror.{MirrorMap}
 use Rattle.mirror_maker.specs.Draws.{drawn, next}
 use Rattle.mirror_maker.specs.Lists.{lists_of}
 use Rattle.mirror_maker.specs.Packages.{after_source, behind, packages, packages_from}
@@ -42,18 +42,18 @@ state_more n source before later was goes =
     let on : suc source ≡ source + 1 = omega arith in
     goes ∙ ap after_source was ∙ ap (state_of n) on
 
-pub first_more : (n source state : ℕ) (done more : World) → done ≡ first_before n source → state ≡ state_of n source
+pub first_more : (n source state : ℕ) (done more : MirrorMap) → done ≡ first_before n source → state ≡ state_of n source
     → more ≡ done ++ first_rows source (lists_of (packages_from state)) → more ≡ first_before n (source + 1)
 unfolding first_before
 first_more n source state done more was at grown =
     let on : suc source ≡ source + 1 = omega arith in
-    grown ∙ ap (λ (l : World). l ++ first_rows source (lists_of (packages_from state))) was
+    grown ∙ ap (λ (l : MirrorMap). l ++ first_rows source (lists_of (packages_from state))) was
     ∙ ap (λ (s : ℕ). first_before n source ++ first_rows source (lists_of (packages_from s))) at ∙ ap (first_before n) on
 
-pub second_more : (n source state : ℕ) (done more : World) → done ≡ second_before n source → state ≡ state_of n source
+pub second_more : (n source state : ℕ) (done more : MirrorMap) → done ≡ second_before n source → state ≡ state_of n source
     → more ≡ done ++ second_rows source (lists_of (packages_from state)) → more ≡ second_before n (source + 1)
 unfolding second_before
 second_more n source state done more was at grown =
     let on : suc source ≡ source + 1 = omega arith in
-    grown ∙ ap (λ (l : World). l ++ second_rows source (lists_of (packages_from state))) was
+    grown ∙ ap (λ (l : MirrorMap). l ++ second_rows source (lists_of (packages_from state))) was
     ∙ ap (λ (s : ℕ). second_before n source ++ second_rows source (lists_of (packages_from s))) at ∙ ap (second_before n) on

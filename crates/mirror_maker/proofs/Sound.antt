@@ -13,7 +13,7 @@ use Rattle.hex.specs.Hex.{encode_lower, encode_with, lower_digits}
 use Rattle.sha2.proofs.Facts256.{length-sha256}
 use Rattle.sha2.specs.Sha256.{digest_bytes, final_hash, initial_hash_256, sha256}
 use Rattle.acq_base.specs.Fetch.{IsSoundAnswer, IsSoundMirror}
-use Rattle.acq_base.specs.Mirror.{World}
+use Rattle.acq_base.specs.Mirror.{MirrorMap}
 use Rattle.acq_base.specs.Uri.{IsHostCharacter, IsHttpHost, IsSound, is_uri_character, text_of_parts}
 use Rattle.acq_base.specs.declared.fetch.Answer.{Answer}
 use Rattle.acq_base.specs.declared.fetch.Answer.TheVariants.{Served, Moved}
@@ -239,7 +239,7 @@ second_each n = (
 abbrev key : Uri → ℕ
 key uri = slice_index uri.host 1 * 1000 + length uri.path
 
-abbrev keys : World → List ℕ
+abbrev keys : MirrorMap → List ℕ
 keys [] = []
 keys (row ∷ rows) = key row.0 ∷ keys rows
 
@@ -250,13 +250,13 @@ are_apart (k ∷ ks) = list_all (λ other. not (k == other)) ks && are_apart ks
 abbrev Differ : Uri × Answer → Uri × Answer → Type 0
 Differ a b = a.0 ≢ b.0
 
-differ_from : (row : Uri × Answer) (rows : World) → list_all (λ other. not (key row.0 == other)) (keys rows) ≡ true → Each (Differ row) rows
+differ_from : (row : Uri × Answer) (rows : MirrorMap) → list_all (λ other. not (key row.0 == other)) (keys rows) ≡ true → Each (Differ row) rows
 differ_from row [] is = tt
 differ_from row (other ∷ rows) is =
     let p = and_parts (not (key row.0 == key other.0)) (list_all (λ other. not (key row.0 == other)) (keys rows)) is in
     ((λ e. differs (key row.0) (key other.0) p.0 (ap key e)), differ_from row rows p.1)
 
-apart : (rows : World) → are_apart (keys rows) ≡ true → AllPairs Differ rows
+apart : (rows : MirrorMap) → are_apart (keys rows) ≡ true → AllPairs Differ rows
 apart [] is = λ i j d before within. absurd (omega (arith, within))
 apart (row ∷ rows) is =
     let p = and_parts (list_all (λ other. not (key row.0 == other)) (keys rows)) (are_apart (keys rows)) is in
@@ -282,13 +282,13 @@ second_apart n =
 
 -- ---- both mirrors
 
-abbrev pub mirror : World → Mirror
+abbrev pub mirror : MirrorMap → Mirror
 mirror rows = record { rows = rows }
 
-uris : (rows : World) → Each IsRow rows → All (λ row. IsSound row.0) rows
+uris : (rows : MirrorMap) → Each IsRow rows → All (λ row. IsSound row.0) rows
 uris rows each = All-weaker IsRow (λ row. IsSound row.0) (λ row is. is.uri) rows (All-from_recursion IsRow rows each)
 
-answers : (rows : World) → Each IsRow rows → All (λ row. IsSoundAnswer row.1) rows
+answers : (rows : MirrorMap) → Each IsRow rows → All (λ row. IsSoundAnswer row.1) rows
 answers rows each = All-weaker IsRow (λ row. IsSoundAnswer row.1) (λ row is. is.answer) rows (All-from_recursion IsRow rows each)
 
 pub first_sound : (n : ℕ) → IsSoundMirror (mirror (first_mirror n))

@@ -54,7 +54,7 @@ fn sorted(alloc: Global, names: Row<Text>) -> Result<String, Refused> {
 }
 
 /// What a read finds.
-#[derive(Debug, Drop)]
+#[derive(Drop)]
 enum Found {
     File(Bytes),
     /// No file, or a fault.

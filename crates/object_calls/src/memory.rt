@@ -9,7 +9,7 @@ use acq_outside::Disk;
 use std::alloc::Global;
 
 /// With what a folder begins.
-#[derive(Debug, Drop)]
+#[derive(Drop)]
 struct Start {
     files: Row<(Text, Bytes)>,
     held: bool,
@@ -20,7 +20,7 @@ struct Start {
 }
 
 /// A folder in memory, and how it came to be what it is.
-#[derive(Debug, Drop)]
+#[derive(Drop)]
 pub struct Memory {
     alloc: Global,
     start: Start,

@@ -5,7 +5,7 @@ use std::alloc::{AllocError, Global};
 use std::{fmt, io};
 
 /// Why a line has no answer.
-#[derive(Clone, Copy, Debug, PartialEq, Eq)]
+#[derive(Clone, Copy, PartialEq, Eq)]
 pub enum Refused {
     /// It names no call.
     NoCall,

@@ -3,12 +3,12 @@ use Rattle.std.proofs.Common.{◌≡◌, sym, ap, ◌∙◌, subst, ℕ, List, [
 use Rattle.acq_outside.specs.Crash.{State, Names, IsOutcome, after, all_renamed, file_at, names_of, synced}
 use Rattle.acq_outside.proofs.Crashes.{names_last, none_of_none}
 use Rattle.acq_outside.proofs.Outcomes.{only_synced}
-use Rattle.acq_outside.specs.declared.change.Change.TheVariants.{SyncNames}
+use Rattle.acq_outside.specs.declared.change.DiskCall.TheVariants.{SyncNames}
 use Rattle.acq_outside.specs.declared.state.FileState.{FileState}
 use Rattle.acq_outside.specs.declared.state.NameChange.{NameChange}
 use Rattle.journal_model.specs.Names.{partial}
 use Rattle.journal_model.specs.Rest.{IsPartSynced}
-use Rattle.partial_store.specs.Parts.{LeavesPart}
+use Rattle.partial_store.specs.Refinement.{LeavesPart}
 
 lasts_at : (s : State) (bytes : List ℕ) (o : Option ℕ) (left : ℕ → List ℕ) → ((i : ℕ) → IsOutcome (file_at s.files i) (left i)) → option_map (file_at s.files) o ≡ Some (synced bytes) → option_map left o ≡ Some bytes
 lasts_at s bytes None left outcomes is = absurd cc

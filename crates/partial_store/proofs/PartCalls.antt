@@ -3,14 +3,14 @@ use Rattle.std.proofs.Common.{◌≡◌, refl, sym, ap, ◌∙◌, subst, arith,
 use Rattle.std.proofs.lemmas.List.{get_or-set_same, get_or_at, take_all, drop_all}
 use Rattle.acq_outside.specs.Disk.{spliced}
 use Rattle.acq_outside.specs.Crash.{State, Names, IsSound, AllSound, Goes, after, file_at, no_file, names_of, on_file, cut_or_made, file_cut, file_written, synced}
-use Rattle.acq_outside.specs.Moments.{IsTold, Stands, Since}
+use Rattle.acq_outside.specs.States.{IsTold, IsNow, Since}
 use Rattle.acq_outside.proofs.Traces.{apart_now, all_push}
-use Rattle.acq_outside.specs.declared.change.Change.{Change}
-use Rattle.acq_outside.specs.declared.change.Change.TheVariants.{Write, Cut, Sync}
+use Rattle.acq_outside.specs.declared.change.DiskCall.{DiskCall}
+use Rattle.acq_outside.specs.declared.change.DiskCall.TheVariants.{Write, Cut, Sync}
 use Rattle.acq_outside.specs.declared.state.FileState.{FileState}
 use Rattle.acq_outside.specs.declared.state.NameChange.TheVariants.{Made}
 use Rattle.journal_model.specs.Names.{partial}
-use Rattle.journal_model.specs.Rest.{IsPartThere, KeepsRest, KeepsOthers, file_named, part_bytes, bytes_in}
+use Rattle.journal_model.specs.Rest.{IsPartThere, KeptAtRestSince, KeepsOtherFiles, file_named, part_bytes, bytes_in}
 use Rattle.journal_model.proofs.Twice.{with_same}
 use Rattle.journal_model.proofs.Views.{partial_aside}
 use Rattle.journal_model.proofs.Aside.{IsOn, aside_stays, parts_stay}
@@ -55,7 +55,7 @@ appended content bytes at end =
 -- ---- a call, over all that a disk has been
 
 abbrev pub Ends : List ℕ → List ℕ → List State → Type 0
-Ends name bytes new = Stands (IsPartThere name) new × (IsTold new → part_bytes new name ≡ bytes)
+Ends name bytes new = IsNow (IsPartThere name) new × (IsTold new → part_bytes new name ≡ bytes)
 
 untold : (name bytes : List ℕ) (new : List State) → new ≡ [] → Ends name bytes new
 untold name bytes new is = subst (λ (l : List State). Ends name bytes l) (sym is) (tt, λ told. absurd told)
@@ -72,7 +72,7 @@ cut_ends name len (s ∷ past) new (Ok x) sound is =
     ends_with name (take len (part_bytes (s ∷ past) name)) (after s (Cut (partial name) len)) (s ∷ past) new file is there seen
 cut_ends name len (s ∷ past) new (Err e) sound is = tt
 
-pub put_ends : {T E : Type 0} (name : List ℕ) (at : ℕ) (bytes : List ℕ) (old new : List State) (result : Result T E) → AllSound old → Stands (IsPartThere name) old
+pub put_ends : {T E : Type 0} (name : List ℕ) (at : ℕ) (bytes : List ℕ) (old new : List State) (result : Result T E) → AllSound old → IsNow (IsPartThere name) old
     → (IsTold old → length (part_bytes old name) ≡ at) → Goes (Write (partial name) at bytes) old new result → OnOk result (Ends name (part_bytes old name ++ bytes) new)
 put_ends name at bytes [] new (Ok x) sound there long is = untold name ([] ++ bytes) new is
 put_ends name at bytes [] new (Err e) sound there long is = tt
@@ -85,13 +85,13 @@ put_ends name at bytes (s ∷ past) new (Ok x) sound there long is =
 put_ends name at bytes (s ∷ past) new (Err e) sound there long is = tt
 
 -- what is at rest stays so
-pub stays : {T E : Type 0} (name : List ℕ) (call : Change) (old new : List State) (result : Result T E) → IsOn (partial name) call → AllSound old → Goes call old new result → Since old new (KeepsRest old)
+pub stays : {T E : Type 0} (name : List ℕ) (call : DiskCall) (old new : List State) (result : Result T E) → IsOn (partial name) call → AllSound old → Goes call old new result → Since old new (KeptAtRestSince old)
 stays name call old new result on sound is = aside_stays (partial name) call old new result (partial_aside name) on sound is
 
 -- a call on a list's file by its path
 
 abbrev pub Leaves : {T E : Type 0} → List ℕ → List ℕ → List State → List State → Result T E → Type 0
-Leaves name bytes old new result = Since old new (KeepsRest old) × KeepsOthers name old new × OnOk result (Ends name bytes new)
+Leaves name bytes old new result = Since old new (KeptAtRestSince old) × KeepsOtherFiles name old new × OnOk result (Ends name bytes new)
 
 pub cut_goes : {T E : Type 0} (name path : List ℕ) (len : ℕ) (old new : List State) (result : Result T E) → path ≡ partial name → AllSound old → Goes (Cut path len) old new result
     → Leaves name (take len (part_bytes old name)) old new result
@@ -103,7 +103,7 @@ cut_goes name path len old new result at sound is =
     )
 
 pub put_goes : {T E : Type 0} (name path : List ℕ) (at len : ℕ) (bytes : List ℕ) (old new : List State) (result : Result T E) → path ≡ partial name → at ≡ len → AllSound old
-    → Stands (IsPartThere name) old → (IsTold old → length (part_bytes old name) ≡ len) → Goes (Write path at bytes) old new result
+    → IsNow (IsPartThere name) old → (IsTold old → length (part_bytes old name) ≡ len) → Goes (Write path at bytes) old new result
     → Leaves name (part_bytes old name ++ bytes) old new result
 put_goes name path at len bytes old new result here end sound there long is =
     let call : Goes (Write (partial name) at bytes) old new result = subst (λ (p : List ℕ). Goes (Write p at bytes) old new result) here is in (
@@ -112,11 +112,11 @@ put_goes name path at len bytes old new result here end sound there long is =
       put_ends name at bytes old new result sound there (λ told. long told ∙ sym end) call,
     )
 
-pub sync_moments : {T E : Type 0} (name path : List ℕ) (old new : List State) (result : Result T E) → path ≡ partial name → AllSound old → Goes (Sync path) old new result → Since old new (KeepsRest old)
+pub sync_moments : {T E : Type 0} (name path : List ℕ) (old new : List State) (result : Result T E) → path ≡ partial name → AllSound old → Goes (Sync path) old new result → Since old new (KeptAtRestSince old)
 sync_moments name path old new result at sound is =
     stays name (Sync (partial name)) old new result refl sound (subst (λ (p : List ℕ). Goes (Sync p) old new result) at is)
 
-pub sync_others : {T E : Type 0} (name path : List ℕ) (old new : List State) (result : Result T E) → path ≡ partial name → AllSound old → Goes (Sync path) old new result → KeepsOthers name old new
+pub sync_others : {T E : Type 0} (name path : List ℕ) (old new : List State) (result : Result T E) → path ≡ partial name → AllSound old → Goes (Sync path) old new result → KeepsOtherFiles name old new
 sync_others name path old new result at sound is =
     parts_stay name (Sync (partial name)) old new result refl sound (subst (λ (p : List ℕ). Goes (Sync p) old new result) at is)
 

@@ -5,7 +5,7 @@ use Rattle.std.proofs.lemmas.Str.{IsUtf8-from_is_utf8, is_utf8-from_IsUtf8}
 use Rattle.acq_outside.specs.Disk.{IsName}
 use Rattle.journal_model.specs.Names.{IsPutName, partial}
 use Rattle.journal_model.proofs.Literals.{partial_named}
-use Rattle.partial_store.specs.Parts.{PartOf, part_of}
+use Rattle.partial_store.specs.Refinement.{PartOf, part_of}
 
 pub partial_name : (name : List ℕ) → IsPutName name → IsName (partial name)
 partial_name name put = partial_named name put.named put.short

@@ -1,2 +1,2 @@
 -- What public clauses cite: what a part is seen as.
-pub mod Parts
+pub mod Refinement

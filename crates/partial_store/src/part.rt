@@ -3,7 +3,7 @@
 ghost use Rattle.std.specs.Prelude.{◌≡◌};
 ghost use Rattle.acq_outside.specs.Disk.{IsName};
 ghost use Rattle.journal_model.specs.Names.{IsPutName, partial};
-ghost use Rattle.partial_store.specs.Parts.{part_of};
+ghost use Rattle.partial_store.specs.Refinement.{part_of};
 
 use acq_base::ListName;
 use journal_model::PartialName;
@@ -20,7 +20,7 @@ impl Model for Part {
     ghost use Rattle.std.specs.Prelude.{◌≡◌, ◌≤◌, true, drop, length};
     ghost use Rattle.std.specs.Str.{is_utf8};
     ghost use Rattle.journal_model.specs.Names.{partial};
-    ghost use Rattle.partial_store.specs.Parts.{PartOf};
+    ghost use Rattle.partial_store.specs.Refinement.{PartOf};
 
     ghost Value = { PartOf };
 

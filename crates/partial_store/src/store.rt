@@ -3,10 +3,10 @@
 ghost use Rattle.std.specs.Prelude.{◌≡◌, ◌+◌, ◌<◌, ◌≤◌, ◌^◌, ◌++◌, Some, take, length, IfOk, OnOk, OnErr};
 ghost use Rattle.acq_outside.specs.Disk.{IsRead};
 ghost use Rattle.acq_outside.specs.Stays.{Reads, Stays};
-ghost use Rattle.acq_outside.specs.Moments.{IsTold, Since, Stands};
+ghost use Rattle.acq_outside.specs.States.{IsTold, Since, IsNow};
 ghost use Rattle.journal_model.specs.Names.{IsPutName};
-ghost use Rattle.journal_model.specs.Rest.{IsPartSynced, IsPartThere, KeepsOthers, KeepsRest, part_bytes, size_below};
-ghost use Rattle.partial_store.specs.Parts.{part_of};
+ghost use Rattle.journal_model.specs.Rest.{IsPartSynced, IsPartThere, KeepsOtherFiles, KeptAtRestSince, part_bytes, size_below};
+ghost use Rattle.partial_store.specs.Refinement.{part_of};
 
 use crate::Part;
 use acq_base::ListName;
@@ -25,9 +25,9 @@ pub fn begin<D: Disk>(disk: &mut D, name: &ListName, keep: u64) -> Result<Part, 
 
     ensures part { IfOk result (λ part. part ≡ part_of name.now.0 keep) }
 
-    ensures moments { Since (D.trace disk.old) (D.trace disk.new) (KeepsRest (D.trace disk.old)) }
-    ensures others { KeepsOthers name.now.0 (D.trace disk.old) (D.trace disk.new) }
-    ensures there { OnOk result (Stands (IsPartThere name.now.0) (D.trace disk.new)) }
+    ensures moments { Since (D.trace disk.old) (D.trace disk.new) (KeptAtRestSince (D.trace disk.old)) }
+    ensures others { KeepsOtherFiles name.now.0 (D.trace disk.old) (D.trace disk.new) }
+    ensures there { OnOk result (IsNow (IsPartThere name.now.0) (D.trace disk.new)) }
     ensures bytes { OnOk result (IsTold (D.trace disk.new)
         → part_bytes (D.trace disk.new) name.now.0 ≡ take keep (part_bytes (D.trace disk.old) name.now.0)) }
 {
@@ -41,7 +41,7 @@ pub fn begin<D: Disk>(disk: &mut D, name: &ListName, keep: u64) -> Result<Part, 
 /// `Fault` only where the disk's count of faults rose; the part is then as it was, and the file may end in any part of the
 /// piece.
 pub fn put<D: Disk>(disk: &mut D, part: &mut Part, piece: &[u8]) -> Result<(), Fault>
-    requires there { Stands (IsPartThere part.old.name) (D.trace disk.old) }
+    requires there { IsNow (IsPartThere part.old.name) (D.trace disk.old) }
     requires len { IsTold (D.trace disk.old) → length (part_bytes (D.trace disk.old) part.old.name) ≡ part.old.len }
     requires room { part.old.len + length piece.now < 2 ^ 64 }
 
@@ -50,9 +50,9 @@ pub fn put<D: Disk>(disk: &mut D, part: &mut Part, piece: &[u8]) -> Result<(), F
 
     ensures part { OnOk result (part.new ≡ part_of part.old.name (part.old.len + length piece.now)) }
 
-    ensures moments { Since (D.trace disk.old) (D.trace disk.new) (KeepsRest (D.trace disk.old)) }
-    ensures others { KeepsOthers part.old.name (D.trace disk.old) (D.trace disk.new) }
-    ensures there { OnOk result (Stands (IsPartThere part.old.name) (D.trace disk.new)) }
+    ensures moments { Since (D.trace disk.old) (D.trace disk.new) (KeptAtRestSince (D.trace disk.old)) }
+    ensures others { KeepsOtherFiles part.old.name (D.trace disk.old) (D.trace disk.new) }
+    ensures there { OnOk result (IsNow (IsPartThere part.old.name) (D.trace disk.new)) }
     ensures bytes { OnOk result (IsTold (D.trace disk.new)
         → part_bytes (D.trace disk.new) part.old.name ≡ part_bytes (D.trace disk.old) part.old.name ++ piece.now) }
 {
@@ -66,12 +66,12 @@ pub fn put<D: Disk>(disk: &mut D, part: &mut Part, piece: &[u8]) -> Result<(), F
 ///
 /// `Fault` only where the disk's count of faults rose.
 pub fn finish<D: Disk>(disk: &mut D, part: Part) -> Result<u64, Fault>
-    requires there { Stands (IsPartThere part.name) (D.trace disk.old) }
+    requires there { IsNow (IsPartThere part.name) (D.trace disk.old) }
     requires len { IsTold (D.trace disk.old) → length (part_bytes (D.trace disk.old) part.name) ≡ part.len }
     ensures frame { Stays D.Disk disk.old disk.new result }
-    ensures moments { Since (D.trace disk.old) (D.trace disk.new) (KeepsRest (D.trace disk.old)) }
-    ensures others { KeepsOthers part.name (D.trace disk.old) (D.trace disk.new) }
-    ensures synced { OnOk result (Stands (IsPartSynced part.name (part_bytes (D.trace disk.old) part.name)) (D.trace disk.new)) }
+    ensures moments { Since (D.trace disk.old) (D.trace disk.new) (KeptAtRestSince (D.trace disk.old)) }
+    ensures others { KeepsOtherFiles part.name (D.trace disk.old) (D.trace disk.new) }
+    ensures synced { OnOk result (IsNow (IsPartSynced part.name (part_bytes (D.trace disk.old) part.name)) (D.trace disk.new)) }
     ensures size { IfOk result (λ size. size ≡ part.len) }
 {
     disk.sync(part.path.as_bytes())?;

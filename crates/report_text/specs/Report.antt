@@ -8,8 +8,8 @@ use Rattle.std.specs.Ordering.{nat_cmp}
 use Rattle.acq_base.specs.declared.plan.Plan.{Plan}
 use Rattle.acq_base.specs.declared.plan.Source.{Source}
 use Rattle.report_text.specs.Sources.{newline, source_lines}
-use Rattle.report_text.specs.declared.total.Word.{Word}
-use Rattle.report_text.specs.declared.total.Word.TheVariants as words
+use Rattle.report_text.specs.declared.total.LineKind.{LineKind}
+use Rattle.report_text.specs.declared.total.LineKind.TheVariants as words
 use Rattle.update_model.specs.declared.log.RunLog.{RunLog}
 use Rattle.update_model.specs.declared.settled.Verdict2.{Verdict2}
 use Rattle.update_model.specs.declared.settled.Verdict2.TheVariants.{Installed, Hit, Older, Kept}
@@ -23,7 +23,7 @@ abbrev pub removed_line : List ℕ → List ℕ
 removed_line name = codes "Removed " ++ name ++ newline
 
 -- whether a verdict is told by this word
-abbrev pub is_told_by : Word → Verdict2 → Bool
+abbrev pub is_told_by : LineKind → Verdict2 → Bool
 is_told_by words.Get (Installed held) = true
 is_told_by words.Hit (Hit held) = true
 is_told_by words.Older (Older date) = true
@@ -31,11 +31,11 @@ is_told_by words.Keep (Kept cause) = true
 is_told_by _ _ = false
 
 -- how many verdicts are
-abbrev pub count_told : Word → List Verdict2 → ℕ
+abbrev pub count_told : LineKind → List Verdict2 → ℕ
 count_told word [] = 0
 count_told word (verdict ∷ verdicts) = (if is_told_by word verdict then 1 else 0) + count_told word verdicts
 
-abbrev pub count_of : Word → List Verdict2 → List ℕ
+abbrev pub count_of : LineKind → List Verdict2 → List ℕ
 count_of word verdicts = decimal (count_told word verdicts)
 
 abbrev pub total_line : List Verdict2 → List ℕ

@@ -2,6 +2,9 @@
 //!
 //! `report` is a run's report, whole, as a function of the plan, the verdicts and the removed lists. `FaultLine` has all
 //! lines that begin with `E`, and says which of them stands for a refused configuration.
+//!
+//! `report` is the text of a run, by plan, verdicts and removed names, and `FaultLine` the line that stands in
+//! place of one (`text`; `fixed` without memory), that of a refused configuration too (`from_gives`).
 #![tactic(auto)]
 
 pub use fault::FaultLine;

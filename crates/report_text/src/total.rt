@@ -10,7 +10,7 @@ use update_model::Verdict2;
 
 /// The word with which a source's line begins.
 #[derive(Clone, Copy, Debug, PartialEq, Eq)]
-pub enum Word {
+pub enum LineKind {
     Get,
     Hit,
     Older,
@@ -22,13 +22,13 @@ pub fn total_text(alloc: Global, verdicts: &[Verdict2]) -> Result<Text, NoMemory
     ensures { IfOk result (λ text. text ≡ total_line verdicts.now) }
 {
     let mut text = Text::from_bytes(alloc, b"Total ")?;
-    append_count(alloc, &mut text, verdicts, Word::Get)?;
+    append_count(alloc, &mut text, verdicts, LineKind::Get)?;
     text.append(b" installed, ")?;
-    append_count(alloc, &mut text, verdicts, Word::Hit)?;
+    append_count(alloc, &mut text, verdicts, LineKind::Hit)?;
     text.append(b" hit, ")?;
-    append_count(alloc, &mut text, verdicts, Word::Older)?;
+    append_count(alloc, &mut text, verdicts, LineKind::Older)?;
     text.append(b" older, ")?;
-    append_count(alloc, &mut text, verdicts, Word::Keep)?;
+    append_count(alloc, &mut text, verdicts, LineKind::Keep)?;
     text.append(b" kept")?;
     text.push(b'\n')?;
     Ok(text)
@@ -39,7 +39,7 @@ fn append_count(
     alloc: Global,
     text: &mut Text,
     verdicts: &[Verdict2],
-    word: Word,
+    word: LineKind,
 ) -> Result<(), NoMemory>
     ensures { OnOk result (text.new ≡ text.old ++ count_of word verdicts.now) }
 {
@@ -47,7 +47,7 @@ fn append_count(
 }
 
 /// How many verdicts are told by a word.
-fn count(verdicts: &[Verdict2], word: Word) -> usize
+fn count(verdicts: &[Verdict2], word: LineKind) -> usize
     ensures { result ≡ count_told word verdicts.now }
 {
     let mut count = 0;
@@ -60,13 +60,13 @@ fn count(verdicts: &[Verdict2], word: Word) -> usize
 }
 
 /// Whether a verdict is told by a word.
-fn is_told(verdict: &Verdict2, word: Word) -> bool
+fn is_told(verdict: &Verdict2, word: LineKind) -> bool
     ensures { result ≡ is_told_by word verdict.now }
 {
     match verdict {
-        Verdict2::Installed(_) => word == Word::Get,
-        Verdict2::Hit(_) => word == Word::Hit,
-        Verdict2::Older(_) => word == Word::Older,
-        Verdict2::Kept(_) => word == Word::Keep,
+        Verdict2::Installed(_) => word == LineKind::Get,
+        Verdict2::Hit(_) => word == LineKind::Hit,
+        Verdict2::Older(_) => word == LineKind::Older,
+        Verdict2::Kept(_) => word == LineKind::Keep,
     }
 }

@@ -2,6 +2,8 @@
 //!
 //! A file that has the written form already comes out byte for byte. Comments are left out. It ends with status 1 where
 //! the file can't be written again, and with 2 where its words are not one file's name.
+//!
+//! Its `rewritten` gives the written form of what the text is read as, or why there is none.
 #![tactic(auto)]
 
 ghost use Rattle.rewrite.specs.Again.{IsAnswer};

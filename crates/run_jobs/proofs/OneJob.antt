@@ -1,7 +1,7 @@
 -- One job, from the board to the disk and back.
 use Rattle.std.proofs.Common.{◌≡◌, ◌∙◌, ◌≤◌, ℕ, zero, suc, ◌==◌, ◌+◌, ◌++◌, Bool, true, false, List, [], ◌∷◌, length, take, Option, Some, None, IfSome, refl, sym, ap, subst, arith}
 use Rattle.std.specs.Prelude.{option_map, option_and_then, slice_get, is_some, map}
-use Rattle.acq_base.specs.Mirror.{World as Mirror, answer_at}
+use Rattle.acq_base.specs.Mirror.{MirrorMap, answer_at}
 use Rattle.acq_base.specs.Plan.{IsPlanned, names_of}
 use Rattle.acq_base.specs.declared.fetch.Job.{Job}
 use Rattle.std.proofs.lemmas.Bool.Decides.{nat_tests}
@@ -11,33 +11,33 @@ use Rattle.acq_base.specs.declared.plan.Target.{Target}
 use Rattle.acq_base.specs.declared.uri.Uri.{Uri}
 use Rattle.acq_base.specs.declared.uri.ListName.{ListName}
 use Rattle.acq_outside.specs.Crash.{State}
-use Rattle.acq_outside.specs.Moments.{IsTold}
+use Rattle.acq_outside.specs.States.{IsTold}
 use Rattle.host_queues.specs.Lanes.{first_of}
 use Rattle.board_bounds.specs.Fetching.{AsksMayBeFetched, MayBeFetched}
 use Rattle.board_bounds.specs.Names.{PlannedNamesArePutNames}
 use Rattle.board_model.specs.Agreeing.{IsMirrors, part_of}
 use Rattle.board_model.specs.Boards.{Asker, Board, absorbed, asker_of, issued, issued_job, job_for, lane_with, name_staged, staged_name, took}
-use Rattle.board_model.specs.CallLaws.{AbsorbedBoardsRest}
+use Rattle.board_model.specs.CallLaws.{AbsorbedBoardsWantParts}
 use Rattle.board_model.specs.Keys.{name_at}
 use Rattle.board_model.specs.Laws.{BoardsStand}
-use Rattle.board_model.specs.NameLaws.{AreNamedApart, StagedAsksRest}
+use Rattle.board_model.specs.NameLaws.{AreNamedApart, StagedAsksAreWanted}
 use Rattle.board_model.specs.Reached.{AbsorbedBoardsAreReached, IssuedBoardsAreReached, Reached}
 use Rattle.board_model.specs.Runs.{Note, note_of}
-use Rattle.board_model.specs.Slots.{Config}
-use Rattle.board_model.specs.Uses.{IsServedAs, rests, use_from}
+use Rattle.board_model.specs.Slots.{Setup}
+use Rattle.board_model.specs.Uses.{IsServedAs, wanted_part, use_from}
 use Rattle.job_fetch.specs.Fetched.{IsCounted, IsSoundEnd}
 use Rattle.journal_model.specs.Names.{IsPutName}
-use Rattle.journal_model.specs.Rest.{KeepsRest, part_bytes}
-use Rattle.update_model.specs.Trails.{Told, Says, answered}
+use Rattle.journal_model.specs.Rest.{KeptAtRestSince, part_bytes}
+use Rattle.update_model.specs.Trails.{LaneAnswer, IsFaultOr, answered}
 use Rattle.update_model.specs.declared.ask.Ask.{Ask}
 use Rattle.update_model.specs.declared.ask.Body.TheVariants as bodies
 use Rattle.update_model.specs.declared.ask.Closed.{Closed}
 use Rattle.update_model.specs.declared.ask.Closed.TheVariants as closings
 use Rattle.board_model.proofs.Askers.{asker-asks}
 use Rattle.board_bounds.proofs.Walking.{at_all}
-use Rattle.run_jobs.specs.Coupling.{UsesHold}
+use Rattle.run_jobs.specs.Coupling.{HasWantedParts}
 use Rattle.run_jobs.specs.Fetching.{Answers, CanFetch, ComesTo, IsFetched, KeepsBytes, front_of}
-use Rattle.run_jobs.specs.Running.{Begun, GoesOn, GoesOnWith, HasHeard, IsReady, IsSoundBegun, IsUnderWay}
+use Rattle.run_jobs.specs.Running.{RunStart, JobKeepsRunGoing, JobAddsNotes, RunHasHeard, MayAsk, IsSoundBegun, IsUnderWay}
 use Rattle.run_jobs.proofs.Keeping.{front_is, keep_of, moments_of, told_back, uses_after}
 use Rattle.run_jobs.proofs.StagedLists.{staged_named}
 use Rattle.run_jobs.proofs.Telling.{answered_front, counts_last, each_last, if_both, sound_answer}
@@ -47,8 +47,8 @@ pub record Laws : Type 0 where
   pub stand : BoardsStand
   pub issued : IssuedBoardsAreReached
   pub absorbed : AbsorbedBoardsAreReached
-  pub rest : AbsorbedBoardsRest
-  pub asks : StagedAsksRest
+  pub rest : AbsorbedBoardsWantParts
+  pub asks : StagedAsksAreWanted
   pub fetched : AsksMayBeFetched
   pub put : PlannedNamesArePutNames
 
@@ -60,7 +60,7 @@ same_number n = grind (arith, nat_tests)
 -- the item that asks it, and whether its file is staged
 abbrev IsStagedAs : Board → Asker → Option ListName → Type 0
 IsStagedAs b a None = (a.ask.stage ≡ false) × (a.ask.from ≡ 0)
-IsStagedAs b a (Some name) = (a.ask.stage ≡ true) × (name_at a.source a.key.place ≡ Some name) × IsPutName name.0 × (rests b name.0 ≡ use_from a.ask.from)
+IsStagedAs b a (Some name) = (a.ask.stage ≡ true) × (name_at a.source a.key.place ≡ Some name) × IsPutName name.0 × (wanted_part b name.0 ≡ use_from a.ask.from)
 
 pub record IsJob (b : Board) (job : Job) (staged : Option ListName) : Type 0 where
   pub a : Asker
@@ -106,7 +106,7 @@ name_there (t ∷ targets) (suc k) target e = name_there targets k target e
 put_name : PlannedNamesArePutNames → (source : Source) (k : ℕ) (target : Target) → IsPlanned source → slice_get source.targets k ≡ Some target → IsPutName target.name.0
 put_name law source k target planned e = at_all IsPutName (names_of source) (suc k) target.name.0 (law source planned) (name_there source.targets k target e)
 
-kind_of : Laws → (begun : Begun) (b : Board) (n : ℕ) (a : Asker) (notes : List Note) → IsSoundBegun begun → b.config ≡ begun.config → Reached begun.config begun.olds notes b → asker_of b n ≡ Some a → MayBeFetched a.ask
+kind_of : Laws → (begun : RunStart) (b : Board) (n : ℕ) (a : Asker) (notes : List Note) → IsSoundBegun begun → b.config ≡ begun.config → Reached begun.config begun.olds notes b → asker_of b n ≡ Some a → MayBeFetched a.ask
     → IsStagedAs b a (name_staged a)
 kind_of laws begun b n a notes sound config reached asks may = by a.ask.stage refl
   where
@@ -114,12 +114,12 @@ kind_of laws begun b n a notes sound config reached asks may = by a.ask.stage re
     by false e = rw e (refl, may.held e)
     by true e =
         let i = staged_named laws.stand begun.config begun.olds notes b n a reached asks e in
-        let source_is : slice_get begun.config.sources a.key.source ≡ Some a.source = subst (λ (c : Config). slice_get c.sources a.key.source ≡ Some a.source) config (asker-asks b n a asks).source_is in
+        let source_is : slice_get begun.config.sources a.key.source ≡ Some a.source = subst (λ (c : Setup). slice_get c.sources a.key.source ≡ Some a.source) config (asker-asks b n a asks).source_is in
         let planned = at_all IsPlanned begun.config.sources a.key.source a.source sound.planned source_is in
-        let wanted = laws.asks b n a i.target.name (subst (λ (c : Config). AreNamedApart c) (sym config) sound.apart) asks e i.is in
+        let wanted = laws.asks b n a i.target.name (subst (λ (c : Setup). AreNamedApart c) (sym config) sound.apart) asks e i.is in
         rw e (rw i.is (refl, i.is, put_name laws.put a.source i.k i.target planned i.at, wanted))
 
-pub job_of : Laws → (begun : Begun) (notes : List Note) (count : ℕ) (b : Board) (job : Job) (now : List State) → IsSoundBegun begun → IsUnderWay begun notes count b now → issued_job b 0 ≡ Some job
+pub job_of : Laws → (begun : RunStart) (notes : List Note) (count : ℕ) (b : Board) (job : Job) (now : List State) → IsSoundBegun begun → IsUnderWay begun notes count b now → issued_job b 0 ≡ Some job
     → IsJob (issued b 0) job (staged_name (issued b 0) job.no)
 job_of laws begun notes count b job now sound under e =
     let i = issued_is b job e in
@@ -137,12 +137,12 @@ job_of laws begun notes count b job now sound under e =
       kind = rw (staged_is (issued b 0) job.no i.a lane i.asks) (kind_of laws begun (issued b 0) job.no i.a notes sound under.heard.config reached i.asks may);
     }
 
-can_by : (begun : Begun) (b : Board) (job : Job) (staged : Option ListName) (now : List State) → IsJob b job staged → UsesHold (rests b) begun.parts now → CanFetch staged job now
+can_by : (begun : RunStart) (b : Board) (job : Job) (staged : Option ListName) (now : List State) → IsJob b job staged → HasWantedParts (wanted_part b) begun.parts now → CanFetch staged job now
 can_by begun b job None now j uses = rw j.job_is (j.may.sound, j.kind.1)
 can_by begun b job (Some name) now j uses =
-    rw j.job_is (j.may.sound, j.may.begin, record { named = j.kind.2; keep = λ told. keep_of j.a.ask.from (rests b) name.0 begun.parts now j.kind.3 uses told })
+    rw j.job_is (j.may.sound, j.may.begin, record { named = j.kind.2; keep = λ told. keep_of j.a.ask.from (wanted_part b) name.0 begun.parts now j.kind.3 uses told })
 
-pub can_fetch : Laws → (mirror : Option Mirror) (count : ℕ) (b c : Board) (job : Job) (now : List State) → IsReady mirror count b now → issued_job b 0 ≡ Some job → c ≡ issued b 0
+pub can_fetch : Laws → (mirror : Option MirrorMap) (count : ℕ) (b c : Board) (job : Job) (now : List State) → MayAsk mirror count b now → issued_job b 0 ≡ Some job → c ≡ issued b 0
     → CanFetch (staged_name c job.no) job now
 can_fetch laws mirror count b c job now ready e issued_is =
     subst (λ (x : Board). CanFetch (staged_name x job.no) job now) (sym issued_is) (can_by ready.begun (issued b 0) job (staged_name (issued b 0) job.no) now (job_of laws ready.begun ready.notes count b job now ready.sound ready.under_way e) ready.under_way.uses)
@@ -163,11 +163,11 @@ served_as b a staged now closings.TooBig kind comes = tt
 served_as b a staged now (closings.Garbled at) kind comes = tt
 served_as b a staged now (closings.Fault before after) kind comes = tt
 
-use_of : (b : Board) (job : Job) (staged : Option ListName) → (j : IsJob b job staged) → IfSome staged (λ name. rests b name.0 ≡ use_from j.a.ask.from)
+use_of : (b : Board) (job : Job) (staged : Option ListName) → (j : IsJob b job staged) → IfSome staged (λ name. wanted_part b name.0 ≡ use_from j.a.ask.from)
 use_of b job None j = tt
 use_of b job (Some name) j = j.kind.3
 
-says_same : (closed a b : Closed) → a ≡ b → Says closed a → Says closed b
+says_same : (closed a b : Closed) → a ≡ b → IsFaultOr closed a → IsFaultOr closed b
 says_same closed a b e is = rw (← e) is
 
 -- what the job asked is the item's ask
@@ -178,29 +178,29 @@ ask_is job a stage e s =
     let from : job.from ≡ a.from = ap (λ (x : Job). x.from) e in
     rw (uri, most, from, ← s) refl
 
-says_ask : (mirror : Mirror) (front : List ℕ) (job : Job) (a : Ask) (stage : Bool) (closed : Closed) → job ≡ job_for job.no a → a.stage ≡ stage
-    → Says closed (answered front (record { uri = job.uri; max = job.max; from = job.from; stage = stage }) (answer_at mirror job.uri)) → Says closed (answered front a (answer_at mirror a.uri))
+says_ask : (mirror : MirrorMap) (front : List ℕ) (job : Job) (a : Ask) (stage : Bool) (closed : Closed) → job ≡ job_for job.no a → a.stage ≡ stage
+    → IsFaultOr closed (answered front (record { uri = job.uri; max = job.max; from = job.from; stage = stage }) (answer_at mirror job.uri)) → IsFaultOr closed (answered front a (answer_at mirror a.uri))
 says_ask mirror front job a stage closed e s says =
     let uri : job.uri ≡ a.uri = ap (λ (x : Job). x.uri) e in
-    subst (λ (u : Uri). Says closed (answered front a (answer_at mirror u))) uri (subst (λ (x : Ask). Says closed (answered front x (answer_at mirror job.uri))) (ask_is job a stage e s) says)
+    subst (λ (u : Uri). IsFaultOr closed (answered front a (answer_at mirror u))) uri (subst (λ (x : Ask). IsFaultOr closed (answered front x (answer_at mirror job.uri))) (ask_is job a stage e s) says)
 
 -- the answer that is noted is the mirror's beside the bytes that were there at first
-mirrors_note : (begun : Begun) (b : Board) (job : Job) (staged : Option ListName) (old now : List State) (closed : Closed) (lane : ℕ) → (j : IsJob b job staged) → b.config ≡ begun.config → UsesHold (rests b) begun.parts old → IsTold old → IsTold now
-    → (mirror : Mirror) → Says closed (answered (front_of staged old) (record { uri = job.uri; max = job.max; from = job.from; stage = is_some staged }) (answer_at mirror job.uri))
+mirrors_note : (begun : RunStart) (b : Board) (job : Job) (staged : Option ListName) (old now : List State) (closed : Closed) (lane : ℕ) → (j : IsJob b job staged) → b.config ≡ begun.config → HasWantedParts (wanted_part b) begun.parts old → IsTold old → IsTold now
+    → (mirror : MirrorMap) → IsFaultOr closed (answered (front_of staged old) (record { uri = job.uri; max = job.max; from = job.from; stage = is_some staged }) (answer_at mirror job.uri))
     → IsMirrors mirror begun.parts begun.config.sources (note_of j.a (record { lane = lane; closed = closed }))
 mirrors_note begun b job None old now closed lane j config uses told_old told mirror says =
-    let source_is : slice_get begun.config.sources j.a.key.source ≡ Some j.a.source = subst (λ (c : Config). slice_get c.sources j.a.key.source ≡ Some j.a.source) config (asker-asks b job.no j.a j.asks).source_is in
+    let source_is : slice_get begun.config.sources j.a.key.source ≡ Some j.a.source = subst (λ (c : Setup). slice_get c.sources j.a.key.source ≡ Some j.a.source) config (asker-asks b job.no j.a j.asks).source_is in
     let front : take j.a.ask.from [] ≡ take j.a.ask.from (part_of begun.parts (name_at j.a.source j.a.key.place)) = rw j.kind.1 refl in
     let same = answered_front [] (part_of begun.parts (name_at j.a.source j.a.key.place)) j.a.ask (answer_at mirror j.a.ask.uri) front in
     rw source_is (says_same closed _ _ same (says_ask mirror [] job j.a.ask false closed j.job_is j.kind.0 says))
 mirrors_note begun b job (Some name) old now closed lane j config uses told_old told mirror says =
-    let source_is : slice_get begun.config.sources j.a.key.source ≡ Some j.a.source = subst (λ (c : Config). slice_get c.sources j.a.key.source ≡ Some j.a.source) config (asker-asks b job.no j.a j.asks).source_is in
-    let front : take j.a.ask.from (part_bytes old name.0) ≡ take j.a.ask.from (begun.parts name.0) = front_is j.a.ask.from (rests b) name.0 begun.parts old j.kind.3 uses told_old in
+    let source_is : slice_get begun.config.sources j.a.key.source ≡ Some j.a.source = subst (λ (c : Setup). slice_get c.sources j.a.key.source ≡ Some j.a.source) config (asker-asks b job.no j.a j.asks).source_is in
+    let front : take j.a.ask.from (part_bytes old name.0) ≡ take j.a.ask.from (begun.parts name.0) = front_is j.a.ask.from (wanted_part b) name.0 begun.parts old j.kind.3 uses told_old in
     let same = answered_front (part_bytes old name.0) (begun.parts name.0) j.a.ask (answer_at mirror j.a.ask.uri) front in
     rw source_is (rw j.kind.1 (says_same closed _ _ same (says_ask mirror (part_bytes old name.0) job j.a.ask true closed j.job_is j.kind.0 says)))
 
 -- what one job did
-pub record HasFetched (begun : Begun) (b : Board) (job : Job) (staged : Option ListName) (before after : ℕ) (old now : List State) (closed : Closed) : Type 0 where
+pub record HasFetched (begun : RunStart) (b : Board) (job : Job) (staged : Option ListName) (before after : ℕ) (old now : List State) (closed : Closed) : Type 0 where
   pub fetched : IsFetched staged old now
   pub kept : KeepsBytes staged job.from old now
   pub comes : ComesTo staged now closed
@@ -209,10 +209,10 @@ pub record HasFetched (begun : Begun) (b : Board) (job : Job) (staged : Option L
   pub count : before ≤ after
   pub sound : IsSoundEnd closed
 
-heard_one : Laws → (begun : Begun) (notes : List Note) (b : Board) (job : Job) (staged : Option ListName) (before after : ℕ) (old now : List State) (closed : Closed) → (j : IsJob b job staged) → UsesHold (rests b) begun.parts old → HasHeard begun notes before b old
-    → HasFetched begun b job staged before after old now closed → HasHeard begun (notes ++ note_of j.a (record { lane = 0; closed = closed }) ∷ []) after (took b job.no j.a 0 (record { lane = 0; closed = closed })) now
+heard_one : Laws → (begun : RunStart) (notes : List Note) (b : Board) (job : Job) (staged : Option ListName) (before after : ℕ) (old now : List State) (closed : Closed) → (j : IsJob b job staged) → HasWantedParts (wanted_part b) begun.parts old → RunHasHeard begun notes before b old
+    → HasFetched begun b job staged before after old now closed → RunHasHeard begun (notes ++ note_of j.a (record { lane = 0; closed = closed }) ∷ []) after (took b job.no j.a 0 (record { lane = 0; closed = closed })) now
 heard_one laws begun notes b job staged before after old now closed j uses heard did =
-    let told : Told = record { lane = 0; closed = closed } in
+    let told : LaneAnswer = record { lane = 0; closed = closed } in
     let note = note_of j.a told in
     record {
       config = heard.config;
@@ -220,43 +220,43 @@ heard_one laws begun notes b job staged before after old now closed j uses heard
           (laws.absorbed begun.config begun.olds notes b 0 job.no 0 closed j.a heard.reached j.lane j.asks);
       sound = each_last _ notes note heard.sound (sound_answer closed did.sound);
       answers = λ is_told.
-          let back = told_back (KeepsRest old) old now (moments_of staged old now did.fetched) is_told in
+          let back = told_back (KeptAtRestSince old) old now (moments_of staged old now did.fetched) is_told in
           if_both begun.mirror _ _ _ (λ mirror agrees says. each_last _ notes note agrees (mirrors_note begun b job staged old now closed 0 j heard.config uses back is_told mirror says))
           (heard.answers back) (did.answers.told is_told).told;
       counts = counts_last b.asks _ closed begun.count before after refl heard.counts did.counted did.count;
       lanes = each_last _ b.asks _ heard.lanes refl;
     }
 
-pub goes_one : Laws → (begun : Begun) (notes : List Note) (before after : ℕ) (b : Board) (job : Job) (old now : List State) (closed : Closed) → issued_job b 0 ≡ Some job → IsSoundBegun begun → IsUnderWay begun notes before b old
-    → HasFetched begun (issued b 0) job (staged_name (issued b 0) job.no) before after old now closed → GoesOnWith begun notes after (absorbed (issued b 0) 0 job.no closed) now
+pub goes_one : Laws → (begun : RunStart) (notes : List Note) (before after : ℕ) (b : Board) (job : Job) (old now : List State) (closed : Closed) → issued_job b 0 ≡ Some job → IsSoundBegun begun → IsUnderWay begun notes before b old
+    → HasFetched begun (issued b 0) job (staged_name (issued b 0) job.no) before after old now closed → JobAddsNotes begun notes after (absorbed (issued b 0) 0 job.no closed) now
 goes_one laws begun notes before after b job old now closed e sound under did =
     let c = issued b 0 in
     let staged = staged_name c job.no in
     let j = job_of laws begun notes before b job old sound under e in
-    let told : Told = record { lane = 0; closed = closed } in
+    let told : LaneAnswer = record { lane = 0; closed = closed } in
     let is = absorbed_is c job.no closed j.a j.lane j.asks in
     let reached = laws.issued begun.config begun.olds notes b 0 under.heard.reached in
-    let heard : HasHeard begun notes before c old = record { config = under.heard.config; reached = reached; sound = under.heard.sound; answers = under.heard.answers; counts = under.heard.counts; lanes = under.heard.lanes } in
+    let heard : RunHasHeard begun notes before c old = record { config = under.heard.config; reached = reached; sound = under.heard.sound; answers = under.heard.answers; counts = under.heard.counts; lanes = under.heard.lanes } in
     let falls = λ (name : List ℕ). laws.rest begun.config begun.olds notes c 0 job.no 0 closed j.a name reached j.lane j.asks (served_as c j.a staged now closed j.kind did.comes) in
     let from_is : job.from ≡ j.a.ask.from = ap (λ (x : Job). x.from) j.job_is in
     record {
       more = note_of j.a told ∷ [];
       under_way = record {
-        heard = subst (λ (x : Board). HasHeard begun (notes ++ note_of j.a told ∷ []) after x now) (sym is) (heard_one laws begun notes c job staged before after old now closed j under.uses heard did);
+        heard = subst (λ (x : Board). RunHasHeard begun (notes ++ note_of j.a told ∷ []) after x now) (sym is) (heard_one laws begun notes c job staged before after old now closed j under.uses heard did);
         none_out = rw is (rw j.out refl);
-        uses = uses_after staged j.a.ask.from closed (rests c) (rests (absorbed c 0 job.no closed)) begun.parts old now did.fetched (rw (← from_is) did.kept) did.comes (use_of c job staged j) falls under.uses;
+        uses = uses_after staged j.a.ask.from closed (wanted_part c) (wanted_part (absorbed c 0 job.no closed)) begun.parts old now did.fetched (rw (← from_is) did.kept) did.comes (use_of c job staged j) falls under.uses;
       };
     }
 
 -- none goes out
-pub goes_none : IssuedBoardsAreReached → (begun : Begun) (notes : List Note) (count : ℕ) (b : Board) (now : List State) → issued_job b 0 ≡ None → IsUnderWay begun notes count b now → IsUnderWay begun notes count (issued b 0) now
+pub goes_none : IssuedBoardsAreReached → (begun : RunStart) (notes : List Note) (count : ℕ) (b : Board) (now : List State) → issued_job b 0 ≡ None → IsUnderWay begun notes count b now → IsUnderWay begun notes count (issued b 0) now
 goes_none law begun notes count b now e under = record {
   heard = record { config = under.heard.config; reached = law begun.config begun.olds notes b 0 under.heard.reached; sound = under.heard.sound; answers = under.heard.answers; counts = under.heard.counts; lanes = under.heard.lanes };
   none_out = rw e under.none_out;
   uses = under.uses;
 }
 
-did_of : (begun : Begun) (c d : Board) (job : Job) (closed : Closed) (mirror : Option Mirror) (before after : ℕ) (old now : List State) → c ≡ d → begun.mirror ≡ mirror
+did_of : (begun : RunStart) (c d : Board) (job : Job) (closed : Closed) (mirror : Option MirrorMap) (before after : ℕ) (old now : List State) → c ≡ d → begun.mirror ≡ mirror
     → IsFetched (staged_name c job.no) old now → KeepsBytes (staged_name c job.no) job.from old now → ComesTo (staged_name c job.no) now closed → Answers mirror (staged_name c job.no) job old now closed
     → IsCounted before after closed → before ≤ after → IsSoundEnd closed → HasFetched begun d job (staged_name d job.no) before after old now closed
 did_of begun c d job closed mirror before after old now same from fetched kept comes answers counted count sound =
@@ -264,16 +264,16 @@ did_of begun c d job closed mirror before after old now same from fetched kept c
     (record { fetched = fetched; kept = kept; comes = comes; answers = rw from answers; counted = counted; count = count; sound = sound })
 
 -- the whole of one job
-pub goes_job : Laws → (mirror : Option Mirror) (before after : ℕ) (b c d : Board) (job : Job) (closed : Closed) (old now : List State) → issued_job b 0 ≡ Some job → c ≡ issued b 0 → d ≡ absorbed c 0 job.no closed
+pub goes_job : Laws → (mirror : Option MirrorMap) (before after : ℕ) (b c d : Board) (job : Job) (closed : Closed) (old now : List State) → issued_job b 0 ≡ Some job → c ≡ issued b 0 → d ≡ absorbed c 0 job.no closed
     → IsFetched (staged_name c job.no) old now → KeepsBytes (staged_name c job.no) job.from old now → ComesTo (staged_name c job.no) now closed → Answers mirror (staged_name c job.no) job old now closed
-    → IsCounted before after closed → before ≤ after → IsSoundEnd closed → GoesOn mirror before after b d old now
+    → IsCounted before after closed → before ≤ after → IsSoundEnd closed → JobKeepsRunGoing mirror before after b d old now
 goes_job laws mirror before after b c d job closed old now e issued_is absorbed_as fetched kept comes answers counted count sound = λ begun notes sound_begun from under.
     let whole = goes_one laws begun notes before after b job old now closed e sound_begun under (did_of begun c (issued b 0) job closed mirror before after old now issued_is from fetched kept comes answers counted count sound) in
     let same : d ≡ absorbed (issued b 0) 0 job.no closed = absorbed_as ∙ ap (λ (x : Board). absorbed x 0 job.no closed) issued_is in
-    subst (λ (x : Board). GoesOnWith begun notes after x now) (sym same) whole
+    subst (λ (x : Board). JobAddsNotes begun notes after x now) (sym same) whole
 
 -- its answer is one more entry of the log
-pub one_more : Laws → (mirror : Option Mirror) (count : ℕ) (b c d : Board) (job : Job) (closed : Closed) (now : List State) → IsReady mirror count b now → issued_job b 0 ≡ Some job → c ≡ issued b 0 → d ≡ absorbed c 0 job.no closed
+pub one_more : Laws → (mirror : Option MirrorMap) (count : ℕ) (b c d : Board) (job : Job) (closed : Closed) (now : List State) → MayAsk mirror count b now → issued_job b 0 ≡ Some job → c ≡ issued b 0 → d ≡ absorbed c 0 job.no closed
     → length d.asks ≡ length b.asks + 1
 one_more laws mirror count b c d job closed now ready e issued_is absorbed_as =
     let j = job_of laws ready.begun ready.notes count b job now ready.sound ready.under_way e in
@@ -281,7 +281,7 @@ one_more laws mirror count b c d job closed now ready e issued_is absorbed_as =
     rw (same ∙ absorbed_is (issued b 0) job.no closed j.a j.lane j.asks) (length_push b.asks _)
 
 -- none goes out, and the run stands as it did
-pub goes_idle : IssuedBoardsAreReached → (mirror : Option Mirror) (count : ℕ) (b c : Board) (now : List State) → c ≡ issued b 0 → issued_job b 0 ≡ None → GoesOn mirror count count b c now now
+pub goes_idle : IssuedBoardsAreReached → (mirror : Option MirrorMap) (count : ℕ) (b c : Board) (now : List State) → c ≡ issued b 0 → issued_job b 0 ≡ None → JobKeepsRunGoing mirror count count b c now now
 goes_idle law mirror count b c now issued_is e = λ begun notes sound from under. record {
   more = [];
   under_way = subst (λ (ns : List Note). IsUnderWay begun ns count c now) (sym (append-nil notes)) (subst (λ (x : Board). IsUnderWay begun notes count x now) (sym issued_is) (goes_none law begun notes count b now e under));

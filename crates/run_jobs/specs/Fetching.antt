@@ -1,13 +1,13 @@
 -- One job of a run, fetched into the list's file on its way, or into memory.
 use Rattle.std.specs.Prelude.{◌≡◌, ℕ, ◌≤◌, is_some, List, [], length, Option, Some, None}
-use Rattle.acq_base.specs.Mirror.{World as Mirror}
+use Rattle.acq_base.specs.Mirror.{MirrorMap}
 use Rattle.acq_base.specs.Uri.{IsSound}
 use Rattle.acq_base.specs.declared.fetch.Job.{Job}
 use Rattle.acq_base.specs.declared.uri.ListName.{ListName}
 use Rattle.acq_outside.specs.Crash.{State}
-use Rattle.acq_outside.specs.Moments.{IsTold}
+use Rattle.acq_outside.specs.States.{IsTold}
 use Rattle.acq_outside.specs.Word.{CanBegin}
-use Rattle.job_fetch.specs.Fetched.{IsAnswer, IsHeld, IsStaged, KeepsFront, Staging}
+use Rattle.job_fetch.specs.Fetched.{IsAnswer, IsInMemory, IsStagedBody, KeepsFront, Staging}
 use Rattle.journal_model.specs.Names.{IsPutName}
 use Rattle.journal_model.specs.Rest.{part_bytes}
 use Rattle.update_model.specs.declared.ask.Closed.{Closed}
@@ -34,8 +34,8 @@ KeepsBytes (Some name) from old now = KeepsFront name.0 from old now
 
 -- a file that came is in memory, or the list's file on its way
 abbrev pub ComesTo : Option ListName → List State → Closed → Type 0
-ComesTo None now closed = IsHeld closed
-ComesTo (Some name) now closed = IsStaged name.0 now closed
+ComesTo None now closed = IsInMemory closed
+ComesTo (Some name) now closed = IsStagedBody name.0 now closed
 
 -- the bytes at hand
 abbrev pub front_of : Option ListName → List State → List ℕ
@@ -43,5 +43,5 @@ front_of None old = []
 front_of (Some name) old = part_bytes old name.0
 
 -- where the disk and the method tell, the answer is the mirror's to the job, or a fault
-pub record Answers (mirror : Option Mirror) (staged : Option ListName) (job : Job) (old now : List State) (closed : Closed) : Type 0 where
+pub record Answers (mirror : Option MirrorMap) (staged : Option ListName) (job : Job) (old now : List State) (closed : Closed) : Type 0 where
   pub told : IsTold now → IsAnswer mirror (front_of staged old) (is_some staged) job closed

@@ -1,35 +1,35 @@
 -- A run between two of its steps: its board, the disk and the method.
 use Rattle.std.specs.Prelude.{◌≡◌, ◌≤◌, ℕ, All, List, [], ◌∷◌, ◌++◌, length, Option, None, IfSome}
 use Rattle.std.specs.List.{flat_map, AllByRecursion as Each}
-use Rattle.acq_base.specs.Mirror.{World as Mirror}
+use Rattle.acq_base.specs.Mirror.{MirrorMap}
 use Rattle.acq_base.specs.Plan.{IsPlanned, names_of}
 use Rattle.acq_base.specs.declared.installed.Old.{Old}
 use Rattle.acq_outside.specs.Crash.{State}
-use Rattle.acq_outside.specs.Moments.{IsTold, Stands}
+use Rattle.acq_outside.specs.States.{IsTold, IsNow}
 use Rattle.board_bounds.specs.Fetching.{LeadSoundly}
 use Rattle.board_model.specs.Agreeing.{Agrees}
 use Rattle.board_model.specs.Boards.{Board}
 use Rattle.board_model.specs.NameLaws.{AreNamedApart}
 use Rattle.board_model.specs.Reached.{Reached}
 use Rattle.board_model.specs.Runs.{Note}
-use Rattle.board_model.specs.Slots.{Config}
-use Rattle.board_model.specs.Uses.{rests}
+use Rattle.board_model.specs.Slots.{Setup}
+use Rattle.board_model.specs.Uses.{wanted_part}
 use Rattle.journal_model.specs.Rest.{IsIdle}
-use Rattle.update_model.specs.Outcomes.{Parts}
-use Rattle.run_jobs.specs.Coupling.{UsesHold}
+use Rattle.update_model.specs.Outcomes.{PartFiles}
+use Rattle.run_jobs.specs.Coupling.{HasWantedParts}
 use Rattle.run_jobs.specs.Counting.{CountsUp}
 
 -- What a run was begun with: the board's configuration, what was installed, the lists on their way, and the method's mirror
 -- and count of faults.
-pub record Begun : Type 0 where
-  pub config : Config
+pub record RunStart : Type 0 where
+  pub config : Setup
   pub olds : List Old
-  pub parts : Parts
-  pub mirror : Option Mirror
+  pub parts : PartFiles
+  pub mirror : Option MirrorMap
   pub count : ℕ
 
 -- the plan is sound, and the sizes are those of the lists on their way
-pub record IsSoundBegun (begun : Begun) : Type 0 where
+pub record IsSoundBegun (begun : RunStart) : Type 0 where
   pub planned : All IsPlanned begun.config.sources
   pub apart : AreNamedApart begun.config
   pub few : length (flat_map names_of begun.config.sources) ≤ 4096
@@ -37,7 +37,7 @@ pub record IsSoundBegun (begun : Begun) : Type 0 where
 
 -- A run has heard these notes: calls have led to the board, each answer is the mirror's, where the disk and the method tell,
 -- or a fault, and faults are those that the method counted. All answers are those of the first method.
-pub record HasHeard (begun : Begun) (notes : List Note) (count : ℕ) (b : Board) (now : List State) : Type 0 where
+pub record RunHasHeard (begun : RunStart) (notes : List Note) (count : ℕ) (b : Board) (now : List State) : Type 0 where
   pub config : b.config ≡ begun.config
   pub reached : Reached begun.config begun.olds notes b
   pub sound : LeadSoundly notes
@@ -46,29 +46,29 @@ pub record HasHeard (begun : Begun) (notes : List Note) (count : ℕ) (b : Board
   pub lanes : Each (λ asked. asked.lane ≡ 0) b.asks
 
 -- A run between two of its steps, with no job out: what the board wants of the lists on their way is there.
-pub record IsUnderWay (begun : Begun) (notes : List Note) (count : ℕ) (b : Board) (now : List State) : Type 0 where
-  pub heard : HasHeard begun notes count b now
+pub record IsUnderWay (begun : RunStart) (notes : List Note) (count : ℕ) (b : Board) (now : List State) : Type 0 where
+  pub heard : RunHasHeard begun notes count b now
   pub none_out : b.out ≡ None ∷ []
-  pub uses : UsesHold (rests b) begun.parts now
+  pub uses : HasWantedParts (wanted_part b) begun.parts now
 
 -- the run that is under way over a sound plan, and a commit may be prepared
-pub record IsReady (mirror : Option Mirror) (count : ℕ) (b : Board) (now : List State) : Type 0 where
-  pub begun : Begun
+pub record MayAsk (mirror : Option MirrorMap) (count : ℕ) (b : Board) (now : List State) : Type 0 where
+  pub begun : RunStart
   pub notes : List Note
   pub sound : IsSoundBegun begun
   pub from : begun.mirror ≡ mirror
   pub under_way : IsUnderWay begun notes count b now
-  pub idle : Stands IsIdle now
+  pub idle : IsNow IsIdle now
 
 -- what it has heard is behind what it had heard before
-pub record GoesOnWith (begun : Begun) (notes : List Note) (count : ℕ) (b : Board) (now : List State) : Type 0 where
+pub record JobAddsNotes (begun : RunStart) (notes : List Note) (count : ℕ) (b : Board) (now : List State) : Type 0 where
   pub more : List Note
   pub under_way : IsUnderWay begun (notes ++ more) count b now
 
 -- a run that is under way still is, over the same mirror
-abbrev pub GoesOn : Option Mirror → ℕ → ℕ → Board → Board → List State → List State → Type 0
-GoesOn mirror count later before after old now =
-    (begun : Begun) (notes : List Note) → IsSoundBegun begun → begun.mirror ≡ mirror → IsUnderWay begun notes count before old → GoesOnWith begun notes later after now
+abbrev pub JobKeepsRunGoing : Option MirrorMap → ℕ → ℕ → Board → Board → List State → List State → Type 0
+JobKeepsRunGoing mirror count later before after old now =
+    (begun : RunStart) (notes : List Note) → IsSoundBegun begun → begun.mirror ≡ mirror → IsUnderWay begun notes count before old → JobAddsNotes begun notes later after now
 
 -- nothing else of a board has changed than what its items have heard
 pub record SameBoard (before after : Board) : Type 0 where

@@ -1,24 +1,24 @@
 //! One job of a run: it goes out, is fetched, and its answer comes in.
 ghost use Rattle.std.specs.Prelude.{◌≡◌, ◌≢◌, ◌+◌, ℕ, true, false, length, None, Err, IfOk, OnOk};
 ghost use Rattle.acq_outside.specs.Fetches.{Fetches};
-ghost use Rattle.acq_outside.specs.Moments.{Since};
+ghost use Rattle.acq_outside.specs.States.{Since};
 ghost use Rattle.acq_outside.specs.Stays.{StaysCounting};
 ghost use Rattle.board_model.specs.Boards.{staged_name};
 ghost use Rattle.board_model.specs.Jobs.{NoneAsks};
 ghost use Rattle.job_fetch.specs.Fetched.{IsCounted, IsSoundEnd};
-ghost use Rattle.journal_model.specs.Rest.{KeepsRest};
-ghost use Rattle.update_core.specs.Standing.{board_of};
+ghost use Rattle.journal_model.specs.Rest.{KeptAtRestSince};
+ghost use Rattle.update_core.specs.BoardRefinement.{board_of};
 ghost use Rattle.run_jobs.specs.Fetching.{Answers, CanFetch, ComesTo, IsFetched, KeepsBytes};
-ghost use Rattle.run_jobs.specs.Running.{GoesOn, IsReady, SameBoard};
+ghost use Rattle.run_jobs.specs.Running.{JobKeepsRunGoing, MayAsk, SameBoard};
 
 use crate::RunError;
 use acq_base::Job;
 use acq_outside::{Disk, Method, OutError};
 use board_bounds::{asks_may_be_fetched, planned_names_are_put_names};
 use board_model::{
-    boards_rest, boards_walk_routes, calls_are_events, jobs_stand, named_lists_rest,
+    boards_walk_routes, calls_are_events, jobs_stand, staged_parts_are_wanted, wanted_parts_fall,
 };
-use job_fetch::{fetch_held, fetch_staged};
+use job_fetch::{fetch_into_memory, fetch_staged};
 use kept_hooks::Judge;
 use std::alloc::Global;
 use update_core::Board;
@@ -47,7 +47,7 @@ fn fetch<D: Disk, M: Method>(
 {
     match board.stage(job.no) {
         Some(name) => fetch_staged(alloc, disk, method, name, job),
-        None => Ok(fetch_held(alloc, method, job)?),
+        None => Ok(fetch_into_memory(alloc, method, job)?),
     }
 }
 
@@ -61,7 +61,7 @@ pub fn ask_one<D: Disk, M: Method>(
     method: &mut M,
     board: &mut Board,
 ) -> Result<bool, RunError>
-    requires ready { IsReady (M.world method.old) (M.faults method.old) (board_of board.old) (D.trace disk.old) }
+    requires ready { MayAsk (M.world method.old) (M.faults method.old) (board_of board.old) (D.trace disk.old) }
     requires change { judge.now.change ≡ (board_of board.old).config.change }
 
     ensures frame { StaysCounting RunError.DiskFault D.Disk disk.old disk.new result }
@@ -72,14 +72,14 @@ pub fn ask_one<D: Disk, M: Method>(
     ensures more { IfOk result (λ more. more ≡ true → length (board_of board.new).asks ≡ length (board_of board.old).asks + 1) }
     ensures none { IfOk result (λ more. more ≡ false → NoneAsks (board_of board.new)) }
 
-    ensures moments { Since (D.trace disk.old) (D.trace disk.new) (KeepsRest (D.trace disk.old)) }
-    ensures goes { OnOk result (GoesOn (M.world method.old) (M.faults method.old) (M.faults method.new)
+    ensures moments { Since (D.trace disk.old) (D.trace disk.new) (KeptAtRestSince (D.trace disk.old)) }
+    ensures goes { OnOk result (JobKeepsRunGoing (M.world method.old) (M.faults method.old) (M.faults method.new)
         (board_of board.old) (board_of board.new) (D.trace disk.old) (D.trace disk.new)) }
 {
     calls_are_events();
     boards_walk_routes();
-    boards_rest();
-    named_lists_rest();
+    wanted_parts_fall();
+    staged_parts_are_wanted();
     jobs_stand();
     asks_may_be_fetched();
     planned_names_are_put_names();

@@ -17,14 +17,14 @@ use Rattle.board_model.specs.RunLaws.{IsSourceAt}
 use Rattle.board_model.specs.Runs.{Note}
 use Rattle.board_model.proofs.Making.{none-in}
 use Rattle.board_model.proofs.Resting.{olds-there}
-use Rattle.commit_journal.specs.Changes.{AreApart, Filled, DropFile, folder_step, folder_steps, stepped_all}
-use Rattle.journal_model.specs.Names.{is_list}
+use Rattle.commit_journal.specs.Changes.{AreApart, Filled, DropFile, folder_step, folder_steps, after_commit}
+use Rattle.journal_model.specs.Names.{is_installed_name}
 use Rattle.journal_model.proofs.Twice.{with_other}
 use Rattle.list_commits.specs.Made.{after_all}
 use Rattle.list_commits.specs.SetLaws.{OwnsChanges}
 use Rattle.list_commits.proofs.Apart.{here, there}
-use Rattle.run_model.specs.Begun.{Begun}
-use Rattle.run_model.specs.Groups.{Group, OfSource, OfNone, AreGroups, AreOfNone, IsNewSet, all_groups, changes_in, commit_of, commits_of, removed_in, sources_in}
+use Rattle.run_model.specs.Begun.{RunInput}
+use Rattle.run_model.specs.Groups.{Group, SetOf, CleanUp, AreGroups, AreRemovable, IsNewSet, all_groups, changes_in, commit_of, commits_of, removed_in, sources_in}
 use Rattle.run_model.proofs.Names.{SameUnder, get_in, in_plan, sources_apart}
 use Rattle.run_model.proofs.Ready.{Below, WasReady, owns, put_names, was_ready}
 
@@ -38,22 +38,22 @@ pub after_both : (first later : List Group) (lists : Files) → after_groups (fi
 after_both [] later lists = refl
 after_both (group ∷ first) later lists = after_both first later (folder_steps (changes_in group) lists)
 
-pub stepped : (groups : List Group) (lists : Files) → stepped_all (commit_of groups) lists ≡ after_groups groups lists
-unfolding stepped_all
+pub stepped : (groups : List Group) (lists : Files) → after_commit (commit_of groups) lists ≡ after_groups groups lists
+unfolding after_commit
 stepped [] lists = refl
 stepped (group ∷ groups) lists = stepped groups (folder_steps (changes_in group) lists)
 
 pub all_in_turn : (commits : List (List Group)) (lists : Files) → after_all (commits_of commits) lists ≡ after_groups (all_groups commits) lists
 all_in_turn [] lists = refl
 all_in_turn (groups ∷ commits) lists =
-    all_in_turn commits (stepped_all (commit_of groups) lists)
+    all_in_turn commits (after_commit (commit_of groups) lists)
     ∙ ap (after_groups (all_groups commits)) (stepped groups lists)
     ∙ sym (after_both groups (all_groups commits) lists)
 
 -- ---- a source's changes
 
 -- a source's new set, made on these lists
-pub record Made (begun : Begun) (heard : List Note) (n : ℕ) (changes : List Filled) (new_set : IsNewSet begun heard n changes) (lists : Files) : Type 0 where
+pub record Made (begun : RunInput) (heard : List Note) (n : ℕ) (changes : List Filled) (new_set : IsNewSet begun heard n changes) (lists : Files) : Type 0 where
   pub old : Old
   pub stands : IsSourceAt begun.config begun.olds n new_set.source old
   pub was : WasReady begun.config n new_set.source old new_set.settles.notes new_set.settled
@@ -61,7 +61,7 @@ pub record Made (begun : Begun) (heard : List Note) (n : ℕ) (changes : List Fi
   pub owns_them : OwnsChanges new_set.source new_set.settled
   pub made : AreMade new_set.source new_set.settled lists (folder_steps changes lists)
 
-pub is_made : Below → (begun : Begun) (heard : List Note) (n : ℕ) (changes : List Filled) (new_set : IsNewSet begun heard n changes) (lists : Files) → All IsPlanned begun.config.sources → Made begun heard n changes new_set lists
+pub is_made : Below → (begun : RunInput) (heard : List Note) (n : ℕ) (changes : List Filled) (new_set : IsNewSet begun heard n changes) (lists : Files) → All IsPlanned begun.config.sources → Made begun heard n changes new_set lists
 is_made below begun heard n changes new_set lists planned =
     let s = new_set.settles in
     let r : Reached begun.config begun.olds s.notes s.board = s.reached in
@@ -81,7 +81,7 @@ is_made below begun heard n changes new_set lists planned =
     }
 
 -- they change nothing but the source's own names
-pub beside : Below → (begun : Begun) (heard : List Note) (n : ℕ) (changes : List Filled) (new_set : IsNewSet begun heard n changes) (lists : Files) (name : List ℕ) → All IsPlanned begun.config.sources
+pub beside : Below → (begun : RunInput) (heard : List Note) (n : ℕ) (changes : List Filled) (new_set : IsNewSet begun heard n changes) (lists : Files) (name : List ℕ) → All IsPlanned begun.config.sources
     → (Contains (names_of new_set.source) name → ⊥) → folder_steps changes lists name ≡ lists name
 beside below begun heard n changes new_set lists name planned never =
     let m = is_made below begun heard n changes new_set lists planned in
@@ -90,7 +90,7 @@ beside below begun heard n changes new_set lists name planned never =
 -- ---- a clean-up's changes
 
 drop_beside : (drop : List ℕ) (lists : Files) (name : List ℕ) → drop ≢ name → folder_step lists (DropFile drop) name ≡ lists name
-drop_beside drop lists name differ = by (is_list drop)
+drop_beside drop lists name differ = by (is_installed_name drop)
   where
     by : (t : Bool) → (if t then with_file lists drop None else lists) name ≡ lists name
     by true = with_other lists drop None name differ
@@ -104,25 +104,25 @@ drops_beside (drop ∷ names) lists name never =
 
 -- ---- names that no group changes
 
-removed_apart : (begun : Begun) (heard : List Note) (groups : List Group) (name : List ℕ) → AreGroups begun heard groups → Contains (removed_in groups) name → Contains (flat_map names_of begun.config.sources) name → ⊥
+removed_apart : (begun : RunInput) (heard : List Note) (groups : List Group) (name : List ℕ) → AreGroups begun heard groups → Contains (removed_in groups) name → Contains (flat_map names_of begun.config.sources) name → ⊥
 removed_apart begun heard [] name are removed within = none-in name removed
-removed_apart begun heard (OfSource n changes ∷ groups) name are removed within = removed_apart begun heard groups name are.1 removed within
-removed_apart begun heard (OfNone names ∷ groups) name are removed within = let none : AreOfNone begun names = are.0 in none.apart name removed within
+removed_apart begun heard (SetOf n changes ∷ groups) name are removed within = removed_apart begun heard groups name are.1 removed within
+removed_apart begun heard (CleanUp names ∷ groups) name are removed within = let none : AreRemovable begun names = are.0 in none.apart name removed within
 
-pub untouched : Below → (begun : Begun) (heard : List Note) (groups : List Group) (lists : Files) (name : List ℕ) → All IsPlanned begun.config.sources → AreGroups begun heard groups
+pub untouched : Below → (begun : RunInput) (heard : List Note) (groups : List Group) (lists : Files) (name : List ℕ) → All IsPlanned begun.config.sources → AreGroups begun heard groups
     → ((m : ℕ) (s : Source) → Contains (sources_in groups) m → slice_get begun.config.sources m ≡ Some s → Contains (names_of s) name → ⊥) → (Contains (removed_in groups) name → ⊥)
     → after_groups groups lists name ≡ lists name
 untouched below begun heard [] lists name planned are never stays = refl
-untouched below begun heard (OfSource n changes ∷ groups) lists name planned are never stays =
+untouched below begun heard (SetOf n changes ∷ groups) lists name planned are never stays =
     let new_set : IsNewSet begun heard n changes = are.0 in
     untouched below begun heard groups (folder_steps changes lists) name planned are.1 (λ m s is. never m s (there n (sources_in groups) m is)) stays
     ∙ beside below begun heard n changes new_set lists name planned (never n new_set.source (here n (sources_in groups) n refl) new_set.source_is)
-untouched below begun heard (OfNone names ∷ groups) lists name planned are never stays =
+untouched below begun heard (CleanUp names ∷ groups) lists name planned are never stays =
     ap (λ (gs : List Group). after_groups gs (folder_steps (map DropFile names) lists) name) are.1 ∙ drops_beside names lists name stays
 
 -- ---- a source that has no group
 
-pub kept : Below → (begun : Begun) (heard : List Note) (groups : List Group) (lists : Files) (n : ℕ) (source : Source) → All IsPlanned begun.config.sources → AreApart (flat_map names_of begun.config.sources)
+pub kept : Below → (begun : RunInput) (heard : List Note) (groups : List Group) (lists : Files) (n : ℕ) (source : Source) → All IsPlanned begun.config.sources → AreApart (flat_map names_of begun.config.sources)
     → AreGroups begun heard groups → slice_get begun.config.sources n ≡ Some source → (Contains (sources_in groups) n → ⊥) → SameUnder source lists (after_groups groups lists)
 kept below begun heard groups lists n source planned apart are is never = λ name within. untouched below begun heard groups lists name planned are
     (λ m s among is' within'. sources_apart begun.config.sources n m source s name apart is is' (λ same. never (subst (λ (k : ℕ). Contains (sources_in groups) k) (sym same) among)) within within')
@@ -130,7 +130,7 @@ kept below begun heard groups lists n source planned apart are is never = λ nam
 
 -- ---- a source that has one
 
-pub record HasGroup (begun : Begun) (heard : List Note) (n : ℕ) (source : Source) (lists after : Files) : Type 0 where
+pub record HasGroup (begun : RunInput) (heard : List Note) (n : ℕ) (source : Source) (lists after : Files) : Type 0 where
   pub changes : List Filled
   pub new_set : IsNewSet begun heard n changes
   pub between : Files
@@ -140,12 +140,12 @@ pub record HasGroup (begun : Begun) (heard : List Note) (n : ℕ) (source : Sour
 never_again : (n : ℕ) (ns : List ℕ) → Each (λ m. m ≢ n) ns → Contains ns n → ⊥
 never_again n ns others is = each-at (λ m. m ≢ n) ns n others is refl
 
-pub has_group : Below → (begun : Begun) (heard : List Note) (groups : List Group) (lists : Files) (n : ℕ) (source : Source) → All IsPlanned begun.config.sources → AreApart (flat_map names_of begun.config.sources)
+pub has_group : Below → (begun : RunInput) (heard : List Note) (groups : List Group) (lists : Files) (n : ℕ) (source : Source) → All IsPlanned begun.config.sources → AreApart (flat_map names_of begun.config.sources)
     → AreGroups begun heard groups → AreOnce (sources_in groups) → slice_get begun.config.sources n ≡ Some source → Contains (sources_in groups) n → HasGroup begun heard n source lists (after_groups groups lists)
 has_group below begun heard [] lists n source planned apart are once is among = absurd (none-in n among)
-has_group below begun heard (OfNone names ∷ groups) lists n source planned apart are once is among =
+has_group below begun heard (CleanUp names ∷ groups) lists n source planned apart are once is among =
     absurd (none-in n (subst (λ (gs : List Group). Contains (sources_in gs) n) are.1 among))
-has_group below begun heard (OfSource m changes ∷ groups) lists n source planned apart are once is among = elim (cases_eq m n) [
+has_group below begun heard (SetOf m changes ∷ groups) lists n source planned apart are once is among = elim (cases_eq m n) [
   | inl same ↦ record {
     changes = changes;
     new_set = subst (λ (k : ℕ). IsNewSet begun heard k changes) same are.0;

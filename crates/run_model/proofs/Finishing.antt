@@ -15,14 +15,14 @@ use Rattle.board_model.specs.Ends.{ComesTo, verdict_for}
 use Rattle.board_model.specs.Laws.{FinishedExactly, SetsThereAreHeld}
 use Rattle.board_model.specs.Reached.{Reached}
 use Rattle.board_model.specs.RunLaws.{FinishedBoardsTell, IsSourceAt}
-use Rattle.board_model.specs.Runs.{Note, World, run as run_world, start as start_world}
+use Rattle.board_model.specs.Runs.{Note, BoardRun, run as run_world, start as start_world}
 use Rattle.board_model.specs.Settling.{held_of}
-use Rattle.board_model.specs.Slots.{Config, Slot, Closed, is_there}
+use Rattle.board_model.specs.Slots.{Setup, Slot, SettledSlot, is_there}
 use Rattle.board_model.specs.Stands.{StandsAt, history_of}
 use Rattle.commit_journal.specs.Changes.{AreApart, folder_steps}
 use Rattle.update_model.specs.Laws.{HeldSetsAreFound}
-use Rattle.update_model.specs.Next.{Leaves, holds}
-use Rattle.update_model.specs.Outcomes.{Admitted, Outcome, admitted}
+use Rattle.update_model.specs.Next.{OutcomeLeaves, has_whole_set}
+use Rattle.update_model.specs.Outcomes.{AdmittedRelease, Outcome, admitted}
 use Rattle.update_model.specs.declared.end.End.{End}
 use Rattle.update_model.specs.declared.log.RunLog.{RunLog}
 use Rattle.update_model.specs.declared.settled.Held.{Held}
@@ -33,8 +33,8 @@ use Rattle.board_model.proofs.Making.{none-in}
 use Rattle.board_model.proofs.Resting.{olds-there}
 use Rattle.board_bounds.proofs.Asking.{reached-stands}
 use Rattle.list_commits.proofs.Apart.{here, there, apart_of}
-use Rattle.run_model.specs.Begun.{Begun, BeginsOver}
-use Rattle.run_model.specs.Coming.{LeavesOutcome, outcome_at}
+use Rattle.run_model.specs.Begun.{RunInput, ReadsPlanned}
+use Rattle.run_model.specs.Coming.{LogsAndLeavesOutcome, outcome_at}
 use Rattle.run_model.specs.Groups.{Group, IsNewSet, all_groups, sources_in}
 use Rattle.run_model.specs.Laws.{RunsLeaveOutcomes}
 use Rattle.run_model.specs.Runs.{installed_by, is_installed, is_told_installed}
@@ -90,27 +90,27 @@ once_filtered p (n ∷ ns) once = one (p n) (once_filtered p ns once.1)
 
 -- ---- a finished board
 
-is_settled : Finished → (config : Config) (olds : List Old) (notes : List Note) (b : Board) (n : ℕ) (source : Source) (old : Old) → Reached config olds notes b → is_finished b ≡ true → IsSourceAt config olds n source old
+is_settled : Finished → (config : Setup) (olds : List Old) (notes : List Note) (b : Board) (n : ℕ) (source : Source) (old : Old) → Reached config olds notes b → is_finished b ≡ true → IsSourceAt config olds n source old
     → Contains b.settled n
 is_settled laws config olds notes b n source old r finished at =
     let stand = reached-stands laws.below.stand config olds notes b r in
     let s : StandsAt config n source old (record { board = b; jobs = r.jobs; queue = []; notes = notes }) = stand.sources n source old at.source_is at.old_is in
-    let board : (run_world r.events (start_world config olds r.lanes)).board ≡ b = ap (λ (w : World). w.board) r.leads in
-    let all : Each (λ slot. slot ≡ Closed) b.slots =
-    subst (λ (x : Board). Each (λ slot. slot ≡ Closed) x.slots) board ((laws.exactly config olds r.lanes r.events r.each).0 (ap is_finished board ∙ finished)) in
-    let closed : s.slot ≡ Closed = each-at (λ (slot : Slot). slot ≡ Closed) b.slots s.slot all (get_in b.slots n s.slot s.slot_is) in
+    let board : (run_world r.events (start_world config olds r.lanes)).board ≡ b = ap (λ (w : BoardRun). w.board) r.leads in
+    let all : Each (λ slot. slot ≡ SettledSlot) b.slots =
+    subst (λ (x : Board). Each (λ slot. slot ≡ SettledSlot) x.slots) board ((laws.exactly config olds r.lanes r.events r.each).0 (ap is_finished board ∙ finished)) in
+    let closed : s.slot ≡ SettledSlot = each-at (λ (slot : Slot). slot ≡ SettledSlot) b.slots s.slot all (get_in b.slots n s.slot s.slot_is) in
     ((laws.once config olds notes b r).closed n).1 (s.slot_is ∙ ap (λ (x : Slot). Some x) closed)
 
 -- ---- a source that is not installed
 
 left_alone : Finished → (source : Source) (old : Old) (came_to : Outcome) (verdict : Verdict2) (lists after : Files) → verdict ≡ verdict_for source old came_to → is_installed verdict ≡ false
-    → IsInstalled source old lists → SameUnder source lists after → Leaves came_to source lists after
+    → IsInstalled source old lists → SameUnder source lists after → OutcomeLeaves came_to source lists after
 left_alone laws source old (Err why) verdict lists after is never installed same = keeps_same source lists after same
 left_alone laws source old (Ok set) verdict lists after is never installed same = one (is_there source old set) refl is
   where
-    one : (c : Bool) → is_there source old set ≡ c → verdict ≡ (if c then Hit (held_of source set) else Installed (held_of source set)) → Leaves (Ok set) source lists after
+    one : (c : Bool) → is_there source old set ≡ c → verdict ≡ (if c then Hit (held_of source set) else Installed (held_of source set)) → OutcomeLeaves (Ok set) source lists after
     one true there_is is =
-        let held : holds lists source set ≡ true = sym (laws.there lists source old set installed.release installed.lists) ∙ there_is in
+        let held : has_whole_set lists source set ≡ true = sym (laws.there lists source old set installed.release installed.lists) ∙ there_is in
         holds_moved source set lists after same ((laws.found lists source set).0 held)
     one false there_is is = let wrong : true ≡ false = sym (ap is_installed is) ∙ never in absurd (cc)
 
@@ -122,7 +122,7 @@ is_held (Hit held) is = absurd (cc)
 is_held (Older date) is = absurd (cc)
 is_held (Kept cause) is = absurd (cc)
 
-same_set : (begun : Begun) (heard : List Note) (n : ℕ) (source : Source) (old : Old) (notes later : List Note) (before_verdict verdict : Verdict2) (held held' : Held) (before after : Files) → heard ≡ notes ++ later
+same_set : (begun : RunInput) (heard : List Note) (n : ℕ) (source : Source) (old : Old) (notes later : List Note) (before_verdict verdict : Verdict2) (held held' : Held) (before after : Files) → heard ≡ notes ++ later
     → (s : LeavesSet begun.config n source old notes before_verdict held before after) (comes : ComesTo begun.config n source old (history_of n heard) verdict) → verdict ≡ Installed held'
     → outcome_at begun.config old comes.end comes.lists ≡ Ok s.set
 same_set begun heard n source old notes later before_verdict verdict held held' before after so_far s comes installs =
@@ -131,12 +131,12 @@ same_set begun heard n source old notes later before_verdict verdict held held' 
     let first : admitted comes.end old.release begun.config.settings begun.config.change begun.config.now ≡ Ok s.set =
     subst (λ (e : End). admitted e old.release begun.config.settings begun.config.change begun.config.now ≡ Ok s.set) ended (set_admitted begun.config old s.comes.end s.comes.lists s.set s.is) in
     let same : found.0 ≡ s.set = ok_once (admitted comes.end old.release begun.config.settings begun.config.change begun.config.now) found.0 s.set (set_admitted begun.config old comes.end comes.lists found.0 found.1) first in
-    found.1 ∙ ap (λ (x : Admitted). Ok x) same
+    found.1 ∙ ap (λ (x : AdmittedRelease). Ok x) same
 
 -- the lists after a group of a source hold its new set, which the log tells
-group_left : Finished → (begun : Begun) (heard : List Note) (board : Board) (log : RunLog) (n : ℕ) (source : Source) (lists after : Files)
-    → BeginsOver begun lists → Reached begun.config begun.olds heard board → is_finished board ≡ true → log.verdicts ≡ board.verdicts → slice_get begun.config.sources n ≡ Some source
-    → is_told_installed (slice_get log.verdicts n) ≡ true → HasGroup begun heard n source lists after → LeavesOutcome begun heard n source log lists after
+group_left : Finished → (begun : RunInput) (heard : List Note) (board : Board) (log : RunLog) (n : ℕ) (source : Source) (lists after : Files)
+    → ReadsPlanned begun lists → Reached begun.config begun.olds heard board → is_finished board ≡ true → log.verdicts ≡ board.verdicts → slice_get begun.config.sources n ≡ Some source
+    → is_told_installed (slice_get log.verdicts n) ≡ true → HasGroup begun heard n source lists after → LogsAndLeavesOutcome begun heard n source log lists after
 group_left laws begun heard board log n source lists after begins r finished told is installs group =
     let new_set : IsNewSet begun heard n group.changes = group.new_set in
     let both : Some new_set.source ≡ Some source = sym new_set.source_is ∙ is in
@@ -149,7 +149,7 @@ group_left laws begun heard board log n source lists after begins r finished tol
     let s : LeavesSet begun.config n new_set.source m.old new_set.settles.notes new_set.settled.verdict new_set.held group.between (folder_steps group.changes group.between) =
     leaves_set laws.below begun.config n new_set.source m.old new_set.settles.notes new_set.settled new_set.held group.between (folder_steps group.changes group.between) m.was new_set.installs m.planned
     (installed_moved new_set.source m.old lists group.between before (begins.over.installed n new_set.source m.old m.stands)) m.made in
-    subst (λ (x : Source). LeavesOutcome begun heard n x log lists after) same (record {
+    subst (λ (x : Source). LogsAndLeavesOutcome begun heard n x log lists after) same (record {
       came_to = Ok s.set;
       came = record {
         former = m.old;
@@ -172,7 +172,7 @@ group_left laws begun heard board log n source lists after begins r finished tol
 
 pub runs_leave_outcomes : Finished → RunsLeaveOutcomes
 runs_leave_outcomes laws together begun lists log commits run n source begins is =
-    subst (LeavesOutcome begun run.heard n source log lists) (sym (all_in_turn commits lists)) (one (is_told_installed (slice_get log.verdicts n)) refl)
+    subst (LogsAndLeavesOutcome begun run.heard n source log lists) (sym (all_in_turn commits lists)) (one (is_told_installed (slice_get log.verdicts n)) refl)
   where
     groups : List Group
     groups = all_groups commits
@@ -204,7 +204,7 @@ runs_leave_outcomes laws together begun lists log commits run n source begins is
     once : AreOnce (sources_in groups)
     once = subst AreOnce (sym order) (once_filtered passes log.settled (subst AreOnce (sym settled_told) (laws.once begun.config begun.olds run.heard run.board r).once))
 
-    one : (c : Bool) → is_told_installed (slice_get log.verdicts n) ≡ c → LeavesOutcome begun run.heard n source log lists (after_groups groups lists)
+    one : (c : Bool) → is_told_installed (slice_get log.verdicts n) ≡ c → LogsAndLeavesOutcome begun run.heard n source log lists (after_groups groups lists)
     one true installs =
         let settled : Contains log.settled n = subst (λ (ns : List ℕ). Contains ns n) (sym settled_told) (is_settled laws begun.config begun.olds run.heard run.board n source old.0 r run.all.finished at) in
         let among : Contains (sources_in groups) n = subst (λ (ns : List ℕ). Contains ns n) (sym order) (filter_in passes log.settled n installs settled) in

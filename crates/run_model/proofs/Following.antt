@@ -6,12 +6,12 @@ use Rattle.std.proofs.lemmas.List.Elements.{All-contains}
 use Rattle.acq_base.specs.Plan.{names_of}
 use Rattle.acq_base.specs.declared.plan.Source.{Source}
 use Rattle.acq_outside.specs.Crash.{reads}
-use Rattle.journal_model.specs.Names.{is_list}
+use Rattle.journal_model.specs.Names.{is_installed_name}
 use Rattle.acq_outside.specs.Disk.{Files}
 use Rattle.board_model.specs.Boards.{first_ready}
 use Rattle.board_model.specs.CallLaws.{SourcesAreSettledOnce}
 use Rattle.board_model.specs.Laws.{BoardsStand}
-use Rattle.board_model.specs.Slots.{Config, Slot, Closed, is_ready}
+use Rattle.board_model.specs.Slots.{Setup, Slot, SettledSlot, is_ready}
 use Rattle.host_queues.specs.Lanes.{changed_at}
 use Rattle.update_model.specs.declared.settled.Verdict2.{Verdict2}
 use Rattle.update_model.proofs.Carried.{each-from}
@@ -34,18 +34,18 @@ installed_are_once law config olds notes b told r = once_filtered (λ n. is_told
 
 -- ---- the next that is ready
 
-pub later_than : (slots : List Slot) (n m : ℕ) → first_ready slots ≡ Some n → first_ready (changed_at n (λ slot. Closed) slots) ≡ Some m → n < m
+pub later_than : (slots : List Slot) (n m : ℕ) → first_ready slots ≡ Some n → first_ready (changed_at n (λ slot. SettledSlot) slots) ≡ Some m → n < m
 later_than [] n m is is' = absurd (cc)
 later_than (slot ∷ slots) zero m is is' = one (first_ready slots) is'
   where
     one : (o : Option ℕ) → option_map (λ k. k + 1) o ≡ Some m → 0 < m
     one None e = absurd (cc)
     one (Some k) e = let same : k + 1 ≡ m = cc in omega (arith, same)
-later_than (slot ∷ slots) (suc n) m is is' = one (is_ready slot) (first_ready slots) (first_ready (changed_at n (λ slot. Closed) slots)) refl refl is is' (later_than slots n)
+later_than (slot ∷ slots) (suc n) m is is' = one (is_ready slot) (first_ready slots) (first_ready (changed_at n (λ slot. SettledSlot) slots)) refl refl is is' (later_than slots n)
   where
-    one : (ready : Bool) (o o' : Option ℕ) → first_ready slots ≡ o → first_ready (changed_at n (λ slot. Closed) slots) ≡ o'
+    one : (ready : Bool) (o o' : Option ℕ) → first_ready slots ≡ o → first_ready (changed_at n (λ slot. SettledSlot) slots) ≡ o'
         → (if ready then Some 0 else option_map (λ k. k + 1) o) ≡ Some (suc n) → (if ready then Some 0 else option_map (λ k. k + 1) o') ≡ Some m
-        → ((j : ℕ) → first_ready slots ≡ Some n → first_ready (changed_at n (λ slot. Closed) slots) ≡ Some j → n < j) → suc n < m
+        → ((j : ℕ) → first_ready slots ≡ Some n → first_ready (changed_at n (λ slot. SettledSlot) slots) ≡ Some j → n < j) → suc n < m
     one true o o' at at' e e' later = let wrong : 0 ≡ suc n = cc in absurd (omega (arith, wrong))
     one false None o' at at' e e' later = absurd (cc)
     one false (Some k) None at at' e e' later = absurd (cc)
@@ -100,7 +100,7 @@ installed_are_in_turn b h = rising_filtered (λ k. is_told_installed (slice_get 
 
 pub lists_are_read : Below → ListsAreRead
 lists_are_read below source lists s planned rest =
-    each-from (λ name. reads s name ≡ lists name) (names_of source) (λ name is. rest.lists_are name (All-contains (λ n. is_list n ≡ true) (names_of source) name (below.lists source planned) is))
+    each-from (λ name. reads s name ≡ lists name) (names_of source) (λ name is. rest.lists_are name (All-contains (λ n. is_installed_name n ≡ true) (names_of source) name (below.lists source planned) is))
 
 -- ---- the sources that are told as installed
 
@@ -147,16 +147,16 @@ installed_follow stand law config olds notes b n settled r ready comes =
 
     never : Contains b.settled n → ⊥
     never is =
-        let closed : slice_get b.slots n ≡ Some Closed = ((law config olds notes b r).closed n).0 is in
-        let both : Some Closed ≡ Some found.0 = sym closed ∙ found.1 in
-        let same : Closed ≡ found.0 = cc in
+        let closed : slice_get b.slots n ≡ Some SettledSlot = ((law config olds notes b r).closed n).0 is in
+        let both : Some SettledSlot ≡ Some found.0 = sym closed ∙ found.1 in
+        let same : SettledSlot ≡ found.0 = cc in
         let wrong : false ≡ true = ap is_ready same ∙ found.2 in absurd (cc)
 
     source : (s : Source) × (slice_get config.sources n ≡ Some s)
     source =
         let p = bound (slice_get b.config.sources n) _ settled comes in
         let at = reached-stands stand config olds notes b r in
-        (p.0, ap (λ (c : Config). slice_get c.sources n) (sym at.config_is) ∙ p.1)
+        (p.0, ap (λ (c : Setup). slice_get c.sources n) (sym at.config_is) ∙ p.1)
 
     was : (v : Verdict2) × (slice_get b.verdicts n ≡ Some v)
     was = there_too config.sources b.verdicts n source.0 (sym (verdicts_count config olds notes b r)) source.1

@@ -13,12 +13,12 @@ use Rattle.board_model.specs.Changes.{IsInstalled}
 use Rattle.board_model.specs.Keys.{named}
 use Rattle.board_model.proofs.Making.{none-in}
 use Rattle.journal_model.specs.Names.{journal}
-use Rattle.journal_model.specs.Reading.{gate_in}
+use Rattle.journal_model.specs.Reading.{journal_state_in}
 use Rattle.journal_model.specs.Reopen.{opened}
-use Rattle.journal_model.specs.declared.step.Gate.{Gate}
-use Rattle.journal_model.specs.declared.step.Gate.TheVariants.{Open, Damaged, Shut}
+use Rattle.journal_model.specs.declared.step.JournalState.{JournalState}
+use Rattle.journal_model.specs.declared.step.JournalState.TheVariants.{Open, Damaged, Shut}
 use Rattle.lists_dir.specs.Installed.{installed_of, listed, lists_of}
-use Rattle.run_model.specs.Beginnings.{InstalledListsBegin, OpenedListsAreAlone}
+use Rattle.run_model.specs.Beginnings.{InstalledListsAreRunInput, OpenedListsAreAlone}
 
 -- ---- names of rows
 
@@ -68,7 +68,7 @@ mapped f [] n source is = absurd (cc)
 mapped f (s ∷ sources) zero source is = let same : s ≡ source = cc in ap (λ (x : Source). Some (f x)) same
 mapped f (s ∷ sources) (suc n) source is = mapped f sources n source is
 
-pub installed_lists_begin : InstalledListsBegin
+pub installed_lists_begin : InstalledListsAreRunInput
 installed_lists_begin config olds lists parts are sizes = record {
   installed = λ n source old at.
       let both : Some (installed_of lists source) ≡ Some old = sym (mapped (installed_of lists) config.sources n source at.source_is) ∙ ap (λ (os : List Old). slice_get os n) (sym are) ∙ at.old_is in
@@ -79,9 +79,9 @@ installed_lists_begin config olds lists parts are sizes = record {
 
 pub opened_lists_are_alone : OpenedListsAreAlone
 opened_lists_are_alone [] name other = refl
-opened_lists_are_alone (s ∷ past) name other = one (gate_in (reads s journal))
+opened_lists_are_alone (s ∷ past) name other = one (journal_state_in (reads s journal))
   where
-    one : (gate : Gate) → unwrap_or (opened (reads s) gate) (λ name. None) name ≡ None
+    one : (gate : JournalState) → unwrap_or (opened (reads s) gate) (λ name. None) name ≡ None
     one (Open steps) = rw other refl
     one (Damaged at) = refl
     one Shut = rw other refl

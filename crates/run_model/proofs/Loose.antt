@@ -7,20 +7,20 @@ use Rattle.acq_base.specs.Plan.{names_of}
 use Rattle.acq_base.specs.declared.plan.Source.{Source}
 use Rattle.acq_base.proofs.Lists.{first-or-rest}
 use Rattle.acq_outside.specs.Disk.{Files, same_name}
-use Rattle.journal_model.specs.Names.{is_list, is_partial, journal, lock}
+use Rattle.journal_model.specs.Names.{is_installed_name, is_partial, journal, lock}
 use Rattle.list_commits.specs.Loose.{kept_of}
-use Rattle.list_commits.specs.SetLaws.{HasListsAlone, LooseNamesAreLoose}
+use Rattle.list_commits.specs.SetLaws.{HasInstalledFilesAlone, LooseNamesAreLoose}
 use Rattle.update_model.specs.Carried.{AreLoose}
 use Rattle.board_model.proofs.Making.{none-in}
-use Rattle.journal_model.specs.Reopen.{lists as folder_lists}
+use Rattle.journal_model.specs.Reopen.{installed_files}
 use Rattle.list_commits.proofs.Apart.{here, there}
 use Rattle.run_model.specs.Runs.{AreLooseLists}
 
 -- what is known of them
 pub record Loose (sources : List Source) (lists : Files) (names : List (List ℕ)) : Type 0 where
   pub apart : (name : List ℕ) → Contains names name → Contains (flat_map names_of sources) name → ⊥
-  pub listed : (name : List ℕ) → Contains names name → is_partial name ≡ false → is_list name ≡ true
-  pub exists : (name : List ℕ) → Contains names name → is_list name ≡ true → is_some (lists name) ≡ true
+  pub listed : (name : List ℕ) → Contains names name → is_partial name ≡ false → is_installed_name name ≡ true
+  pub exists : (name : List ℕ) → Contains names name → is_installed_name name ≡ true → is_some (lists name) ≡ true
   pub all : (name : List ℕ) → is_some (lists name) ≡ true → Contains names name ⊎ Contains (flat_map names_of sources) name
 
 pub among : (name : List ℕ) (names : List (List ℕ)) → Contains names name ⊎ (Contains names name → ⊥)
@@ -32,7 +32,7 @@ among name (other ∷ names) = one (bytes_eq other name) refl (among name names)
     one false differ (inl later) = inl (there other names name later)
     one false differ (inr never) = inr (λ is. ⊎_elim (λ same. let wrong : true ≡ false = sym ((bytes_eq-Decides other name).1 same) ∙ differ in absurd (cc)) never (first-or-rest other names name is))
 
-list_if : (name : List ℕ) → (name ≡ lock → ⊥) → (name ≡ journal → ⊥) → is_partial name ≡ false → is_list name ≡ true
+list_if : (name : List ℕ) → (name ≡ lock → ⊥) → (name ≡ journal → ⊥) → is_partial name ≡ false → is_installed_name name ≡ true
 list_if name no_lock no_journal whole = one (same_name name journal) (same_name name lock) (is_partial name) refl refl whole
   where
     one : (j l p : Bool) → same_name name journal ≡ j → same_name name lock ≡ l → p ≡ false → (not j && not (l || p)) ≡ true
@@ -40,28 +40,28 @@ list_if name no_lock no_journal whole = one (same_name name journal) (same_name 
     one false true p is is' whole = absurd (no_lock ((bytes_eq-Decides name lock).0 is'))
     one false false p is is' whole = ap not whole
 
-pub loose_of : LooseNamesAreLoose → (sources : List Source) (lists : Files) (names : List (List ℕ)) → HasListsAlone lists → AreLooseLists sources lists names → Loose sources lists names
+pub loose_of : LooseNamesAreLoose → (sources : List Source) (lists : Files) (names : List (List ℕ)) → HasInstalledFilesAlone lists → AreLooseLists sources lists names → Loose sources lists names
 loose_of law sources lists names alone are_loose = record {
   apart = loose.apart;
   listed = λ name is whole. list_if name (λ same. are_loose.are.loose name is (here lock (journal ∷ flat_map kept_of sources) name (sym same)))
       (λ same. are_loose.are.loose name is (there lock (journal ∷ flat_map kept_of sources) name (here journal (flat_map kept_of sources) name (sym same)))) whole;
   exists = λ name is list. subst (λ (o : Option (List ℕ)). is_some o ≡ true) (are_loose.same name list (loose.apart name is)) (are_loose.are.there name is);
-  all = λ name some. one name some (is_list name) refl;
+  all = λ name some. one name some (is_installed_name name) refl;
 }
   where
-    loose : AreLoose (folder_lists are_loose.files) (record { sources = sources }) names
+    loose : AreLoose (installed_files are_loose.files) (record { sources = sources }) names
     loose = law are_loose.files (record { sources = sources }) names are_loose.are
 
-    gone : (name : List ℕ) → is_list name ≡ true → (if is_list name then are_loose.files name else None) ≡ None → are_loose.files name ≡ None
+    gone : (name : List ℕ) → is_installed_name name ≡ true → (if is_installed_name name then are_loose.files name else None) ≡ None → are_loose.files name ≡ None
     gone name list is = rw list at is
 
-    two : (name : List ℕ) → is_some (lists name) ≡ true → is_list name ≡ true → (Contains (flat_map names_of sources) name → ⊥) → Contains names name ⊎ (Contains names name → ⊥) → Contains names name
+    two : (name : List ℕ) → is_some (lists name) ≡ true → is_installed_name name ≡ true → (Contains (flat_map names_of sources) name → ⊥) → Contains names name ⊎ (Contains names name → ⊥) → Contains names name
     two name some list out (inl is) = is
     two name some list out (inr never) =
         let none_there : lists name ≡ None = sym (are_loose.same name list out) ∙ gone name list (loose.all name out never) in
         let wrong : false ≡ true = sym (ap is_some none_there) ∙ some in absurd (cc)
 
-    one : (name : List ℕ) → is_some (lists name) ≡ true → (t : Bool) → is_list name ≡ t → Contains names name ⊎ Contains (flat_map names_of sources) name
+    one : (name : List ℕ) → is_some (lists name) ≡ true → (t : Bool) → is_installed_name name ≡ t → Contains names name ⊎ Contains (flat_map names_of sources) name
     one name some true list = elim (among name (flat_map names_of sources)) [
       | inl within ↦ inr within
       | inr out ↦ inl (two name some list out (among name names))

@@ -2,7 +2,7 @@
 use Rattle.std.proofs.Common.{◌≡◌, ◌∙◌, ⊎_elim, refl, sym, ap, subst, arith, ℕ, suc, Bool, true, false, List, [], ◌∷◌, length, map, Contains, Option, Some, None, Ok, Err}
 use Rattle.std.specs.Prelude.{◌&&◌, not, if◌then◌else◌, slice_get}
 use Rattle.std.specs.List.{flat_map, list_all, AllByRecursion as Each}
-use Rattle.acq_base.specs.Mirror.{World as Mirror}
+use Rattle.acq_base.specs.Mirror.{MirrorMap}
 use Rattle.acq_base.specs.Plan.{names_of}
 use Rattle.acq_base.specs.declared.installed.Old.{Old}
 use Rattle.acq_base.specs.declared.plan.Source.{Source}
@@ -17,8 +17,8 @@ use Rattle.board_model.specs.Slots.{is_there}
 use Rattle.list_commits.specs.Made.{after_all}
 use Rattle.update_model.specs.Faults.{ReleasesHadAreObtained}
 use Rattle.update_model.specs.Laws.{NextsAreAlike, SetsAreAdmissible}
-use Rattle.update_model.specs.Next.{Leaves, cleans, is_settled_well}
-use Rattle.update_model.specs.Outcomes.{Admitted, Outcome, Older, Kept, admitted, obtained, wanted_by}
+use Rattle.update_model.specs.Next.{OutcomeLeaves, cleans, lets_clean_up}
+use Rattle.update_model.specs.Outcomes.{AdmittedRelease, Outcome, Older, Kept, admitted, obtained, wanted_by}
 use Rattle.update_model.specs.Releases.{obtain_release}
 use Rattle.update_model.specs.declared.end.End.{End}
 use Rattle.update_model.specs.declared.log.RunLog.{RunLog}
@@ -28,8 +28,8 @@ use Rattle.update_model.specs.declared.settled.Verdict2.TheVariants.{Installed, 
 use Rattle.update_model.proofs.Carried.{each-from}
 use Rattle.board_model.proofs.Making.{none-in}
 use Rattle.board_model.proofs.Agreement.{same-verdict}
-use Rattle.run_model.specs.Begun.{Begun, BeginsOver}
-use Rattle.run_model.specs.Coming.{CameTo, LeavesMirrored, mirrored}
+use Rattle.run_model.specs.Begun.{RunInput, ReadsPlanned}
+use Rattle.run_model.specs.Coming.{HasOutcome, LeavesMirrored, mirrored}
 use Rattle.run_model.specs.Groups.{commits_of}
 use Rattle.run_model.specs.Laws.{RunsAreComplete, RunsHoldMirrored, RunsLeadToNext, RunsLeaveAlike, RunsLeaveMirrored, RunsTellTheSame}
 use Rattle.run_model.specs.Runs.{cleans_up, is_kept}
@@ -52,8 +52,8 @@ pub record Heard : Type 0 where
 -- ---- one source
 
 -- a set that a source came to is the mirror's, where that has one
-same_as_mirrors : Heard → (begun : Begun) (lists : Files) (mirror : Mirror) (heard : List Note) (n : ℕ) (source : Source) (came_to : Outcome) (set mirrors : Admitted)
-    → BeginsOver begun lists → slice_get begun.config.sources n ≡ Some source → Agrees mirror begun.parts begun.config.sources heard → (came : CameTo begun heard n source came_to) → came.notes ≡ heard
+same_as_mirrors : Heard → (begun : RunInput) (lists : Files) (mirror : MirrorMap) (heard : List Note) (n : ℕ) (source : Source) (came_to : Outcome) (set mirrors : AdmittedRelease)
+    → ReadsPlanned begun lists → slice_get begun.config.sources n ≡ Some source → Agrees mirror begun.parts begun.config.sources heard → (came : HasOutcome begun heard n source came_to) → came.notes ≡ heard
     → came_to ≡ Ok set → mirrored mirror begun lists source ≡ Ok mirrors → set ≡ mirrors
 same_as_mirrors laws begun lists mirror heard n source came_to set mirrors begins is agrees came all came_is mirror_is =
     let from = (laws.admissible came.comes.end (map (λ (l : ListEnd). l.end) came.comes.lists) came.former.release begun.config.settings begun.config.change begun.config.now set).0 (came.is ∙ came_is) in
@@ -72,8 +72,8 @@ same_as_mirrors laws begun lists mirror heard n source came_to set mirrors begin
     (subst (λ (o : Option (List ℕ)). admitted (obtain_release mirror source) o begun.config.settings begun.config.change begun.config.now ≡ Ok mirrors) (sym release) second)
 
 -- outcomes with one verdict are one, where their sets are
-same_outcome : (source : Source) (old : Old) (a b : Outcome) (verdict : Verdict2) → verdict ≡ verdict_for source old a → verdict ≡ verdict_for source old b → ((x y : Admitted) → a ≡ Ok x → b ≡ Ok y → x ≡ y) → a ≡ b
-same_outcome source old (Ok x) (Ok y) verdict is is' sets = ap (λ (s : Admitted). Ok s) (sets x y refl refl)
+same_outcome : (source : Source) (old : Old) (a b : Outcome) (verdict : Verdict2) → verdict ≡ verdict_for source old a → verdict ≡ verdict_for source old b → ((x y : AdmittedRelease) → a ≡ Ok x → b ≡ Ok y → x ≡ y) → a ≡ b
+same_outcome source old (Ok x) (Ok y) verdict is is' sets = ap (λ (s : AdmittedRelease). Ok s) (sets x y refl refl)
 same_outcome source old (Ok x) (Err why) verdict is is' sets =
     let found = set_of source old (Err why) verdict (held_of source x) is' (has_set source old x verdict is) in
     let wrong = found.2 in absurd (cc)
@@ -88,7 +88,7 @@ same_outcome source old (Err (Kept c)) (Err (Older d)) verdict is is' sets = let
 pub runs_leave_mirrored : Heard → RunsLeaveMirrored
 runs_leave_mirrored laws together begun lists log commits run mirror n source begins heard is =
     let left = runs_leave_outcomes laws.finished together begun lists log commits run n source begins is in
-    let came : CameTo begun run.heard n source left.came_to = left.came in
+    let came : HasOutcome begun run.heard n source left.came_to = left.came in
     let tells = laws.told begun.config begun.olds run.heard run.board mirror lists begun.parts n source came.former run.reached run.all.finished came.stands begins.over heard.agrees heard.lives in
     let told : slice_get log.verdicts n ≡ Some (verdict_for source came.former (mirrored mirror begun lists source)) = ap (λ (l : RunLog). slice_get l.verdicts n) run.told ∙ tells in
     let verdict : came.verdict ≡ verdict_for source came.former (mirrored mirror begun lists source) = same-verdict (slice_get log.verdicts n) came.verdict _ left.told told in
@@ -99,13 +99,13 @@ runs_leave_mirrored laws together begun lists log commits run mirror n source be
       former = came.former;
       stands = came.stands;
       told = told;
-      leaves = subst (λ (o : Outcome). Leaves o source lists (after_all (commits_of commits) lists)) same left.leaves;
+      leaves = subst (λ (o : Outcome). OutcomeLeaves o source lists (after_all (commits_of commits) lists)) same left.leaves;
     }
 
 pub runs_hold_mirrored : Heard → RunsHoldMirrored
 runs_hold_mirrored laws together begun lists log commits run mirror n source verdict held begins agrees is told has =
     let left = runs_leave_outcomes laws.finished together begun lists log commits run n source begins is in
-    let came : CameTo begun run.heard n source left.came_to = left.came in
+    let came : HasOutcome begun run.heard n source left.came_to = left.came in
     let board_told : slice_get run.board.verdicts n ≡ Some verdict = sym (ap (λ (l : RunLog). slice_get l.verdicts n) run.told) ∙ told in
     let mirrors = laws.sets begun.config begun.olds run.heard run.board mirror lists begun.parts n source came.former verdict held run.reached run.all.finished came.stands begins.over agrees board_told has in
     let same : verdict ≡ came.verdict = same-verdict (slice_get log.verdicts n) verdict came.verdict told left.told in
@@ -115,7 +115,7 @@ runs_hold_mirrored laws together begun lists log commits run mirror n source ver
       set = mirrors.0;
       is = mirrors.2;
       told = mirrors.1;
-      holds = subst (λ (o : Outcome). Leaves o source lists (after_all (commits_of commits) lists)) (set.2 ∙ ap (λ (s : Admitted). Ok s) one) left.leaves;
+      holds = subst (λ (o : Outcome). OutcomeLeaves o source lists (after_all (commits_of commits) lists)) (set.2 ∙ ap (λ (s : AdmittedRelease). Ok s) one) left.leaves;
     }
 
 pub runs_are_complete : Heard → RunsAreComplete
@@ -132,7 +132,7 @@ get_of : {X : Type 0} (xs : List X) (x : X) → Contains xs x → (n : ℕ) × (
 get_of [] x is = absurd (none-in x is)
 get_of (y ∷ ys) x is = ⊎_elim (λ same. (0, ap (λ z. Some z) same)) (λ later. let rest = get_of ys x later in (suc rest.0, rest.1)) (first-or-rest y ys x is)
 
-well : (source : Source) (old : Old) (o : Outcome) (verdict : Verdict2) → verdict ≡ verdict_for source old o → not (is_kept verdict) ≡ is_settled_well o
+well : (source : Source) (old : Old) (o : Outcome) (verdict : Verdict2) → verdict ≡ verdict_for source old o → not (is_kept verdict) ≡ lets_clean_up o
 well source old (Ok set) verdict is = one (is_there source old set) is
   where
     one : (c : Bool) → verdict ≡ (if c then Hit (held_of source set) else Installed (held_of source set)) → not (is_kept verdict) ≡ true
@@ -142,14 +142,14 @@ well source old (Err (Older date)) verdict is = ap (λ (v : Verdict2). not (is_k
 well source old (Err (Kept cause)) verdict is = ap (λ (v : Verdict2). not (is_kept v)) is
 
 all_well : (outcome_of : Source → Outcome) (sources : List Source) (told : List Verdict2) → length told ≡ length sources
-    → ((n : ℕ) (source : Source) (verdict : Verdict2) → slice_get sources n ≡ Some source → slice_get told n ≡ Some verdict → not (is_kept verdict) ≡ is_settled_well (outcome_of source))
-    → list_all (λ verdict. not (is_kept verdict)) told ≡ list_all is_settled_well (map outcome_of sources)
+    → ((n : ℕ) (source : Source) (verdict : Verdict2) → slice_get sources n ≡ Some source → slice_get told n ≡ Some verdict → not (is_kept verdict) ≡ lets_clean_up (outcome_of source))
+    → list_all (λ verdict. not (is_kept verdict)) told ≡ list_all lets_clean_up (map outcome_of sources)
 all_well outcome_of [] [] same each = refl
 all_well outcome_of [] (verdict ∷ told) same each = absurd (omega (arith, same))
 all_well outcome_of (source ∷ sources) [] same each = absurd (omega (arith, same))
 all_well outcome_of (source ∷ sources) (verdict ∷ told) same each =
     ap (λ (b : Bool). b && list_all (λ v. not (is_kept v)) told) (each 0 source verdict refl refl)
-    ∙ ap (λ (b : Bool). is_settled_well (outcome_of source) && b) (all_well outcome_of sources told (omega (arith, same)) (λ n s v is is'. each (suc n) s v is is'))
+    ∙ ap (λ (b : Bool). lets_clean_up (outcome_of source) && b) (all_well outcome_of sources told (omega (arith, same)) (λ n s v is is'. each (suc n) s v is is'))
 
 pub runs_lead_to_next : Heard → RunsLeadToNext
 runs_lead_to_next laws together begun lists log commits run mirror plan begins heard same = record {
@@ -160,7 +160,7 @@ runs_lead_to_next laws together begun lists log commits run mirror plan begins h
 }
   where
     leaves : Source → Type 0
-    leaves source = Leaves (mirrored mirror begun lists source) source lists (after_all (commits_of commits) lists)
+    leaves source = OutcomeLeaves (mirrored mirror begun lists source) source lists (after_all (commits_of commits) lists)
 
     left : (n : ℕ) (source : Source) → slice_get begun.config.sources n ≡ Some source → LeavesMirrored mirror begun n source log lists (after_all (commits_of commits) lists)
     left n source is = runs_leave_mirrored laws together begun lists log commits run mirror n source begins heard is
@@ -172,7 +172,7 @@ runs_lead_to_next laws together begun lists log commits run mirror plan begins h
     clean =
         ap (λ (b : Bool). begun.config.settings.cleanup && b) (all_well (mirrored mirror begun lists) begun.config.sources log.verdicts counted
         (λ n source verdict is told. let l = left n source is in well source l.former (mirrored mirror begun lists source) verdict (same-verdict (slice_get log.verdicts n) verdict _ told l.told)))
-        ∙ ap (λ (ss : List Source). begun.config.settings.cleanup && list_all is_settled_well (map (mirrored mirror begun lists) ss)) (sym same)
+        ∙ ap (λ (ss : List Source). begun.config.settings.cleanup && list_all lets_clean_up (map (mirrored mirror begun lists) ss)) (sym same)
 
 -- ---- two runs
 

@@ -14,8 +14,8 @@ use Rattle.board_model.specs.Changes.{IsInstalled}
 use Rattle.board_model.specs.Keys.{named}
 use Rattle.commit_journal.specs.Changes.{AreApart}
 use Rattle.release_file.specs.Release.{listed_sum}
-use Rattle.update_model.specs.Next.{Holds, Keeps}
-use Rattle.update_model.specs.Outcomes.{Admitted}
+use Rattle.update_model.specs.Next.{HasWholeSet, Keeps}
+use Rattle.update_model.specs.Outcomes.{AdmittedRelease}
 use Rattle.update_model.proofs.Carried.{each-from, each-at}
 use Rattle.list_commits.proofs.Apart.{here, there}
 use Rattle.list_commits.proofs.Recording.{both_apart, right_apart}
@@ -61,7 +61,7 @@ release_in source = here source.release_name.0 (map (λ (t : Target). t.name.0) 
 target_in : (source : Source) (target : Target) → Contains source.targets target → Contains (names_of source) target.name.0
 target_in source target is = there source.release_name.0 (map (λ (t : Target). t.name.0) source.targets) target.name.0 (map_in (λ (t : Target). t.name.0) source.targets target is)
 
-pub holds_moved : (source : Source) (set : Admitted) (a b : Files) → SameUnder source a b → Holds a source set → Holds b source set
+pub holds_moved : (source : Source) (set : AdmittedRelease) (a b : Files) → SameUnder source a b → HasWholeSet a source set → HasWholeSet b source set
 holds_moved source set a b same h = record {
   release_file = same source.release_name.0 (release_in source) ∙ h.release_file;
   lists = each-from (λ target. option_map sum_of (b target.name.0) ≡ listed_sum set.release target.path) source.targets

@@ -6,16 +6,16 @@ use Rattle.std.proofs.lemmas.Bool.{not-true}
 use Rattle.acq_base.specs.Plan.{names_of}
 use Rattle.acq_base.specs.declared.uri.ListName.{ListName}
 use Rattle.acq_outside.specs.Disk.{Files, same_name}
-use Rattle.journal_model.specs.Names.{is_list, is_partial, journal, lock}
+use Rattle.journal_model.specs.Names.{is_installed_name, is_partial, journal, lock}
 use Rattle.list_commits.specs.Loose.{removed_names}
 use Rattle.list_commits.specs.Made.{after_all}
 use Rattle.update_model.specs.declared.log.RunLog.{RunLog}
 use Rattle.board_model.proofs.Making.{none-in}
 use Rattle.list_commits.proofs.Sorting.{in_names, stays_in}
-use Rattle.run_model.specs.Begun.{Begun}
+use Rattle.run_model.specs.Begun.{RunInput}
 use Rattle.run_model.specs.Groups.{all_groups, commits_of, removed_in}
 use Rattle.run_model.specs.Laws.{RunsHaveBegun, RunsTellRemoved}
-use Rattle.run_model.specs.Runs.{Cleans, MayHaveBegun, cleans_up}
+use Rattle.run_model.specs.Runs.{RemovesLooseNames, MayBeCommitted, cleans_up}
 use Rattle.run_model.proofs.Cleaning.{cleans_told, runs_clean_up}
 use Rattle.run_model.proofs.Loose.{loose_of}
 use Rattle.run_model.proofs.Ready.{Below}
@@ -29,7 +29,7 @@ told_names names = again (filter (λ name. not (is_partial name)) names)
     again [] = refl
     again (x ∷ xs) = ap (λ ys. x ∷ ys) (again xs)
 
-list_is_whole : (name : List ℕ) → is_list name ≡ true → not (is_partial name) ≡ true
+list_is_whole : (name : List ℕ) → is_installed_name name ≡ true → not (is_partial name) ≡ true
 list_is_whole name list = one (same_name name journal) (same_name name lock) (is_partial name) list
   where
     one : (j l p : Bool) → (not j && not (l || p)) ≡ true → not p ≡ true
@@ -39,7 +39,7 @@ list_is_whole name list = one (same_name name journal) (same_name name lock) (is
 
 -- ---- what is told
 
-abbrev IsGone : Begun → Files → Files → List ℕ → Type 0
+abbrev IsGone : RunInput → Files → Files → List ℕ → Type 0
 IsGone begun lists after name = (is_some (lists name) ≡ true) × (after name ≡ None) × (Contains (flat_map names_of begun.config.sources) name → ⊥)
 
 pub runs_tell_removed : Below → RunsTellRemoved
@@ -54,7 +54,7 @@ runs_tell_removed below together begun lists log commits name begins run = (tell
     left : (c : Bool) → cleans_up begun.config.settings run.board.verdicts ≡ c → (Contains (flat_map names_of begun.config.sources) name → ⊥) → after_all (commits_of commits) lists name ≡ (if c then None else lists name)
     left c is out = runs_clean_up below together begun lists log commits name begins run out ∙ ap (λ (b : Bool). if b then None else lists name) (sym (cleans_told run) ∙ is)
 
-    from : (c : Bool) → cleans_up begun.config.settings run.board.verdicts ≡ c → Cleans c begun.config.sources lists removed → Contains removed name → is_partial name ≡ false
+    from : (c : Bool) → cleans_up begun.config.settings run.board.verdicts ≡ c → RemovesLooseNames c begun.config.sources lists removed → Contains removed name → is_partial name ≡ false
         → IsGone begun lists (after_all (commits_of commits) lists) name
     from true is cleans among no_part =
         let loose = loose_of below.loose begun.config.sources lists removed begins.alone cleans in
@@ -67,11 +67,11 @@ runs_tell_removed below together begun lists log commits name begins run = (tell
         let found = in_names (λ n. not (is_partial n)) removed name (subst (λ (ns : List (List ℕ)). Contains ns name) told_is is) in
         from (cleans_up begun.config.settings run.board.verdicts) refl run.all.cleans found.0 (not-true (is_partial name) found.1)
 
-    listed : (t : Bool) → is_list name ≡ t → is_some (lists name) ≡ true → is_list name ≡ true
+    listed : (t : Bool) → is_installed_name name ≡ t → is_some (lists name) ≡ true → is_installed_name name ≡ true
     listed true is some = is
     listed false is some = let wrong : false ≡ true = sym (ap is_some (begins.alone name is)) ∙ some in absurd (cc)
 
-    to : (c : Bool) → cleans_up begun.config.settings run.board.verdicts ≡ c → Cleans c begun.config.sources lists removed → IsGone begun lists (after_all (commits_of commits) lists) name → Contains removed name
+    to : (c : Bool) → cleans_up begun.config.settings run.board.verdicts ≡ c → RemovesLooseNames c begun.config.sources lists removed → IsGone begun lists (after_all (commits_of commits) lists) name → Contains removed name
     to true is cleans gone = ⊎_elim
         (λ among. among)
         (λ within. absurd (gone.2 within))
@@ -83,7 +83,7 @@ runs_tell_removed below together begun lists log commits name begins run = (tell
     told : IsGone begun lists (after_all (commits_of commits) lists) name → Contains (map (λ (n : ListName). n.0) log.removed) name
     told gone =
         subst (λ (ns : List (List ℕ)). Contains ns name) (sym told_is)
-        (stays_in (λ n. not (is_partial n)) removed name (list_is_whole name (listed (is_list name) refl gone.0))
+        (stays_in (λ n. not (is_partial n)) removed name (list_is_whole name (listed (is_installed_name name) refl gone.0))
         (to (cleans_up begun.config.settings run.board.verdicts) refl run.all.cleans gone))
 
 -- ---- a run that has ended has begun
@@ -99,6 +99,6 @@ runs_have_begun together begun lists log commits run = record {
   shape = run.shape;
 }
   where
-    may : (t : Bool) → MayHaveBegun t begun lists run.board (all_groups commits)
+    may : (t : Bool) → MayBeCommitted t begun lists run.board (all_groups commits)
     may true = inr run.all
     may false = inr run.all

@@ -2,7 +2,7 @@
 use Rattle.std.proofs.Common.{◌≡◌, ◌∙◌, refl, sym, ap, subst, ℕ, List, [], ◌∷◌, ◌++◌, length, map, Option, Some}
 use Rattle.std.specs.Prelude.{option_and_then, slice_get}
 use Rattle.std.specs.List.{AllByRecursion as Each}
-use Rattle.acq_base.specs.Mirror.{World as Mirror}
+use Rattle.acq_base.specs.Mirror.{MirrorMap}
 use Rattle.acq_base.specs.declared.installed.Old.{Old}
 use Rattle.acq_base.specs.declared.plan.Source.{Source}
 use Rattle.board_model.specs.Agreeing.{Agrees, IsMirrors, part_at, part_of}
@@ -10,12 +10,12 @@ use Rattle.board_model.specs.Ends.{ListEnd, ListEndsInRoute, walk_for}
 use Rattle.board_model.specs.Keys.{name_at}
 use Rattle.board_model.specs.RunLaws.{IsSourceAt}
 use Rattle.board_model.specs.Runs.{Note}
-use Rattle.board_model.specs.Slots.{Config}
+use Rattle.board_model.specs.Slots.{Setup}
 use Rattle.board_model.specs.Stands.{history_of}
 use Rattle.board_model.proofs.Agreement.{LiesBeside, lists-lie}
 use Rattle.update_model.specs.Faults.{AreAgreeing, SetsMadeAreNew}
 use Rattle.update_model.specs.Laws.{ListEnd as RouteEnd, SetsAreAdmissible}
-use Rattle.update_model.specs.Outcomes.{Directory, Parts, admitted, outcome, wanted_by}
+use Rattle.update_model.specs.Outcomes.{Directory, PartFiles, admitted, outcome, wanted_by}
 use Rattle.update_model.specs.Points.{start}
 use Rattle.update_model.specs.Releases.{IsAdmissible, installed_release}
 use Rattle.update_model.specs.Walks.{Walk, IsRoute, release_walk, target_walk}
@@ -27,13 +27,13 @@ use Rattle.run_model.proofs.Hearing.{agrees_along, said_by}
 
 -- ---- routes that agree with a mirror
 
-record RoutesOver (mirror : Mirror) (dir : Directory) (parts : Parts) (config : Config) (came : List ListEnd) : Type 0 where
+record RoutesOver (mirror : MirrorMap) (dir : Directory) (parts : PartFiles) (config : Setup) (came : List ListEnd) : Type 0 where
   lists : List RouteEnd
   names : map (λ l. l.wanted) lists ≡ map (λ l. l.wanted) came
   ends : map (λ l. l.end) lists ≡ map (λ l. l.end) came
   agree : AreAgreeing mirror dir parts config.settings.retries lists
 
-routes_over : (mirror : Mirror) (dir : Directory) (parts : Parts) (config : Config) (n : ℕ) (source : Source) (old : Old) (notes : List Note) → slice_get config.sources n ≡ Some source → Agrees mirror parts config.sources notes
+routes_over : (mirror : MirrorMap) (dir : Directory) (parts : PartFiles) (config : Setup) (n : ℕ) (source : Source) (old : Old) (notes : List Note) → slice_get config.sources n ≡ Some source → Agrees mirror parts config.sources notes
     → (came : List ListEnd) → Each (ListEndsInRoute config n old (history_of n notes)) came → Each (LiesBeside dir parts config old) came → Each (λ l. name_at source l.place ≡ Some l.wanted.name) came
     → RoutesOver mirror dir parts config came
 routes_over mirror dir parts config n source old notes is agrees [] routes lie places = record { lists = []; names = refl; ends = refl; agree = tt }

@@ -8,10 +8,10 @@ use Rattle.board_model.specs.Changes.{AreMade, IsInstalled}
 use Rattle.board_model.specs.Ends.{ComesTo}
 use Rattle.board_model.specs.Runs.{Note}
 use Rattle.board_model.specs.Settling.{ends_in, had, held_of, settled_in, settled_lists, staying_verdict, unchanged}
-use Rattle.board_model.specs.Slots.{Config, Standing, Slot, Asking, Listing, Refused, Closed, is_ready}
+use Rattle.board_model.specs.Slots.{Setup, Standing, Slot, Asking, Listing, Refused, SettledSlot, is_ready}
 use Rattle.board_model.specs.Stands.{HasCome, IsOpen, history_of}
-use Rattle.update_model.specs.Next.{Leaves}
-use Rattle.update_model.specs.Outcomes.{Admitted, Outcome, Staying, Older, Kept, admitted, all_had}
+use Rattle.update_model.specs.Next.{OutcomeLeaves}
+use Rattle.update_model.specs.Outcomes.{AdmittedRelease, Outcome, Staying, Older, Kept, admitted, all_had}
 use Rattle.update_model.specs.Points.{Point, Over}
 use Rattle.update_model.specs.declared.end.End.{End}
 use Rattle.update_model.specs.declared.settled.Held.{Held}
@@ -23,19 +23,19 @@ use Rattle.run_model.proofs.Ends.{set_admitted, ok_once}
 use Rattle.run_model.proofs.Ready.{Below, WasReady, installed_set}
 
 -- a source that is settled with a new set came to it, and its changes leave it
-pub record LeavesSet (config : Config) (n : ℕ) (source : Source) (old : Old) (notes : List Note) (verdict : Verdict2) (held : Held) (before after : Files) : Type 0 where
-  pub set : Admitted
+pub record LeavesSet (config : Setup) (n : ℕ) (source : Source) (old : Old) (notes : List Note) (verdict : Verdict2) (held : Held) (before after : Files) : Type 0 where
+  pub set : AdmittedRelease
   pub comes : ComesTo config n source old (history_of n notes) verdict
   pub is : outcome_at config old comes.end comes.lists ≡ Ok set
   pub held_is : held ≡ held_of source set
-  pub leaves : Leaves (Ok set) source before after
+  pub leaves : OutcomeLeaves (Ok set) source before after
 
 stays_kept : (why : Staying) (held : Held) → staying_verdict why ≡ Installed held → ⊥
 stays_kept (Older date) held is = absurd (cc)
 stays_kept (Kept cause) held is = absurd (cc)
 
 -- nothing but a whole set is installed
-all_there : (source : Source) (set : Admitted) (there : Bool) (lists : List (Option Standing)) (came : Result (Unit {0}) Staying) (settled : Settled) (held : Held) → settled_lists source set there lists came ≡ settled → settled.verdict ≡ Installed held → had set came ≡ Ok set
+all_there : (source : Source) (set : AdmittedRelease) (there : Bool) (lists : List (Option Standing)) (came : Result (Unit {0}) Staying) (settled : Settled) (held : Held) → settled_lists source set there lists came ≡ settled → settled.verdict ≡ Installed held → had set came ≡ Ok set
 all_there source set there lists (Ok each) settled held is installs = refl
 all_there source set there lists (Err why) settled held is installs =
     absurd (stays_kept why held (ap (λ (s : Settled). s.verdict) is ∙ installs))
@@ -43,7 +43,7 @@ all_there source set there lists (Err why) settled held is installs =
 over_same : (p : Point) (end end' : End) → p ≡ Over end → p ≡ Over end' → end ≡ end'
 over_same p end end' is is' = let both : Over end ≡ Over end' = sym is ∙ is' in cc
 
-listed_set : Below → (config : Config) (n : ℕ) (source : Source) (old : Old) (notes : List Note) (settled : Settled) (held : Held) (before after : Files) (set : Admitted) (there : Bool) (lists : List (Option Standing))
+listed_set : Below → (config : Setup) (n : ℕ) (source : Source) (old : Old) (notes : List Note) (settled : Settled) (held : Held) (before after : Files) (set : AdmittedRelease) (there : Bool) (lists : List (Option Standing))
     → IsOpen config n source old (Listing set there lists) (history_of n notes) → is_ready (Listing set there lists) ≡ true → settled_in source (Listing set there lists) ≡ Some settled
     → settled.verdict ≡ Installed held → IsPlanned source → IsInstalled source old before → AreMade source settled before after
     → LeavesSet config n source old notes settled.verdict held before after
@@ -60,13 +60,13 @@ listed_set below config n source old notes settled held before after set there l
     record {
       set = set;
       comes = comes;
-      is = found.1 ∙ ap (λ (s : Admitted). Ok s) same;
+      is = found.1 ∙ ap (λ (s : AdmittedRelease). Ok s) same;
       held_is = found.2 ∙ ap (held_of source) same;
-      leaves = subst (λ (o : Outcome). Leaves o source before after) whole
+      leaves = subst (λ (o : Outcome). OutcomeLeaves o source before after) whole
           (below.leave config n source old (Listing set there lists) (history_of n notes) settled (had set (all_had (ends_in lists))) before after h ready is refl planned installed made);
     }
 
-pub leaves_set : Below → (config : Config) (n : ℕ) (source : Source) (old : Old) (notes : List Note) (settled : Settled) (held : Held) (before after : Files)
+pub leaves_set : Below → (config : Setup) (n : ℕ) (source : Source) (old : Old) (notes : List Note) (settled : Settled) (held : Held) (before after : Files)
     → WasReady config n source old notes settled → settled.verdict ≡ Installed held → IsPlanned source → IsInstalled source old before → AreMade source settled before after
     → LeavesSet config n source old notes settled.verdict held before after
 leaves_set below config n source old notes settled held before after was installs planned installed made = one was.slot was.open_slot was.ready was.comes_to
@@ -77,4 +77,4 @@ leaves_set below config n source old notes settled held before after was install
     one (Refused why) h ready is =
         let kept : unchanged (staying_verdict why) ≡ settled = cc in
         absurd (stays_kept why held (ap (λ (s : Settled). s.verdict) kept ∙ installs))
-    one Closed h ready is = absurd h
+    one SettledSlot h ready is = absurd h

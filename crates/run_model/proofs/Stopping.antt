@@ -11,19 +11,19 @@ use Rattle.acq_outside.specs.Disk.{Files}
 use Rattle.board_model.specs.Boards.{log_of}
 use Rattle.board_model.specs.CallLaws.{AreOnce, SourcesAreSettledOnce}
 use Rattle.board_model.specs.Runs.{Note}
-use Rattle.commit_journal.specs.Changes.{Filled, folder_steps, stepped_all}
-use Rattle.commit_journal.specs.Runs.{Commit, LeavesFirst, IsWholeNow, IsWholeSince, Moment, after_first}
+use Rattle.commit_journal.specs.Changes.{Filled, folder_steps, after_commit}
+use Rattle.commit_journal.specs.Runs.{Commit, CrashLeavesFirstCommits, CrashLeavesWholeNow, CrashLeavesWholeSince, CommitProgress, after_first}
 use Rattle.update_model.specs.Next.{Keeps}
 use Rattle.update_model.proofs.Carried.{each-at}
 use Rattle.board_model.proofs.Making.{none-in}
 use Rattle.acq_outside.proofs.Going.{since_map}
 use Rattle.commit_journal.proofs.Running.{stands_as}
 use Rattle.list_commits.proofs.Apart.{here, there, apart_of}
-use Rattle.run_model.specs.Begun.{Begun, BeginsOver}
-use Rattle.run_model.specs.Coming.{HasNewSet, LeavesWhole, SourcesAreWhole}
-use Rattle.run_model.specs.Groups.{Group, OfSource, OfNone, AreGroups, IsNewSet, IsSettledAs, all_groups, commit_of, commits_of, sources_in}
+use Rattle.run_model.specs.Begun.{RunInput, ReadsPlanned}
+use Rattle.run_model.specs.Coming.{HasNewSet, CrashLeavesWholeSets, SourcesAreWhole}
+use Rattle.run_model.specs.Groups.{Group, SetOf, CleanUp, AreGroups, IsNewSet, CameToOnBoard, all_groups, commit_of, commits_of, sources_in}
 use Rattle.run_model.specs.Laws.{CommitsLeaveWhole, CrashesLeaveWhole, GroupsMakeSets, GroupsStay}
-use Rattle.run_model.specs.Runs.{AreAll, HasBegun, MayHaveBegun, installed_by, is_told_installed}
+use Rattle.run_model.specs.Runs.{AreAllGroups, MayBeStopped, MayBeCommitted, installed_by, is_told_installed}
 use Rattle.run_model.proofs.Carrying.{HasGroup, after_groups, has_group, is_made, kept, stepped, after_both}
 use Rattle.run_model.proofs.Finishing.{once_filtered}
 use Rattle.run_model.proofs.Names.{SameUnder, holds_moved, installed_moved, keeps_same}
@@ -32,7 +32,7 @@ use Rattle.run_model.proofs.Setting.{LeavesSet, leaves_set}
 
 -- ---- groups stay groups
 
-settled_stays : (begun : Begun) (heard later : List Note) (n : ℕ) {settled : _} → IsSettledAs begun heard n settled → IsSettledAs begun (heard ++ later) n settled
+settled_stays : (begun : RunInput) (heard later : List Note) (n : ℕ) {settled : _} → CameToOnBoard begun heard n settled → CameToOnBoard begun (heard ++ later) n settled
 settled_stays begun heard later n s = record {
   notes = s.notes;
   later = s.later ++ later;
@@ -43,7 +43,7 @@ settled_stays begun heard later n s = record {
   comes_to = s.comes_to;
 }
 
-set_stays : (begun : Begun) (heard later : List Note) (n : ℕ) {changes : _} → IsNewSet begun heard n changes → IsNewSet begun (heard ++ later) n changes
+set_stays : (begun : RunInput) (heard later : List Note) (n : ℕ) {changes : _} → IsNewSet begun heard n changes → IsNewSet begun (heard ++ later) n changes
 set_stays begun heard later n new_set = record {
   source = new_set.source;
   source_is = new_set.source_is;
@@ -58,8 +58,8 @@ set_stays begun heard later n new_set = record {
 
 pub groups_stay : GroupsStay
 groups_stay begun heard later [] are = tt
-groups_stay begun heard later (OfSource n changes ∷ groups) are = (set_stays begun heard later n are.0, groups_stay begun heard later groups are.1)
-groups_stay begun heard later (OfNone names ∷ groups) are = are
+groups_stay begun heard later (SetOf n changes ∷ groups) are = (set_stays begun heard later n are.0, groups_stay begun heard later groups are.1)
+groups_stay begun heard later (CleanUp names ∷ groups) are = are
 
 -- ---- the first of the groups
 
@@ -67,15 +67,15 @@ nothing_before : (first later : List Group) → first ++ later ≡ [] → first 
 nothing_before [] later is = refl
 nothing_before (group ∷ first) later is = absurd (cc)
 
-first_groups : (begun : Begun) (heard : List Note) (first later : List Group) → AreGroups begun heard (first ++ later) → AreGroups begun heard first
+first_groups : (begun : RunInput) (heard : List Note) (first later : List Group) → AreGroups begun heard (first ++ later) → AreGroups begun heard first
 first_groups begun heard [] later are = tt
-first_groups begun heard (OfSource n changes ∷ first) later are = (are.0, first_groups begun heard first later are.1)
-first_groups begun heard (OfNone names ∷ first) later are = (are.0, nothing_before first later are.1)
+first_groups begun heard (SetOf n changes ∷ first) later are = (are.0, first_groups begun heard first later are.1)
+first_groups begun heard (CleanUp names ∷ first) later are = (are.0, nothing_before first later are.1)
 
 pub sources_of_both : (first later : List Group) → sources_in (first ++ later) ≡ sources_in first ++ sources_in later
 sources_of_both [] later = refl
-sources_of_both (OfSource n changes ∷ first) later = ap (λ (ns : List ℕ). n ∷ ns) (sources_of_both first later)
-sources_of_both (OfNone names ∷ first) later = sources_of_both first later
+sources_of_both (SetOf n changes ∷ first) later = ap (λ (ns : List ℕ). n ∷ ns) (sources_of_both first later)
+sources_of_both (CleanUp names ∷ first) later = sources_of_both first later
 
 each_first : (n : ℕ) (first later : List ℕ) → Each (λ m. m ≢ n) (first ++ later) → Each (λ m. m ≢ n) first
 each_first n [] later others = tt
@@ -95,7 +95,7 @@ first_in_turn : (count : ℕ) (commits : List (List Group)) (lists : Files) → 
 first_in_turn zero commits lists = refl
 first_in_turn (suc count) [] lists = refl
 first_in_turn (suc count) (groups ∷ commits) lists =
-    first_in_turn count commits (stepped_all (commit_of groups) lists)
+    first_in_turn count commits (after_commit (commit_of groups) lists)
     ∙ ap (after_groups (all_groups (take count commits))) (stepped groups lists)
     ∙ sym (after_both groups (all_groups (take count commits)) lists)
 
@@ -111,7 +111,7 @@ among n (m ∷ ns) = elim (cases_eq m n) [
   ]
 ]
 
-group_makes : Below → (begun : Begun) (heard : List Note) (n : ℕ) (changes : List Filled) (new_set : IsNewSet begun heard n changes) (lists before : Files) → BeginsOver begun lists → SameUnder new_set.source lists before
+group_makes : Below → (begun : RunInput) (heard : List Note) (n : ℕ) (changes : List Filled) (new_set : IsNewSet begun heard n changes) (lists before : Files) → ReadsPlanned begun lists → SameUnder new_set.source lists before
     → HasNewSet begun heard n new_set.source (folder_steps changes before)
 group_makes below begun heard n changes new_set lists before begins same =
     let m = is_made below begun heard n changes new_set before begins.planned in
@@ -137,7 +137,7 @@ pub groups_make_sets : Below → GroupsMakeSets
 groups_make_sets below begun lists before heard n changes new_set begins keeps =
     group_makes below begun heard n changes new_set lists before begins (λ name is. each-at (λ name. before name ≡ lists name) (names_of new_set.source) name keeps is)
 
-new_set_whole : Below → (begun : Begun) (heard : List Note) (n : ℕ) (source : Source) (lists after : Files) → BeginsOver begun lists → slice_get begun.config.sources n ≡ Some source
+new_set_whole : Below → (begun : RunInput) (heard : List Note) (n : ℕ) (source : Source) (lists after : Files) → ReadsPlanned begun lists → slice_get begun.config.sources n ≡ Some source
     → HasGroup begun heard n source lists after → HasNewSet begun heard n source after
 new_set_whole below begun heard n source lists after begins is group =
     let new_set : IsNewSet begun heard n group.changes = group.new_set in
@@ -151,7 +151,7 @@ new_set_whole below begun heard n source lists after begins is group =
           (subst (λ (x : Source). SameUnder x (folder_steps group.changes group.between) after) (sym same) group.behind) made.holds;
     })
 
-groups_leave_whole : Below → (begun : Begun) (heard : List Note) (groups : List Group) (lists : Files) → BeginsOver begun lists → AreGroups begun heard groups → AreOnce (sources_in groups)
+groups_leave_whole : Below → (begun : RunInput) (heard : List Note) (groups : List Group) (lists : Files) → ReadsPlanned begun lists → AreGroups begun heard groups → AreOnce (sources_in groups)
     → SourcesAreWhole begun heard lists (after_groups groups lists)
 groups_leave_whole below begun heard groups lists begins are once n source is = elim (among n (sources_in groups)) [
   | inl there_is ↦ inr (new_set_whole below begun heard n source lists (after_groups groups lists) begins is
@@ -161,16 +161,16 @@ groups_leave_whole below begun heard groups lists begins are once n source is = 
 ]
 
 -- a source has at most one of the groups that are begun
-begun_once : SourcesAreSettledOnce → (together : Bool) (begun : Begun) (lists : Files) (commits : List (List Group)) → HasBegun together begun lists commits → AreOnce (sources_in (all_groups commits))
+begun_once : SourcesAreSettledOnce → (together : Bool) (begun : RunInput) (lists : Files) (commits : List (List Group)) → MayBeStopped together begun lists commits → AreOnce (sources_in (all_groups commits))
 begun_once law together begun lists commits run = one together run.may
   where
     settled : AreOnce (installed_by (log_of run.board))
     settled = once_filtered (λ n. is_told_installed (slice_get run.board.verdicts n)) run.board.settled (law begun.config begun.olds run.heard run.board run.reached).once
 
-    all : AreAll begun lists run.board (all_groups commits) → AreOnce (sources_in (all_groups commits))
+    all : AreAllGroups begun lists run.board (all_groups commits) → AreOnce (sources_in (all_groups commits))
     all are = subst AreOnce (sym are.order) settled
 
-    one : (t : Bool) → MayHaveBegun t begun lists run.board (all_groups commits) → AreOnce (sources_in (all_groups commits))
+    one : (t : Bool) → MayBeCommitted t begun lists run.board (all_groups commits) → AreOnce (sources_in (all_groups commits))
     one false (inl first) = once_first (sources_in (all_groups commits)) first.rest (subst AreOnce first.order settled)
     one false (inr are) = all are
     one true (inl none) = subst (λ (gs : List Group). AreOnce (sources_in gs)) (sym none) tt
@@ -188,15 +188,15 @@ commits_leave_whole below law together begun lists commits run count begins n so
 
 -- ---- a crash
 
-pub crashes_leave_whole : Below → SourcesAreSettledOnce → ((commits : List Commit) (acknowledged started : ℕ) (old now : List State) → Moment commits acknowledged started old now → IsWholeNow commits acknowledged started old now)
-    → ((commits : List Commit) (acknowledged started : ℕ) (old now : List State) → Moment commits acknowledged started old now → IsWholeSince commits started old now) → CrashesLeaveWhole
+pub crashes_leave_whole : Below → SourcesAreSettledOnce → ((commits : List Commit) (acknowledged started : ℕ) (old now : List State) → CommitProgress commits acknowledged started old now → CrashLeavesWholeNow commits acknowledged started old now)
+    → ((commits : List Commit) (acknowledged started : ℕ) (old now : List State) → CommitProgress commits acknowledged started old now → CrashLeavesWholeSince commits started old now) → CrashesLeaveWhole
 crashes_leave_whole below law whole_now whole_since together begun lists commits run acknowledged started opened now begins rest moment = (
-  since_map (LeavesFirst (commits_of commits) lists 0 started) (LeavesWhole begun run.heard lists) opened now (whole 0) (whole_since (commits_of commits) acknowledged started opened now moment lists rest),
-  stands_as (LeavesFirst (commits_of commits) lists acknowledged started) (LeavesWhole begun run.heard lists) now (whole acknowledged)
+  since_map (CrashLeavesFirstCommits (commits_of commits) lists 0 started) (CrashLeavesWholeSets begun run.heard lists) opened now (whole 0) (whole_since (commits_of commits) acknowledged started opened now moment lists rest),
+  stands_as (CrashLeavesFirstCommits (commits_of commits) lists acknowledged started) (CrashLeavesWholeSets begun run.heard lists) now (whole acknowledged)
       (whole_now (commits_of commits) acknowledged started opened now moment lists rest),
 )
   where
-    whole : (least : ℕ) (s : State) → LeavesFirst (commits_of commits) lists least started s → LeavesWhole begun run.heard lists s
+    whole : (least : ℕ) (s : State) → CrashLeavesFirstCommits (commits_of commits) lists least started s → CrashLeavesWholeSets begun run.heard lists s
     whole least s leaves image is =
         let left = leaves image is in
         record { after = after_first left.count (commits_of commits) lists; is = left.is; sources = commits_leave_whole below law together begun lists commits run left.count begins }

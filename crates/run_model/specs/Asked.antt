@@ -10,10 +10,10 @@ use Rattle.board_model.specs.Keys.{keys_from}
 use Rattle.board_model.specs.Reached.{Reached}
 use Rattle.board_model.specs.RunLaws.{IsSourceAt}
 use Rattle.board_model.specs.Runs.{Note}
-use Rattle.board_model.specs.Slots.{Config}
-use Rattle.board_model.specs.Stands.{entries_of, history_of, tolds}
+use Rattle.board_model.specs.Slots.{Setup}
+use Rattle.board_model.specs.Stands.{entries_of, history_of, lane_answers}
 use Rattle.release_file.specs.Release.{listed_sum}
-use Rattle.update_model.specs.Outcomes.{Admitted, admitted}
+use Rattle.update_model.specs.Outcomes.{AdmittedRelease, admitted}
 use Rattle.update_model.specs.Points.{Over, run, start}
 use Rattle.update_model.specs.Walks.{release_walk}
 use Rattle.update_model.specs.declared.end.End.{End}
@@ -21,18 +21,18 @@ use Rattle.update_model.specs.declared.end.End.{End}
 -- whatever was heard was heard by an item of the plan
 abbrev pub NotesAreOfItems : Type 0
 NotesAreOfItems =
-    (config : Config) (olds : List Old) (notes : List Note) (b : Board) → Reached config olds notes b
+    (config : Setup) (olds : List Old) (notes : List Note) (b : Board) → Reached config olds notes b
     → Each (λ note. Contains (keys_from 0 config.sources) note.key) notes
 
 -- and just that is told by the log
 abbrev pub LogsTellNotes : Type 0
-LogsTellNotes = (config : Config) (olds : List Old) (notes : List Note) (b : Board) → Reached config olds notes b → (log_of b).asks ≡ entries_of notes
+LogsTellNotes = (config : Setup) (olds : List Old) (notes : List Note) (b : Board) → Reached config olds notes b → (log_of b).asks ≡ entries_of notes
 
 -- the Release with which a source's asks for it ended may be installed, and names the list
-pub record IsListed (config : Config) (old : Old) (source : Source) (target : Target) (heard : List Note) : Type 0 where
+pub record IsListed (config : Setup) (old : Old) (source : Source) (target : Target) (heard : List Note) : Type 0 where
   pub end : End
-  pub ends : run config.settings.retries (start config.settings.retries (release_walk source)) (tolds heard) ≡ Over end
-  pub set : Admitted
+  pub ends : run config.settings.retries (start config.settings.retries (release_walk source)) (lane_answers heard) ≡ Over end
+  pub set : AdmittedRelease
   pub came_to : admitted end old.release config.settings config.change config.now ≡ Ok set
   pub sum : Sum
   pub listed : listed_sum set.release target.path ≡ Some sum
@@ -40,6 +40,6 @@ pub record IsListed (config : Config) (old : Old) (source : Source) (target : Ta
 -- and of the lists of a source just those that its Release names have heard anything
 abbrev pub OthersHearNothing : Type 0
 OthersHearNothing =
-    (config : Config) (olds : List Old) (notes : List Note) (b : Board) (n k : ℕ) (source : Source) (old : Old) (target : Target)
+    (config : Setup) (olds : List Old) (notes : List Note) (b : Board) (n k : ℕ) (source : Source) (old : Old) (target : Target)
     → Reached config olds notes b → is_finished b ≡ true → IsSourceAt config olds n source old → slice_get source.targets k ≡ Some target
     → (history_of n notes (suc k) ≡ []) ⊎ IsListed config old source target (history_of n notes 0)

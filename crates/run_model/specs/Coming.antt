@@ -1,6 +1,6 @@
 -- What the sources of a run come to, and which lists they have then.
 use Rattle.std.specs.Prelude.{◌≡◌, ◌⊎◌, ℕ, List, ◌++◌, map, slice_get, Some, Ok}
-use Rattle.acq_base.specs.Mirror.{World as Mirror}
+use Rattle.acq_base.specs.Mirror.{MirrorMap}
 use Rattle.acq_base.specs.declared.installed.Old.{Old}
 use Rattle.acq_base.specs.declared.plan.Source.{Source}
 use Rattle.acq_outside.specs.Disk.{Files}
@@ -10,26 +10,26 @@ use Rattle.board_model.specs.Ends.{ComesTo, ListEnd, verdict_for}
 use Rattle.board_model.specs.RunLaws.{IsSourceAt}
 use Rattle.board_model.specs.Runs.{Note}
 use Rattle.board_model.specs.Settling.{held_of}
-use Rattle.board_model.specs.Slots.{Config}
+use Rattle.board_model.specs.Slots.{Setup}
 use Rattle.board_model.specs.Stands.{history_of}
 use Rattle.journal_model.specs.Reopen.{reopened}
 use Rattle.release_file.specs.Release.{release_of}
-use Rattle.update_model.specs.Next.{Holds, Keeps, Leaves}
-use Rattle.update_model.specs.Outcomes.{Admitted, Outcome, new_set, outcome}
+use Rattle.update_model.specs.Next.{HasWholeSet, Keeps, OutcomeLeaves}
+use Rattle.update_model.specs.Outcomes.{AdmittedRelease, Outcome, new_set, outcome}
 use Rattle.update_model.specs.Releases.{IsAdmissible, installed_release}
 use Rattle.update_model.specs.declared.end.End.{End}
 use Rattle.update_model.specs.declared.log.RunLog.{RunLog}
 use Rattle.update_model.specs.declared.settled.Held.{Held}
 use Rattle.update_model.specs.declared.settled.Verdict2.{Verdict2}
-use Rattle.run_model.specs.Begun.{Begun}
+use Rattle.run_model.specs.Begun.{RunInput}
 
 -- by the end of its Release and those of its lists
-abbrev pub outcome_at : Config → Old → End → List ListEnd → Outcome
+abbrev pub outcome_at : Setup → Old → End → List ListEnd → Outcome
 outcome_at config old end lists = outcome end (map (λ l. l.end) lists) old.release config.settings config.change config.now
 
 -- All items of a source had ended in routes when the first of what the run heard had been heard, and this is what their
 -- ends come to.
-pub record CameTo (begun : Begun) (heard : List Note) (n : ℕ) (source : Source) (came_to : Outcome) : Type 0 where
+pub record HasOutcome (begun : RunInput) (heard : List Note) (n : ℕ) (source : Source) (came_to : Outcome) : Type 0 where
   pub former : Old
   pub stands : IsSourceAt begun.config begun.olds n source former
   pub notes : List Note
@@ -40,61 +40,61 @@ pub record CameTo (begun : Begun) (heard : List Note) (n : ℕ) (source : Source
   pub is : outcome_at begun.config former comes.end comes.lists ≡ came_to
 
 -- the set that a source came to is under its names, whole
-pub record HasNewSet (begun : Begun) (heard : List Note) (n : ℕ) (source : Source) (after : Files) : Type 0 where
-  pub set : Admitted
-  pub came : CameTo begun heard n source (Ok set)
-  pub holds : Holds after source set
+pub record HasNewSet (begun : RunInput) (heard : List Note) (n : ℕ) (source : Source) (after : Files) : Type 0 where
+  pub set : AdmittedRelease
+  pub came : HasOutcome begun heard n source (Ok set)
+  pub holds : HasWholeSet after source set
 
 -- each source has what it had under its names, or the new set, whole
-abbrev pub SourcesAreWhole : Begun → List Note → Files → Files → Type 0
+abbrev pub SourcesAreWhole : RunInput → List Note → Files → Files → Type 0
 SourcesAreWhole begun heard lists after =
     (n : ℕ) (source : Source) → slice_get begun.config.sources n ≡ Some source → Keeps source lists after ⊎ HasNewSet begun heard n source after
 
 -- and whatever a crash leaves is opened again as such lists
-pub record IsWhole (begun : Begun) (heard : List Note) (lists image : Files) : Type 0 where
+pub record ReopensToWholeSets (begun : RunInput) (heard : List Note) (lists image : Files) : Type 0 where
   pub after : Files
   pub is : reopened image ≡ Some after
   pub sources : SourcesAreWhole begun heard lists after
 
-abbrev pub LeavesWhole : Begun → List Note → Files → State → Type 0
-LeavesWhole begun heard lists s = (image : Files) → IsImage s image → IsWhole begun heard lists image
+abbrev pub CrashLeavesWholeSets : RunInput → List Note → Files → State → Type 0
+CrashLeavesWholeSets begun heard lists s = (image : Files) → IsImage s image → ReopensToWholeSets begun heard lists image
 
 -- A source's outcome, by all that was heard, is told in the log, and left under its names: the new set, or what was there.
-pub record LeavesOutcome (begun : Begun) (heard : List Note) (n : ℕ) (source : Source) (log : RunLog) (lists after : Files) : Type 0 where
+pub record LogsAndLeavesOutcome (begun : RunInput) (heard : List Note) (n : ℕ) (source : Source) (log : RunLog) (lists after : Files) : Type 0 where
   pub came_to : Outcome
-  pub came : CameTo begun heard n source came_to
+  pub came : HasOutcome begun heard n source came_to
   pub all : came.notes ≡ heard
   pub told : slice_get log.verdicts n ≡ Some came.verdict
-  pub leaves : Leaves came_to source lists after
+  pub leaves : OutcomeLeaves came_to source lists after
 
 -- Under a source's names is just what is told of it: a Release of this sum and date that may be installed beside the former
 -- one, and each list that this names, of the sum that it lists, and no other.
-pub record HoldsTold (begun : Begun) (source : Source) (held : Held) (lists after : Files) : Type 0 where
-  pub set : Admitted
+pub record HasSetAsLogged (begun : RunInput) (source : Source) (held : Held) (lists after : Files) : Type 0 where
+  pub set : AdmittedRelease
   pub told : held ≡ held_of source set
-  pub holds : Holds after source set
+  pub holds : HasWholeSet after source set
   pub reads : release_of set.bytes ≡ Ok set.release
   pub admissible : IsAdmissible set.release (installed_release (lists source.release_name.0)) begun.config.settings.dates begun.config.change begun.config.now
 
 -- what a mirror has for a source beside what the run begins with
-abbrev pub mirrored : Mirror → Begun → Files → Source → Outcome
+abbrev pub mirrored : MirrorMap → RunInput → Files → Source → Outcome
 mirrored mirror begun lists source = new_set mirror lists begun.parts source begun.config.settings begun.config.change begun.config.now
 
 -- each answer that a run heard was the mirror's, or a fault, and none of its asks was given up
-pub record HasHeardOut (mirror : Mirror) (begun : Begun) (heard : List Note) : Type 0 where
+pub record HeardMirrorFully (mirror : MirrorMap) (begun : RunInput) (heard : List Note) : Type 0 where
   pub agrees : Agrees mirror begun.parts begun.config.sources heard
   pub lives : NoneIsDead begun.config.settings.retries heard
 
 -- what the mirror has for a source is told in the log, and left under its names: the new set, or what was there
-pub record LeavesMirrored (mirror : Mirror) (begun : Begun) (n : ℕ) (source : Source) (log : RunLog) (lists after : Files) : Type 0 where
+pub record LeavesMirrored (mirror : MirrorMap) (begun : RunInput) (n : ℕ) (source : Source) (log : RunLog) (lists after : Files) : Type 0 where
   pub former : Old
   pub stands : IsSourceAt begun.config begun.olds n source former
   pub told : slice_get log.verdicts n ≡ Some (verdict_for source former (mirrored mirror begun lists source))
-  pub leaves : Leaves (mirrored mirror begun lists source) source lists after
+  pub leaves : OutcomeLeaves (mirrored mirror begun lists source) source lists after
 
 -- the mirror's set is told of a source, and lies under its names
-pub record HoldsMirrored (mirror : Mirror) (begun : Begun) (source : Source) (held : Held) (lists after : Files) : Type 0 where
-  pub set : Admitted
+pub record HasMirrorsSet (mirror : MirrorMap) (begun : RunInput) (source : Source) (held : Held) (lists after : Files) : Type 0 where
+  pub set : AdmittedRelease
   pub is : mirrored mirror begun lists source ≡ Ok set
   pub told : held ≡ held_of source set
-  pub holds : Holds after source set
+  pub holds : HasWholeSet after source set

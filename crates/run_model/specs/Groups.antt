@@ -10,20 +10,20 @@ use Rattle.commit_journal.specs.Changes.{Filled, DropFile, filled}
 use Rattle.commit_journal.specs.Runs.{Commit}
 use Rattle.list_commits.specs.Changes.{changes_for}
 use Rattle.list_commits.specs.SetLaws.{HaveSums}
-use Rattle.update_model.specs.Outcomes.{Parts}
+use Rattle.update_model.specs.Outcomes.{PartFiles}
 use Rattle.update_model.specs.declared.settled.Held.{Held}
 use Rattle.update_model.specs.declared.settled.Settled.{Settled}
 use Rattle.update_model.specs.declared.settled.Verdict2.TheVariants.{Installed}
-use Rattle.run_model.specs.Begun.{Begun}
+use Rattle.run_model.specs.Begun.{RunInput}
 
 -- one group of a commit's changes: those of a source that was settled, or the removal of names that belong to no source
 pub data Group : Type 0 where
-  OfSource : (n : ℕ) → (changes : List Filled) → Group
-  OfNone : (names : List (List ℕ)) → Group
+  SetOf : (n : ℕ) → (changes : List Filled) → Group
+  CleanUp : (names : List (List ℕ)) → Group
 
 abbrev pub changes_in : Group → List Filled
-changes_in (OfSource n changes) = changes
-changes_in (OfNone names) = map DropFile names
+changes_in (SetOf n changes) = changes
+changes_in (CleanUp names) = map DropFile names
 
 abbrev pub commit_of : List Group → Commit
 commit_of groups = map changes_in groups
@@ -35,7 +35,7 @@ commits_of commits = map commit_of commits
 
 -- A source came to this: it was the first that was ready on a board to which the run's calls led, when the first of what
 -- the run heard had been heard.
-pub record IsSettledAs (begun : Begun) (heard : List Note) (n : ℕ) (settled : Settled) : Type 0 where
+pub record CameToOnBoard (begun : RunInput) (heard : List Note) (n : ℕ) (settled : Settled) : Type 0 where
   pub notes : List Note
   pub later : List Note
   pub so_far : heard ≡ notes ++ later
@@ -45,29 +45,29 @@ pub record IsSettledAs (begun : Begun) (heard : List Note) (n : ℕ) (settled : 
   pub comes_to : settled_of board n ≡ Some settled
 
 -- they put the new set of a source under its names, each staged file with bytes of the sum that is told
-pub record IsNewSet (begun : Begun) (heard : List Note) (n : ℕ) (changes : List Filled) : Type 0 where
+pub record IsNewSet (begun : RunInput) (heard : List Note) (n : ℕ) (changes : List Filled) : Type 0 where
   pub source : Source
   pub source_is : slice_get begun.config.sources n ≡ Some source
   pub settled : Settled
-  pub settles : IsSettledAs begun heard n settled
+  pub settles : CameToOnBoard begun heard n settled
   pub held : Held
   pub installs : settled.verdict ≡ Installed held
-  pub staged : Parts
+  pub staged : PartFiles
   pub sums : HaveSums staged settled
   pub are : changes ≡ filled staged (changes_for source settled)
 
 -- there are some, and none belongs to a source
-pub record AreOfNone (begun : Begun) (names : List (List ℕ)) : Type 0 where
+pub record AreRemovable (begun : RunInput) (names : List (List ℕ)) : Type 0 where
   pub some : names ≢ []
   pub apart : (name : List ℕ) → Contains names name → Contains (flat_map names_of begun.config.sources) name → ⊥
 
 -- ---- the groups of a run
 
 -- new sets, and perhaps the clean-up behind them
-abbrev pub AreGroups : Begun → List Note → List Group → Type 0
+abbrev pub AreGroups : RunInput → List Note → List Group → Type 0
 AreGroups begun heard [] = Unit {0}
-AreGroups begun heard (OfSource n changes ∷ groups) = IsNewSet begun heard n changes × AreGroups begun heard groups
-AreGroups begun heard (OfNone names ∷ groups) = AreOfNone begun names × (groups ≡ [])
+AreGroups begun heard (SetOf n changes ∷ groups) = IsNewSet begun heard n changes × AreGroups begun heard groups
+AreGroups begun heard (CleanUp names ∷ groups) = AreRemovable begun names × (groups ≡ [])
 
 abbrev pub all_groups : List (List Group) → List Group
 all_groups commits = flat_map (λ groups. groups) commits
@@ -75,16 +75,16 @@ all_groups commits = flat_map (λ groups. groups) commits
 -- the sources whose sets are in them, in order
 abbrev pub sources_in : List Group → List ℕ
 sources_in [] = []
-sources_in (OfSource n changes ∷ groups) = n ∷ sources_in groups
-sources_in (OfNone names ∷ groups) = sources_in groups
+sources_in (SetOf n changes ∷ groups) = n ∷ sources_in groups
+sources_in (CleanUp names ∷ groups) = sources_in groups
 
 -- the names that the clean-up removes
 abbrev pub removed_in : List Group → List (List ℕ)
 removed_in [] = []
-removed_in (OfSource n changes ∷ groups) = removed_in groups
-removed_in (OfNone names ∷ groups) = names
+removed_in (SetOf n changes ∷ groups) = removed_in groups
+removed_in (CleanUp names ∷ groups) = names
 
 -- together there is at most one commit, of one group or more, and else each has one group
-abbrev pub HaveShape : Bool → List (List Group) → Type 0
-HaveShape true commits = (length commits ≤ 1) × Each (λ groups. groups ≢ []) commits
-HaveShape false commits = Each (λ groups. length groups ≡ 1) commits
+abbrev pub AreCommitGroups : Bool → List (List Group) → Type 0
+AreCommitGroups true commits = (length commits ≤ 1) × Each (λ groups. groups ≢ []) commits
+AreCommitGroups false commits = Each (λ groups. length groups ≡ 1) commits

@@ -8,13 +8,13 @@ use Rattle.acq_outside.specs.Disk.{Files}
 use Rattle.board_model.specs.Boards.{Board, is_finished, log_of}
 use Rattle.board_model.specs.Reached.{Reached}
 use Rattle.board_model.specs.Runs.{Note}
-use Rattle.journal_model.specs.Names.{is_list}
+use Rattle.journal_model.specs.Names.{is_installed_name}
 use Rattle.list_commits.specs.Loose.{AreLooseNames, removed_names}
 use Rattle.update_model.specs.declared.log.RunLog.{RunLog}
 use Rattle.update_model.specs.declared.settled.Verdict2.{Verdict2}
 use Rattle.update_model.specs.declared.settled.Verdict2.TheVariants.{Installed, Hit, Older, Kept}
-use Rattle.run_model.specs.Begun.{Begun}
-use Rattle.run_model.specs.Groups.{Group, AreGroups, HaveShape, all_groups, removed_in, sources_in}
+use Rattle.run_model.specs.Begun.{RunInput}
+use Rattle.run_model.specs.Groups.{Group, AreGroups, AreCommitGroups, all_groups, removed_in, sources_in}
 
 -- ---- what a log tells
 
@@ -49,32 +49,32 @@ cleans_up settings verdicts = settings.cleanup && list_all (λ verdict. not (is_
 pub record AreLooseLists (sources : List Source) (lists : Files) (names : List (List ℕ)) : Type 0 where
   pub files : Files
   pub are : AreLooseNames files sources names
-  pub same : (name : List ℕ) → is_list name ≡ true → (Contains (flat_map names_of sources) name → ⊥) → files name ≡ lists name
+  pub same : (name : List ℕ) → is_installed_name name ≡ true → (Contains (flat_map names_of sources) name → ⊥) → files name ≡ lists name
 
 -- all of them go, or none
-abbrev pub Cleans : Bool → List Source → Files → List (List ℕ) → Type 0
-Cleans true sources lists names = AreLooseLists sources lists names
-Cleans false sources lists names = names ≡ []
+abbrev pub RemovesLooseNames : Bool → List Source → Files → List (List ℕ) → Type 0
+RemovesLooseNames true sources lists names = AreLooseLists sources lists names
+RemovesLooseNames false sources lists names = names ≡ []
 
 -- ---- what is committed
 
 -- All that a run has to commit: every source is settled, the sets are those of the sources that are told as installed, in
 -- the order in which they were settled, and the names of no source go exactly where they are to.
-pub record AreAll (begun : Begun) (lists : Files) (board : Board) (groups : List Group) : Type 0 where
+pub record AreAllGroups (begun : RunInput) (lists : Files) (board : Board) (groups : List Group) : Type 0 where
   pub finished : is_finished board ≡ true
   pub order : sources_in groups ≡ installed_by (log_of board)
-  pub cleans : Cleans (cleans_up begun.config.settings board.verdicts) begun.config.sources lists (removed_in groups)
+  pub cleans : RemovesLooseNames (cleans_up begun.config.settings board.verdicts) begun.config.sources lists (removed_in groups)
 
 -- the first of the sets of the sources that are told as installed so far, and no clean-up
-pub record AreFirst (board : Board) (groups : List Group) : Type 0 where
+pub record AreGroupsSoFar (board : Board) (groups : List Group) : Type 0 where
   pub rest : List ℕ
   pub order : installed_by (log_of board) ≡ sources_in groups ++ rest
   pub no_clean_up : removed_in groups ≡ []
 
 -- what may have been begun: one set after another and then the clean-up, or, together, nothing before all
-abbrev pub MayHaveBegun : Bool → Begun → Files → Board → List Group → Type 0
-MayHaveBegun false begun lists board groups = AreFirst board groups ⊎ AreAll begun lists board groups
-MayHaveBegun true begun lists board groups = (groups ≡ []) ⊎ AreAll begun lists board groups
+abbrev pub MayBeCommitted : Bool → RunInput → Files → Board → List Group → Type 0
+MayBeCommitted false begun lists board groups = AreGroupsSoFar board groups ⊎ AreAllGroups begun lists board groups
+MayBeCommitted true begun lists board groups = (groups ≡ []) ⊎ AreAllGroups begun lists board groups
 
 -- each is above all before it
 abbrev pub AreRising : List ℕ → Type 0
@@ -82,30 +82,30 @@ AreRising [] = Unit {0}
 AreRising (n ∷ ns) = Each (λ m. n < m) ns × AreRising ns
 
 -- in plan order, where all is committed together
-abbrev pub AreInTurn : Bool → List Group → Type 0
-AreInTurn false groups = Unit {0}
-AreInTurn true groups = AreRising (sources_in groups)
+abbrev pub AreInPlanOrder : Bool → List Group → Type 0
+AreInPlanOrder false groups = Unit {0}
+AreInPlanOrder true groups = AreRising (sources_in groups)
 
 -- ---- runs
 
 -- A run over these lists so far, whatever it answers: what it has heard, the board to which that has led, and the commits
 -- that it has begun, each the whole set of a source that had none before in this run, or, last, the clean-up.
-pub record HasBegun (together : Bool) (begun : Begun) (lists : Files) (commits : List (List Group)) : Type 0 where
+pub record MayBeStopped (together : Bool) (begun : RunInput) (lists : Files) (commits : List (List Group)) : Type 0 where
   pub heard : List Note
   pub board : Board
   pub reached : Reached begun.config begun.olds heard board
   pub groups : AreGroups begun heard (all_groups commits)
-  pub may : MayHaveBegun together begun lists board (all_groups commits)
-  pub in_turn : AreInTurn together (all_groups commits)
-  pub shape : HaveShape together commits
+  pub may : MayBeCommitted together begun lists board (all_groups commits)
+  pub in_turn : AreInPlanOrder together (all_groups commits)
+  pub shape : AreCommitGroups together commits
 
 -- A run over these lists that has ended with this log: its board is finished, and all that it had to commit is committed.
-pub record HasRun (together : Bool) (begun : Begun) (lists : Files) (log : RunLog) (commits : List (List Group)) : Type 0 where
+pub record HasRun (together : Bool) (begun : RunInput) (lists : Files) (log : RunLog) (commits : List (List Group)) : Type 0 where
   pub heard : List Note
   pub board : Board
   pub reached : Reached begun.config begun.olds heard board
   pub groups : AreGroups begun heard (all_groups commits)
-  pub all : AreAll begun lists board (all_groups commits)
-  pub in_turn : AreInTurn together (all_groups commits)
-  pub shape : HaveShape together commits
+  pub all : AreAllGroups begun lists board (all_groups commits)
+  pub in_turn : AreInPlanOrder together (all_groups commits)
+  pub shape : AreCommitGroups together commits
   pub told : log ≡ record (log_of board) { removed = removed_names (removed_in (all_groups commits)) }

@@ -10,13 +10,13 @@ use list_commits::{changes_make_sets, drops_clean_up};
 
 /// What a run begins with, where it has read what is installed under the names of its sources.
 pub fn installed_lists_begin()
-    ensures begin { law.InstalledListsBegin }
+    ensures begin { law.InstalledListsAreRunInput }
     ensures alone { law.OpenedListsAreAlone }
 {}
 
 /// Each source is installed once, and in plan order where nothing is heard between. Under the names of the sources a disk at
 /// rest reads as its lists do, and the names of no source that it has then were there when the run began.
-pub fn installs_follow()
+pub fn installs_are_in_order()
     ensures once { law.InstalledAreOnce }
     ensures follow { law.InstalledFollow }
     ensures none { law.NoneIsInTurn }

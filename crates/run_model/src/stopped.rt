@@ -12,7 +12,7 @@ use update_model::{faults_change_no_file, new_sets_are_admissible};
 
 /// Groups of changes that a run has made stay such, whatever else it hears.
 #[tactic(auto, using(crate::proofs::Stopping::groups_stay))]
-pub fn groups_stay()
+pub fn groups_outlast_notes()
     ensures { law.GroupsStay }
 {}
 

@@ -2,26 +2,26 @@
 use Rattle.std.proofs.Common.{◌≡◌, ◌⊎◌, ◌≤◌, ◌<◌, ◌==◌, ℕ, suc, Bool, zero, if◌then◌else◌, true, false, List, [], ◌∷◌, length, Option, Some, None, refl, sym, arith, inl, inr}
 use Rattle.std.specs.Prelude.{slice_get}
 use Rattle.std.specs.List.{AllByRecursion as Each}
-use Rattle.acq_base.specs.Mirror.{World as Mirror}
+use Rattle.acq_base.specs.Mirror.{MirrorMap}
 use Rattle.acq_base.specs.declared.plan.Source.{Source}
 use Rattle.acq_outside.specs.Count.{Rose}
 use Rattle.acq_outside.specs.Crash.{State}
-use Rattle.acq_outside.specs.Moments.{IsTold, ToldAs}
+use Rattle.acq_outside.specs.States.{IsTold, ToldAs}
 use Rattle.board_model.specs.Agreeing.{Agrees, AfterAnswer, IsAnswered, NoneIsDead}
 use Rattle.board_model.specs.Keys.{same_key}
 use Rattle.board_model.specs.Laws.{BoardsStand}
 use Rattle.board_model.specs.Runs.{Note}
 use Rattle.board_model.specs.Stands.{entries_of, of_key}
 use Rattle.board_model.specs.declared.key.Key.{Key}
-use Rattle.journal_model.specs.Reopen.{lists_now}
-use Rattle.journal_model.specs.Rest.{IsSettled}
+use Rattle.journal_model.specs.Reopen.{installed_now}
+use Rattle.journal_model.specs.Rest.{IsSynced}
 use Rattle.list_commits.specs.Made.{after_all}
 use Rattle.run_jobs.specs.Counting.{CountsOn, CountsUp}
-use Rattle.run_model.specs.Begun.{Begun}
+use Rattle.run_model.specs.Begun.{RunInput}
 use Rattle.run_model.specs.Groups.{commits_of}
 use Rattle.run_model.specs.Laws.{RunsHoldAsTold, RunsKeepOthers, RunsLeadToNext, RunsLeaveMirrored}
-use Rattle.run_model.specs.Coming.{HasHeardOut, LeavesMirrored}
-use Rattle.update_engine.specs.Run.{Engine, ForMirror, HasFinished, IsOfRun, Logged, NoneFell, Run, asks_of_lane}
+use Rattle.run_model.specs.Coming.{HeardMirrorFully, LeavesMirrored}
+use Rattle.update_engine.specs.Run.{Engine, ForMirror, HasFinished, IsConfiguredBy, LogIsTrue, NoneFell, Run, asks_of_lane}
 use Rattle.update_model.specs.Next.{IsNext}
 use Rattle.update_model.specs.Trails.{heard_of}
 use Rattle.update_model.specs.declared.ask.Closed.{Closed}
@@ -32,7 +32,7 @@ use Rattle.update_model.specs.declared.log.Heard.TheVariants.{Absent, Fault, Gar
 use Rattle.update_model.specs.declared.log.RunLog.{RunLog}
 use Rattle.run_jobs.proofs.OneJob.{same_number}
 use Rattle.run_jobs.proofs.Telling.{counts_rise}
-use Rattle.run_promises.specs.Promise.{EndsAsServed, ReadsLists, RunsEndAsServed, RunsEndAsTold, SomeRose}
+use Rattle.run_promises.specs.Promise.{ListsMatchMirror, ReadsLists, RunsEndAsServed, RunsEndAsTold, SomeRose}
 
 -- ---- faults that are told, and counts
 
@@ -139,7 +139,7 @@ none_is_dead : (retries : ℕ) (notes : List Note) → AreQuietNotes notes → N
 none_is_dead retries notes quiet = λ key. answered retries retries (of_key key notes) (quiet_of_key key notes quiet)
 
 -- the log of a board is what was heard
-logs_what_was_heard : BoardsStand → (run : Run) (before after : Engine) (log : RunLog) (logged : Logged run before after log) → log.asks ≡ entries_of logged.heard
+logs_what_was_heard : BoardsStand → (run : Run) (before after : Engine) (log : RunLog) (logged : LogIsTrue run before after log) → log.asks ≡ entries_of logged.heard
 logs_what_was_heard stand run before after log logged =
     let reached = logged.tells.reached in
     let stands = (stand logged.begun.config logged.begun.olds reached.lanes reached.events).log in
@@ -147,39 +147,39 @@ logs_what_was_heard stand run before after log logged =
 
 -- ---- what it leaves
 
-pub for_mirror : {X : Type 0} (told : List (Option Mirror)) (P Q : Mirror → Type 0) → (X → ForMirror told P) → ((mirror : Mirror) → (X → P mirror) → Q mirror) → ForMirror told Q
+pub for_mirror : {X : Type 0} (told : List (Option MirrorMap)) (P Q : MirrorMap → Type 0) → (X → ForMirror told P) → ((mirror : MirrorMap) → (X → P mirror) → Q mirror) → ForMirror told Q
 for_mirror [] P Q agrees f = tt
 for_mirror (None ∷ others) P Q agrees f = tt
 for_mirror (Some mirror ∷ others) P Q agrees f = λ same. f mirror (λ x. agrees x same)
 
 -- with what a finished run began
-reads_lists : (run : Run) (begun : Begun) (heard : List Note) (entry now : List State) (log : RunLog) → IsOfRun run begun → HasFinished run begun heard entry now log → ReadsLists run entry begun
+reads_lists : (run : Run) (begun : RunInput) (heard : List Note) (entry now : List State) (log : RunLog) → IsConfiguredBy run begun → HasFinished run begun heard entry now log → ReadsLists run entry begun
 reads_lists run begun heard entry now log of_run finished = record { opened = finished.opened; opens = finished.opens; of_run = of_run; read = finished.read }
 
-next_lists : RunsLeadToNext → (run : Run) (before after : Engine) (log : RunLog) (logged : Logged run before after log) (mirror : Mirror)
+next_lists : RunsLeadToNext → (run : Run) (before after : Engine) (log : RunLog) (logged : LogIsTrue run before after log) (mirror : MirrorMap)
     → Agrees mirror logged.begun.parts logged.begun.config.sources logged.heard → NoneIsDead logged.begun.config.settings.retries logged.heard
     → (finished : HasFinished run logged.begun logged.heard before.trace after.trace log)
-    → IsNext mirror (lists_now before.trace) logged.begun.parts run.plan run.settings run.change run.moment (after_all (commits_of finished.commits) (lists_now before.trace))
+    → IsNext mirror (installed_now before.trace) logged.begun.parts run.plan run.settings run.change run.moment (after_all (commits_of finished.commits) (installed_now before.trace))
 next_lists next run before after log logged mirror agree lives finished =
-    let heard_out : HasHeardOut mirror logged.begun finished.ran.heard = rw finished.same (record { agrees = agree; lives = lives }) in
+    let heard_out : HeardMirrorFully mirror logged.begun finished.ran.heard = rw finished.same (record { agrees = agree; lives = lives }) in
     rw (sym logged.of_run.settings, sym logged.of_run.change, sym logged.of_run.moment)
-    (next run.together logged.begun (lists_now before.trace) log finished.commits finished.ran mirror run.plan finished.read.begins heard_out (sym logged.of_run.sources))
+    (next run.together logged.begun (installed_now before.trace) log finished.commits finished.ran mirror run.plan finished.read.begins heard_out (sym logged.of_run.sources))
 
-told_lists : RunsLeaveMirrored → (run : Run) (before after : Engine) (log : RunLog) (logged : Logged run before after log) (mirror : Mirror)
+told_lists : RunsLeaveMirrored → (run : Run) (before after : Engine) (log : RunLog) (logged : LogIsTrue run before after log) (mirror : MirrorMap)
     → Agrees mirror logged.begun.parts logged.begun.config.sources logged.heard → NoneIsDead logged.begun.config.settings.retries logged.heard
     → (finished : HasFinished run logged.begun logged.heard before.trace after.trace log) (n : ℕ) (source : Source) → slice_get run.plan.sources n ≡ Some source
-    → LeavesMirrored mirror logged.begun n source log (lists_now before.trace) (after_all (commits_of finished.commits) (lists_now before.trace))
+    → LeavesMirrored mirror logged.begun n source log (installed_now before.trace) (after_all (commits_of finished.commits) (installed_now before.trace))
 told_lists leaves run before after log logged mirror agree lives finished n source is =
-    let heard_out : HasHeardOut mirror logged.begun finished.ran.heard = rw finished.same (record { agrees = agree; lives = lives }) in
-    leaves run.together logged.begun (lists_now before.trace) log finished.commits finished.ran mirror n source finished.read.begins heard_out (rw logged.of_run.sources is)
+    let heard_out : HeardMirrorFully mirror logged.begun finished.ran.heard = rw finished.same (record { agrees = agree; lives = lives }) in
+    leaves run.together logged.begun (installed_now before.trace) log finished.commits finished.ran mirror n source finished.read.begins heard_out (rw logged.of_run.sources is)
 
-serves_lists : RunsLeadToNext → RunsLeaveMirrored → (run : Run) (before after : Engine) (log : RunLog) (logged : Logged run before after log) (mirror : Mirror)
+serves_lists : RunsLeadToNext → RunsLeaveMirrored → (run : Run) (before after : Engine) (log : RunLog) (logged : LogIsTrue run before after log) (mirror : MirrorMap)
     → (IsTold after.trace → Agrees mirror logged.begun.parts logged.begun.config.sources logged.heard) → NoneIsDead logged.begun.config.settings.retries logged.heard
-    → HasFinished run logged.begun logged.heard before.trace after.trace log → EndsAsServed run mirror before.trace after.trace log
+    → HasFinished run logged.begun logged.heard before.trace after.trace log → ListsMatchMirror run mirror before.trace after.trace log
 serves_lists next leaves run before after log logged mirror agrees lives finished = record {
   begun = logged.begun;
   reads = reads_lists run logged.begun logged.heard before.trace after.trace log logged.of_run finished;
-  lists = after_all (commits_of finished.commits) (lists_now before.trace);
+  lists = after_all (commits_of finished.commits) (installed_now before.trace);
   rests = finished.rests;
   next = λ told. next_lists next run before after log logged mirror (agrees told) lives finished;
   told = λ told. told_lists leaves run before after log logged mirror (agrees told) lives finished;
@@ -189,9 +189,9 @@ pub serves : BoardsStand → RunsLeadToNext → RunsLeaveMirrored → RunsEndAsS
 serves stand next leaves run before after log keeps logged =
     for_mirror before.mirrors _ _ logged.answers (λ mirror agrees settled. by mirror agrees settled (all_quiet before.faults after.faults (λ lane. asks_of_lane lane log.asks) keeps.counts logged.faults.counts))
   where
-    by : (mirror : Mirror) → (IsTold after.trace → Agrees mirror logged.begun.parts logged.begun.config.sources logged.heard) → ToldAs IsSettled before.trace
+    by : (mirror : MirrorMap) → (IsTold after.trace → Agrees mirror logged.begun.parts logged.begun.config.sources logged.heard) → ToldAs IsSynced before.trace
         → ((lane : ℕ) → lane < length before.faults → AreQuiet (asks_of_lane lane log.asks)) ⊎ SomeRose before.faults after.faults
-        → SomeRose before.faults after.faults ⊎ EndsAsServed run mirror before.trace after.trace log
+        → SomeRose before.faults after.faults ⊎ ListsMatchMirror run mirror before.trace after.trace log
     by mirror agrees settled (inr risen) = inl risen
     by mirror agrees settled (inl quiet) =
         let asks = quiet_entries (length before.faults) log.asks logged.faults.lanes quiet in
@@ -204,14 +204,14 @@ serves stand next leaves run before after log keeps logged =
 pub ends_as_told : RunsHoldAsTold → RunsKeepOthers → RunsEndAsTold
 ends_as_told holds keeps run before after log logged settled =
     let finished = logged.commits settled in
-    let lists = after_all (commits_of finished.commits) (lists_now before.trace) in
+    let lists = after_all (commits_of finished.commits) (installed_now before.trace) in
     record {
       begun = logged.begun;
       reads = reads_lists run logged.begun logged.heard before.trace after.trace log logged.of_run finished;
       lists = lists;
       rests = finished.rests;
       holds = λ n source verdict held is told has.
-          holds run.together logged.begun (lists_now before.trace) log finished.commits n source verdict held finished.read.begins finished.ran (rw logged.of_run.sources is) told has;
+          holds run.together logged.begun (installed_now before.trace) log finished.commits n source verdict held finished.read.begins finished.ran (rw logged.of_run.sources is) told has;
       keeps = λ n source verdict is told none.
-          keeps run.together logged.begun (lists_now before.trace) log finished.commits n source verdict finished.read.begins finished.ran (rw logged.of_run.sources is) told none;
+          keeps run.together logged.begun (installed_now before.trace) log finished.commits n source verdict finished.read.begins finished.ran (rw logged.of_run.sources is) told none;
     }

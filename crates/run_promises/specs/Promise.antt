@@ -1,79 +1,79 @@
 -- What a run promises, in the words of those who keep lists.
 use Rattle.std.specs.Prelude.{◌≡◌, ◌⊎◌, ℕ, List, ◌∷◌, slice_get, Some, Ok}
 use Rattle.std.specs.List.{AllByRecursion as Each}
-use Rattle.acq_base.specs.Mirror.{World as Mirror}
+use Rattle.acq_base.specs.Mirror.{MirrorMap}
 use Rattle.acq_base.specs.declared.plan.Source.{Source}
 use Rattle.acq_outside.specs.Count.{Rose}
 use Rattle.acq_outside.specs.Crash.{State, IsImage}
 use Rattle.acq_outside.specs.Disk.{Files}
-use Rattle.acq_outside.specs.Moments.{From, IsTold, Since, Stands, ToldAs}
+use Rattle.acq_outside.specs.States.{From, IsTold, Since, IsNow, ToldAs}
 use Rattle.board_model.specs.RunLaws.{HasSet}
-use Rattle.journal_model.specs.Reopen.{LeavesAsOf, lists_now, reopened}
-use Rattle.journal_model.specs.Rest.{IsAtRest, IsSettled}
+use Rattle.journal_model.specs.Reopen.{ReopensAsAt, installed_now, reopened}
+use Rattle.journal_model.specs.Rest.{IsAtRest, IsSynced}
 use Rattle.release_file.specs.Release.{release_of}
-use Rattle.run_model.specs.Begun.{Begun}
-use Rattle.run_model.specs.Coming.{HoldsTold, LeavesMirrored, mirrored}
-use Rattle.update_engine.specs.Run.{Engine, ForMirror, HasOpened, IsOfRun, IsReadFrom, KeepsMethods, Logged, Run, StaysSafe}
-use Rattle.update_model.specs.Next.{Holds, IsNext, Keeps}
-use Rattle.update_model.specs.Outcomes.{Admitted}
+use Rattle.run_model.specs.Begun.{RunInput}
+use Rattle.run_model.specs.Coming.{HasSetAsLogged, LeavesMirrored, mirrored}
+use Rattle.update_engine.specs.Run.{Engine, ForMirror, HasOpenedJournal, IsConfiguredBy, IsReadFromDisk, KeepsMethods, LogIsTrue, Run, SurvivesCrash}
+use Rattle.update_model.specs.Next.{HasWholeSet, IsNext, Keeps}
+use Rattle.update_model.specs.Outcomes.{AdmittedRelease}
 use Rattle.update_model.specs.Releases.{IsAdmissible, installed_release}
 use Rattle.update_model.specs.declared.log.RunLog.{RunLog}
 use Rattle.update_model.specs.declared.settled.Held.{Held}
 use Rattle.update_model.specs.declared.settled.Verdict2.{Verdict2}
 
 -- the disk tells and was settled
-abbrev pub WasSettled : Engine → Type 0
-WasSettled before = ToldAs IsSettled before.trace
+abbrev pub WasSynced : Engine → Type 0
+WasSynced before = ToldAs IsSynced before.trace
 
 -- with what a run begins that reads these lists
-pub record ReadsLists (run : Run) (entry : List State) (begun : Begun) : Type 0 where
+pub record ReadsLists (run : Run) (entry : List State) (begun : RunInput) : Type 0 where
   pub opened : List State
-  pub opens : HasOpened entry opened
-  pub of_run : IsOfRun run begun
-  pub read : IsReadFrom entry opened begun
+  pub opens : HasOpenedJournal entry opened
+  pub of_run : IsConfiguredBy run begun
+  pub read : IsReadFromDisk entry opened begun
 
 -- ---- a stop at any moment
 
 -- the Release of these bytes, which may be installed beside the former one
-pub record MayBeInstalled (run : Run) (former : Files) (source : Source) (set : Admitted) : Type 0 where
+pub record MayBeInstalled (run : Run) (former : Files) (source : Source) (set : AdmittedRelease) : Type 0 where
   pub reads : release_of set.bytes ≡ Ok set.release
   pub admissible : IsAdmissible set.release (installed_release (former source.release_name.0)) run.settings.dates run.change run.moment
 
 -- under a source's names lies a new set, whole
-pub record HasNew (IsNew : Source → Admitted → Type 0) (source : Source) (lists : Files) : Type 0 where
-  pub set : Admitted
+pub record HasNew (IsNew : Source → AdmittedRelease → Type 0) (source : Source) (lists : Files) : Type 0 where
+  pub set : AdmittedRelease
   pub is_new : IsNew source set
-  pub holds : Holds lists source set
+  pub holds : HasWholeSet lists source set
 
 -- It is opened again as lists in which each source has what it had, or a new set, whole.
-pub record HasSets (run : Run) (IsNew : Source → Admitted → Type 0) (former image : Files) : Type 0 where
+pub record HasSets (run : Run) (IsNew : Source → AdmittedRelease → Type 0) (former image : Files) : Type 0 where
   pub lists : Files
   pub is : reopened image ≡ Some lists
   pub sources : Each (λ source. Keeps source former lists ⊎ HasNew IsNew source lists) run.plan.sources
 
 -- so it is, whatever a crash leaves
-abbrev pub LeavesSets : Run → (Source → Admitted → Type 0) → Files → State → Type 0
-LeavesSets run IsNew former s = (image : Files) → IsImage s image → HasSets run IsNew former image
+abbrev pub StopLeavesWholeSets : Run → (Source → AdmittedRelease → Type 0) → Files → State → Type 0
+StopLeavesWholeSets run IsNew former s = (image : Files) → IsImage s image → HasSets run IsNew former image
 
 -- Up to one moment a crash leaves what it left at entry, and at each moment since then it leaves such lists.
-pub record StopsWith (run : Run) (IsNew : Source → Admitted → Type 0) (entry opened now : List State) : Type 0 where
-  pub until : Since entry opened (From LeavesAsOf entry)
-  pub since : Since opened now (LeavesSets run IsNew (lists_now entry))
+pub record StopsWith (run : Run) (IsNew : Source → AdmittedRelease → Type 0) (entry opened now : List State) : Type 0 where
+  pub until : Since entry opened (From ReopensAsAt entry)
+  pub since : Since opened now (StopLeavesWholeSets run IsNew (installed_now entry))
 
 -- with sets that may be installed
-abbrev pub StopsWithSets : Run → Engine → Engine → Type 0
-StopsWithSets run before after =
-    (opened : List State) × StopsWith run (MayBeInstalled run (lists_now before.trace)) before.trace opened after.trace
+abbrev pub StopKeepsSets : Run → Engine → Engine → Type 0
+StopKeepsSets run before after =
+    (opened : List State) × StopsWith run (MayBeInstalled run (installed_now before.trace)) before.trace opened after.trace
 
 abbrev pub RunsStopWithSets : Type 0
-RunsStopWithSets = (run : Run) (before after : Engine) → StaysSafe run before after → WasSettled before → StopsWithSets run before after
+RunsStopWithSets = (run : Run) (before after : Engine) → SurvivesCrash run before after → WasSynced before → StopKeepsSets run before after
 
 -- the set that a mirror's answers define, with the lists on their way that stood there at that moment
-pub record IsServed (run : Run) (mirror : Mirror) (entry opened : List State) (source : Source) (set : Admitted) : Type 0 where
-  pub begun : Begun
+pub record IsServed (run : Run) (mirror : MirrorMap) (entry opened : List State) (source : Source) (set : AdmittedRelease) : Type 0 where
+  pub begun : RunInput
   pub reads : ReadsLists run entry begun
   pub same : reads.opened ≡ opened
-  pub is : mirrored mirror begun (lists_now entry) source ≡ Ok set
+  pub is : mirrored mirror begun (installed_now entry) source ≡ Ok set
 
 -- over one mirror that all methods tell, with its sets
 abbrev pub StopsOverMirror : Run → Engine → Engine → Type 0
@@ -81,25 +81,25 @@ StopsOverMirror run before after = ForMirror before.mirrors (λ mirror.
     (opened : List State) × StopsWith run (IsServed run mirror before.trace opened) before.trace opened after.trace)
 
 abbrev pub RunsStopAsServed : Type 0
-RunsStopAsServed = (run : Run) (before after : Engine) → StaysSafe run before after → WasSettled before → StopsOverMirror run before after
+RunsStopAsServed = (run : Run) (before after : Engine) → SurvivesCrash run before after → WasSynced before → StopsOverMirror run before after
 
 -- ---- what a log tells
 
 -- The disk is at rest, and reads give, as whatever a crash leaves does, these lists: a source that is told to have a set has
 -- just that under its names, and each other one its former files.
-pub record EndsAsTold (run : Run) (entry now : List State) (log : RunLog) : Type 0 where
-  pub begun : Begun
+pub record ListsMatchLog (run : Run) (entry now : List State) (log : RunLog) : Type 0 where
+  pub begun : RunInput
   pub reads : ReadsLists run entry begun
   pub lists : Files
-  pub rests : Stands (IsAtRest lists) now
+  pub rests : IsNow (IsAtRest lists) now
   pub holds : (n : ℕ) (source : Source) (verdict : Verdict2) (held : Held) → slice_get run.plan.sources n ≡ Some source → slice_get log.verdicts n ≡ Some verdict
-      → HasSet verdict held → HoldsTold begun source held (lists_now entry) lists
+      → HasSet verdict held → HasSetAsLogged begun source held (installed_now entry) lists
   pub keeps : (n : ℕ) (source : Source) (verdict : Verdict2) → slice_get run.plan.sources n ≡ Some source → slice_get log.verdicts n ≡ Some verdict
-      → ((held : Held) → HasSet verdict held → ⊥) → Keeps source (lists_now entry) lists
+      → ((held : Held) → HasSet verdict held → ⊥) → Keeps source (installed_now entry) lists
 
 abbrev pub RunsEndAsTold : Type 0
 RunsEndAsTold =
-    (run : Run) (before after : Engine) (log : RunLog) → Logged run before after log → WasSettled before → EndsAsTold run before.trace after.trace log
+    (run : Run) (before after : Engine) (log : RunLog) → LogIsTrue run before after log → WasSynced before → ListsMatchLog run before.trace after.trace log
 
 -- ---- over a mirror
 
@@ -110,19 +110,19 @@ SomeRose befores afters = ⊥
 
 -- The disk is at rest with the lists that are next over those that stood at entry: of each source the set that the mirror's
 -- answers define, or what it had, with the lists on their way that stood there once the journal was open. The log tells that.
-pub record EndsAsServed (run : Run) (mirror : Mirror) (entry now : List State) (log : RunLog) : Type 0 where
-  pub begun : Begun
+pub record ListsMatchMirror (run : Run) (mirror : MirrorMap) (entry now : List State) (log : RunLog) : Type 0 where
+  pub begun : RunInput
   pub reads : ReadsLists run entry begun
   pub lists : Files
-  pub rests : Stands (IsAtRest lists) now
-  pub next : IsTold now → IsNext mirror (lists_now entry) begun.parts run.plan run.settings run.change run.moment lists
-  pub told : IsTold now → (n : ℕ) (source : Source) → slice_get run.plan.sources n ≡ Some source → LeavesMirrored mirror begun n source log (lists_now entry) lists
+  pub rests : IsNow (IsAtRest lists) now
+  pub next : IsTold now → IsNext mirror (installed_now entry) begun.parts run.plan run.settings run.change run.moment lists
+  pub told : IsTold now → (n : ℕ) (source : Source) → slice_get run.plan.sources n ≡ Some source → LeavesMirrored mirror begun n source log (installed_now entry) lists
 
 -- over one mirror that all methods tell, and a disk that tells and was settled: a method failed, or the lists end so
 abbrev pub EndsOverMirror : Run → Engine → Engine → RunLog → Type 0
 EndsOverMirror run before after log = ForMirror before.mirrors (λ mirror.
-    WasSettled before → SomeRose before.faults after.faults ⊎ EndsAsServed run mirror before.trace after.trace log)
+    WasSynced before → SomeRose before.faults after.faults ⊎ ListsMatchMirror run mirror before.trace after.trace log)
 
 -- a run that answers a log does
 abbrev pub RunsEndAsServed : Type 0
-RunsEndAsServed = (run : Run) (before after : Engine) (log : RunLog) → KeepsMethods before after → Logged run before after log → EndsOverMirror run before after log
+RunsEndAsServed = (run : Run) (before after : Engine) (log : RunLog) → KeepsMethods before after → LogIsTrue run before after log → EndsOverMirror run before after log

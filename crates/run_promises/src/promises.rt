@@ -6,7 +6,7 @@ use board_model::boards_walk_routes;
 use run_model::{commits_leave_whole, runs_lead_to_next, runs_leave_outcomes};
 
 /// Over a mirror, a run that answers a log leaves the lists that the mirror's answers define, unless a method failed.
-pub fn runs_end_as_served()
+pub fn lists_match_mirror()
     ensures { law.RunsEndAsServed }
 {
     boards_walk_routes();
@@ -15,7 +15,7 @@ pub fn runs_end_as_served()
 
 /// A source that a log tells to have a set has just that, and each other one its former files.
 #[tactic(auto, using(crate::proofs::Serving::ends_as_told))]
-pub fn runs_end_as_told()
+pub fn lists_match_log()
     ensures { law.RunsEndAsTold }
 {
     runs_leave_outcomes();

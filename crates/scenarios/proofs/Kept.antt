@@ -3,11 +3,11 @@ use Rattle.std.proofs.Common.{◌≡◌, ◌∙◌, ℕ, Result, Ok, Err, OnOk, 
 use Rattle.std.specs.Prelude.{Option, Some, None}
 use Rattle.board_model.specs.Boards.{Board, Asker, asker_of, lane_with, took_from, absorbed, issued, settled_as}
 use Rattle.release_file.specs.declared.changing.Change.{Change}
-use Rattle.update_model.specs.Trails.{Told}
+use Rattle.update_model.specs.Trails.{LaneAnswer}
 use Rattle.update_model.specs.declared.ask.Closed.{Closed as Answer}
 use Rattle.update_model.specs.declared.settled.Verdict2.{Verdict2}
 
-change-took : (b : Board) (number : ℕ) (told : Told) (from : Option ℕ) (a : Option Asker) → (took_from b number told from a).config.change ≡ b.config.change
+change-took : (b : Board) (number : ℕ) (told : LaneAnswer) (from : Option ℕ) (a : Option Asker) → (took_from b number told from a).config.change ≡ b.config.change
 change-took b number told None a = refl
 change-took b number told (Some from) None = refl
 change-took b number told (Some from) (Some a) = refl

@@ -2,7 +2,7 @@
 
 ghost use Rattle.std.specs.Prelude.{◌≡◌, IfOk};
 ghost use Rattle.acq_base.specs.Plan.{IsSound};
-ghost use Rattle.update_core.specs.Standing.{board_of};
+ghost use Rattle.update_core.specs.BoardRefinement.{board_of};
 
 use crate::given::Given;
 use crate::objects::etc_of;
@@ -86,7 +86,7 @@ fn parts(alloc: Global, given: &Given) -> Result<Row<(ListName, u64)>, Refused> 
 }
 
 /// The board with its judge, before anything is asked.
-pub fn begin(
+pub fn begin_update(
     alloc: Global,
     given: &Given,
     configured: Configured,

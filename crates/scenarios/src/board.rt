@@ -3,10 +3,10 @@
 ghost use Rattle.std.specs.Prelude.{◌≡◌, OnOk, Some, true};
 ghost use Rattle.acq_base.specs.Plan.{IsSound};
 ghost use Rattle.board_model.specs.Boards.{first_ready, is_out};
-ghost use Rattle.update_core.specs.Standing.{board_of};
+ghost use Rattle.update_core.specs.BoardRefinement.{board_of};
 
 use crate::answers::{answer, faults_at};
-use crate::beginning::{Judged, LANES, begin, configured};
+use crate::beginning::{Judged, LANES, begin_update, configured};
 use crate::given::Given;
 use crate::refused::Refused;
 use acq_base::{Job, NoMemory, Plan, Row, Text, TryCopy};
@@ -19,7 +19,7 @@ use update_model::{Closed, RunLog, Settled};
 use uri_names::uri_text;
 
 /// In which order answers come.
-#[derive(Clone, Copy, Debug, PartialEq, Eq)]
+#[derive(Clone, Copy, PartialEq, Eq)]
 pub enum Schedule {
     /// At once, and the first lane before the last.
     FirstLane,
@@ -58,7 +58,7 @@ fn start(alloc: Global, given: &Given, configured: Configured, judge: Judge) -> 
     requires change { judge.change ≡ configured.change }
 {
     Ok(Run {
-        judged: begin(alloc, given, configured, judge)?,
+        judged: begin_update(alloc, given, configured, judge)?,
         out: Vec::new(alloc),
         failed: Vec::from_array(alloc, [0, 0]).map_err(|_| Refused::NoMemory)?,
         faults: Vec::new(alloc),

@@ -7,21 +7,21 @@ use crate::refused::Refused;
 use crate::telling::image;
 use acq_base::{NoMemory, Row};
 use acq_memory::MemDisk;
-use acq_outside::{Change, Disk, Fault, is_name};
+use acq_outside::{Disk, DiskCall, Fault, is_name};
 use std::alloc::Global;
 
 /// The most bytes of a choice of which all are tried.
 const MOST: u8 = 12;
 
 /// Does a call, where its conditions hold.
-fn make(disk: &mut MemDisk, call: &Change) -> Result<(), Fault> {
+fn make(disk: &mut MemDisk, call: &DiskCall) -> Result<(), Fault> {
     match call {
-        Change::Write { name, at, bytes } => write(disk, name.as_bytes(), *at, bytes.as_slice()),
-        Change::Cut { name, len } => cut(disk, name.as_bytes(), *len),
-        Change::Sync(name) => sync(disk, name.as_bytes()),
-        Change::Rename { from, to } => rename(disk, from.as_bytes(), to.as_bytes()),
-        Change::Remove(name) => remove(disk, name.as_bytes()),
-        Change::SyncNames => disk.sync_names(),
+        DiskCall::Write { name, at, bytes } => write(disk, name.as_bytes(), *at, bytes.as_slice()),
+        DiskCall::Cut { name, len } => cut(disk, name.as_bytes(), *len),
+        DiskCall::Sync(name) => sync(disk, name.as_bytes()),
+        DiskCall::Rename { from, to } => rename(disk, from.as_bytes(), to.as_bytes()),
+        DiskCall::Remove(name) => remove(disk, name.as_bytes()),
+        DiskCall::SyncNames => disk.sync_names(),
     }
 }
 
@@ -70,7 +70,7 @@ fn remove<D: Disk>(disk: &mut D, name: &[u8]) -> Result<(), Fault> {
 }
 
 /// A lists folder after these calls.
-fn disk_after(alloc: Global, folder: &Folder, calls: &[Change]) -> Result<MemDisk, Refused> {
+fn disk_after(alloc: Global, folder: &Folder, calls: &[DiskCall]) -> Result<MemDisk, Refused> {
     let mut disk = disk_of(alloc, folder, false, Row::new(alloc))?;
     for call in calls {
         make(&mut disk, call).map_err(|_| Refused::Call)?;
@@ -83,7 +83,7 @@ pub fn crash_by(
     alloc: Global,
     text: &mut String,
     folder: &Folder,
-    calls: &[Change],
+    calls: &[DiskCall],
     choice: &Row<u8>,
 ) -> Result<Folder, Refused> {
     let mut disk = disk_after(alloc, folder, calls)?
@@ -110,7 +110,7 @@ pub fn crash_all(
     alloc: Global,
     text: &mut String,
     folder: &Folder,
-    calls: &[Change],
+    calls: &[DiskCall],
     width: u8,
 ) -> Result<(), Refused> {
     if width > MOST {

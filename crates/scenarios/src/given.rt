@@ -10,7 +10,7 @@ use std::collections::BTreeMap;
 pub type Folder = BTreeMap<Text, Bytes>;
 
 /// What a mirror has under a URI.
-#[derive(Debug, Drop)]
+#[derive(Drop)]
 pub enum Has {
     File(Bytes),
     /// A file that is given as a whole alone: an ask for its rest is answered 200.
@@ -27,7 +27,7 @@ pub enum Has {
 }
 
 /// What is run over what is given.
-#[derive(Clone, Copy, Debug, PartialEq, Eq)]
+#[derive(Clone, Copy, PartialEq, Eq)]
 pub enum Kind {
     /// The top call.
     Call,
@@ -38,7 +38,7 @@ pub enum Kind {
 }
 
 /// A file of the configuration folder.
-#[derive(Debug, Drop)]
+#[derive(Drop)]
 pub struct Configured {
     pub place: Place,
     pub name: Text,
@@ -46,7 +46,7 @@ pub struct Configured {
 }
 
 /// Rows that are given to each run until lines of a further run give others.
-#[derive(Debug, Drop)]
+#[derive(Drop)]
 pub struct Kept<T> {
     alloc: Global,
     rows: Row<T>,
@@ -83,7 +83,7 @@ impl<T: Drop> Kept<T> {
 }
 
 /// The numbers of the calls that are to fail, of each object, counted from 1.
-#[derive(Debug, Drop)]
+#[derive(Drop)]
 pub struct Fails {
     /// Those that begin a fetch.
     pub begin: Row<u64>,
@@ -111,7 +111,7 @@ impl Fails {
 }
 
 /// What is told beside the status, the output, the asks and the lists.
-#[derive(Clone, Copy, Debug, PartialEq, Eq)]
+#[derive(Clone, Copy, PartialEq, Eq)]
 pub struct Tell {
     /// Whether there is a log.
     pub log: bool,
@@ -127,7 +127,7 @@ pub struct Tell {
 }
 
 /// How a run is stopped.
-#[derive(Debug, Drop)]
+#[derive(Drop)]
 pub enum Stop {
     Never,
     /// After so many calls of the lists folder, with a choice of what the crash leaves.
@@ -139,7 +139,7 @@ pub enum Stop {
 }
 
 /// What a run is given.
-#[derive(Debug, Drop)]
+#[derive(Drop)]
 pub struct Given {
     pub words: Kept<String>,
     pub etc: Kept<Configured>,

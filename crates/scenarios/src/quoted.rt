@@ -7,7 +7,7 @@ use std::fmt::Write;
 use std::mem;
 
 /// Where a reader of such bytes stands.
-#[derive(Clone, Copy, Debug, PartialEq, Eq)]
+#[derive(Clone, Copy, PartialEq, Eq)]
 enum At {
     Outside,
     Within,
@@ -20,7 +20,7 @@ enum At {
 }
 
 /// What has been read so far.
-#[derive(Debug, Drop)]
+#[derive(Drop)]
 struct Pieces {
     alloc: Global,
     whole: Row<Bytes>,

@@ -6,7 +6,7 @@ use std::fmt;
 use uri_names::UriError;
 
 /// Why a line or a run is refused.
-#[derive(Clone, Copy, Debug, PartialEq, Eq)]
+#[derive(Clone, Copy, PartialEq, Eq)]
 pub enum Refused {
     /// The line has none of the forms.
     Line,

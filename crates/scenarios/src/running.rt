@@ -13,7 +13,7 @@ use update_model::RunLog;
 use update_program::{Ran, update_call};
 
 /// What a call came to.
-#[derive(Debug, Drop)]
+#[derive(Drop)]
 pub struct Came {
     pub status: u8,
     pub output: Bytes,

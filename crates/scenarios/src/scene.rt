@@ -14,20 +14,20 @@ use crate::running::came_to;
 use crate::stops::{crashed, told_everywhere, told_faults};
 use crate::telling::{append_came, append_folder};
 use acq_base::{Row, TryCopy};
-use acq_outside::{Change, Disk};
+use acq_outside::{Disk, DiskCall};
 use std::alloc::Global;
 use std::sync::Wait;
 use std::thread::Threads;
 
 /// What has been read of a scenario.
-#[derive(Debug, Drop)]
+#[derive(Drop)]
 pub struct Scene {
     given: Given,
     begun: bool,
     /// Whether a line or a run was refused; the rest of the scenario is left out then.
     refused: bool,
     /// The calls of the lists folder that are made in place of a run, since it crashed last.
-    calls: Row<Change>,
+    calls: Row<DiskCall>,
     crashes: bool,
 }
 

@@ -7,7 +7,7 @@ use acq_base::{Bytes, Row, Text, TryCopy};
 use std::alloc::{AllocError, Global};
 
 /// How the files of a source compare with both sets.
-#[derive(Clone, Copy, Debug, PartialEq, Eq)]
+#[derive(Clone, Copy, PartialEq, Eq)]
 struct Has {
     former: bool,
     new: bool,
@@ -15,7 +15,7 @@ struct Has {
 
 /// What folders have before a run and after it, by source. The lists of a source have names that begin as its Release's does;
 /// those of none stand together.
-#[derive(Debug, Drop)]
+#[derive(Drop)]
 pub struct Sets<'a> {
     former: &'a Folder,
     new: &'a Folder,

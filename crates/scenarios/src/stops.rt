@@ -42,7 +42,7 @@ fn reopened(alloc: Global, disk: MemDisk) -> Result<MemDisk, Refused> {
 }
 
 /// A run that isn't stopped, and what has been told of those that are.
-#[derive(Debug, Drop)]
+#[derive(Drop)]
 struct Stops<'a> {
     given: &'a Given,
     came: &'a Came,

@@ -2,13 +2,19 @@
 //!
 //! The variables are `ACQUIRE_ETC`, the configuration folder; `ACQUIRE_LISTS`, the lists folder; and `ACQUIRE_LANES`, how
 //! many workers may fetch.
+//!
+//! `read_start` gives the words behind the program's own name, the two folders and the lanes that an environment's
+//! variables say (`words`, `etc`, `lists`, `lanes`; each word is UTF-8, `text`), or why there are none (`refused`);
+//! `begin_program` tells a refusal on the output with its line and status (`told`), and else leaves the output alone
+//! (`untouched`). These clauses speak of an environment that tells its words and variables, and none here does: std
+//! says nothing of a real one, so that `RealEnvironment` reads it right is only tested.
 #![tactic(auto)]
 
 pub use environment::{Environment, Unread};
 pub use real_environment::RealEnvironment;
 pub use refused::Refused;
 pub use start::{Start, read_start};
-pub use telling::{begin, tell};
+pub use telling::{begin_program, write_refusal};
 
 mod environment;
 mod real_environment;

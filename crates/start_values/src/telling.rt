@@ -1,7 +1,7 @@
 //! The beginning of a program: what it goes by, or what it tells where it can't read that.
 ghost use Rattle.std.specs.Prelude.{◌≡◌, ◌≤◌, drop, map, string_bytes, All, IfErr, IfSome, IsUtf8, OnOk};
 ghost use Rattle.start_values.specs.Start.{ForStart, etc_of, known_lanes, lists_of};
-ghost use Rattle.start_values.specs.Telling.{IsTold, Tells};
+ghost use Rattle.start_values.specs.Telling.{IsRefusalWritten, WritesRefusal};
 
 use crate::{Environment, Refused, Start, read_start};
 use acq_outside::Sink;
@@ -9,7 +9,7 @@ use std::alloc::Global;
 
 /// Reads what a program goes by, or tells why it can't and answers the exit status: that of the refusal, or 105 where the
 /// output fails.
-pub fn begin<E: Environment, S: Sink>(
+pub fn begin_program<E: Environment, S: Sink>(
     alloc: Global,
     environment: &E,
     out: &mut S,
@@ -21,18 +21,18 @@ pub fn begin<E: Environment, S: Sink>(
     ensures lanes { ForStart (E.known environment.now) result (λ known start. start.lanes ≡ known_lanes known) }
     ensures untouched { OnOk result (out.new ≡ out.old) }
     ensures count { S.faults out.old ≤ S.faults out.new }
-    ensures told { IfErr result (IsTold (E.known environment.now) (S.faults out.old) (S.faults out.new) (S.written out.old) (S.written out.new)) }
+    ensures told { IfErr result (IsRefusalWritten (E.known environment.now) (S.faults out.old) (S.faults out.new) (S.written out.old) (S.written out.new)) }
 {
     match read_start(alloc, environment) {
         Ok(start) => Ok(start),
-        Err(refused) => Err(tell(refused, out)),
+        Err(refused) => Err(write_refusal(refused, out)),
     }
 }
 
-/// Tells why nothing was carried out, and answers the exit status: that of the refusal, or 105 where the output fails.
-pub fn tell<S: Sink>(refused: Refused, out: &mut S) -> u8
+/// WritesRefusal why nothing was carried out, and answers the exit status: that of the refusal, or 105 where the output fails.
+pub fn write_refusal<S: Sink>(refused: Refused, out: &mut S) -> u8
     ensures count { S.faults out.old ≤ S.faults out.new }
-    ensures told { Tells (S.faults out.old) (S.faults out.new) (S.written out.old) (S.written out.new) refused result }
+    ensures told { WritesRefusal (S.faults out.old) (S.faults out.new) (S.written out.old) (S.written out.new) refused result }
 {
     match out.write(refused.line().as_bytes()) {
         Ok(()) => refused.status(),

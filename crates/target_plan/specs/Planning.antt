@@ -64,9 +64,9 @@ Gives value refusal (Ok given) = (given ≡ value) × (refusal ≡ None)
 Gives value refusal (Err error) = (error ≡ NoMemory) ⊎ (refusal ≡ Some error)
 
 -- the answer is this refusal, or none where there is none
-abbrev pub Tells : {X : Type 0} → Option PlanError → Result X PlanError → Type 0
-Tells refusal (Ok done) = refusal ≡ None
-Tells refusal (Err error) = (error ≡ NoMemory) ⊎ (refusal ≡ Some error)
+abbrev pub AnswersRefusal : {X : Type 0} → Option PlanError → Result X PlanError → Type 0
+AnswersRefusal refusal (Ok done) = refusal ≡ None
+AnswersRefusal refusal (Err error) = (error ≡ NoMemory) ⊎ (refusal ≡ Some error)
 
 -- the answer is this draft, unless a name of its files is too long
 abbrev pub GivesDraft : Draft → Result Draft PlanError → Type 0

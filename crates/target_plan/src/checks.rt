@@ -50,7 +50,7 @@ fn file_in(alloc: Global, planned: &Planned) -> Result<File, NoMemory>
 
 /// Refuses a name that is too long.
 pub fn check_name(alloc: Global, name: &ListName) -> Result<(), PlanError>
-    ensures { spec.Tells (spec.name_refusal name.now) result }
+    ensures { spec.AnswersRefusal (spec.name_refusal name.now) result }
 {
     if name.0.len() > LONGEST_NAME {
         return Err(PlanError::LongName(name.copy(alloc)?));
@@ -61,7 +61,7 @@ pub fn check_name(alloc: Global, name: &ListName) -> Result<(), PlanError>
 /// Refuses the first list whose name is too long.
 #[tactic(auto, unfolding(crate::specs::Planning::long_name))]
 pub fn check_names(alloc: Global, lists: &[Planned]) -> Result<(), PlanError>
-    ensures { spec.Tells (spec.long_name (map file_of lists.now)) result }
+    ensures { spec.AnswersRefusal (spec.long_name (map file_of lists.now)) result }
 {
     for planned in lists {
         check_name(alloc, &planned.target.name)?;
@@ -72,7 +72,7 @@ pub fn check_names(alloc: Global, lists: &[Planned]) -> Result<(), PlanError>
 /// Refuses the first file that has the name of an earlier one.
 #[tactic(auto, unfolding(crate::specs::Planning::clash_behind))]
 pub fn check_clashes(alloc: Global, files: &[File]) -> Result<(), PlanError>
-    ensures { spec.Tells (spec.clash files.now) result }
+    ensures { spec.AnswersRefusal (spec.clash files.now) result }
 {
     let mut places = BTreeMap::new(alloc);
     for at in 0..files.len() {
@@ -97,7 +97,7 @@ fn clash(alloc: Global, files: &[File], first: usize, second: &File) -> Result<P
 /// Refuses more files than a plan may have.
 #[tactic(auto, unfolding(crate::specs::Planning::too_many))]
 pub fn check_count(files: &[File]) -> Result<(), PlanError>
-    ensures { spec.Tells (spec.too_many files.now) result }
+    ensures { spec.AnswersRefusal (spec.too_many files.now) result }
 {
     if files.len() > MOST_FILES {
         return Err(PlanError::TooMany);

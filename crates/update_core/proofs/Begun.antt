@@ -10,7 +10,7 @@ use Rattle.acq_base.specs.declared.plan.Source.{Source}
 use Rattle.acq_base.specs.declared.plan.Target.{Target}
 use Rattle.board_model.specs.Boards.{first_board, first_release, first_slots, no_verdict, put_ask, put_releases}
 use Rattle.board_model.specs.Keys.{keys_from, keys_in, places_from}
-use Rattle.board_model.specs.Slots.{Config, Slot, Asking, ask_of}
+use Rattle.board_model.specs.Slots.{Setup, Slot, Asking, ask_of}
 use Rattle.board_model.specs.declared.key.Key.{Key}
 use Rattle.update_model.specs.declared.log.Asked.{Asked}
 use Rattle.update_model.specs.declared.settled.Verdict2.{Verdict2}
@@ -24,7 +24,7 @@ pub keys-more : (all : List Key) (n : ℕ) (source : Source) (rest : List Source
     → (all ++ keys_in n source) ++ keys_from (suc n) rest ≡ total
 keys-more all n source rest total e = append_assoc all (keys_in n source) (keys_from (suc n) rest) ∙ e
 
-pub slots-more : (config : Config) (begun : List Slot) (source : Source) (rest : List Source) (old : Old) (olds : List Old) (total : List Slot)
+pub slots-more : (config : Setup) (begun : List Slot) (source : Source) (rest : List Source) (old : Old) (olds : List Old) (total : List Slot)
     → begun ++ first_slots config (source ∷ rest) (old ∷ olds) ≡ total
     → (begun ++ Asking old (first_release config source) ∷ []) ++ first_slots config rest olds ≡ total
 slots-more config begun source rest old olds total e = append_assoc begun (Asking old (first_release config source) ∷ []) (first_slots config rest olds) ∙ e
@@ -35,7 +35,7 @@ length-more all n source =
     let lists = length-places n 1 source.targets in
     omega (arith, both, lists)
 
-pub releases-more : (config : Config) (number next : ℕ) (source : Source) (rest : List Source) (lanes : Lanes) → next ≡ number + length source.targets + 1
+pub releases-more : (config : Setup) (number next : ℕ) (source : Source) (rest : List Source) (lanes : Lanes) → next ≡ number + length source.targets + 1
     → put_releases config next rest (put_ask number (ask_of (Some (first_release config source))) lanes) ≡ put_releases config number (source ∷ rest) lanes
 releases-more config number next source rest lanes e =
     ap (λ (n : ℕ). put_releases config n rest (put_ask number (ask_of (Some (first_release config source))) lanes)) e
@@ -92,7 +92,7 @@ places-more n at list next after all new targets total within a l k e =
 
 -- ---- one turn of the loop over the sources
 
-pub record HasBegun (config : Config) (sources : List Source) (olds : List Old) (lanes : Lanes)
+pub record HasBegun (config : Setup) (sources : List Source) (olds : List Old) (lanes : Lanes)
     (i : ℕ) (left : List Old) (keys : List Key) (slots : List Slot) (now : Lanes) : Type 0 where
   pub numbered : keys ++ keys_from i (drop i sources) ≡ keys_from 0 sources
   pub placed : length slots ≡ i
@@ -100,7 +100,7 @@ pub record HasBegun (config : Config) (sources : List Source) (olds : List Old) 
   pub stand : slots ++ first_slots config (drop i sources) (reverse left) ≡ first_slots config sources olds
   pub wait : put_releases config (length keys) (drop i sources) now ≡ put_releases config 0 sources lanes
 
-pub begun-none : (config : Config) (sources : List Source) (olds left : List Old) (lanes now : Lanes) (keys : List Key) (slots : List Slot)
+pub begun-none : (config : Setup) (sources : List Source) (olds left : List Old) (lanes now : Lanes) (keys : List Key) (slots : List Slot)
     → length olds ≡ length sources → left ≡ reverse olds → keys ≡ [] → slots ≡ [] → now ≡ lanes
     → HasBegun config sources olds lanes 0 left keys slots now
 begun-none config sources olds left lanes now keys slots each l k s n = record {
@@ -111,7 +111,7 @@ begun-none config sources olds left lanes now keys slots each l k s n = record {
   wait = ap (λ (x : List Key). put_releases config (length x) sources now) k ∙ ap (λ (x : Lanes). put_releases config 0 sources x) n;
 }
 
-pub begun-more : (config : Config) (sources : List Source) (olds : List Old) (lanes : Lanes) (i j : ℕ) (left rest : List Old) (keys more : List Key)
+pub begun-more : (config : Setup) (sources : List Source) (olds : List Old) (lanes : Lanes) (i j : ℕ) (left rest : List Old) (keys more : List Key)
     (slots new : List Slot) (now next : Lanes) (source : Source) (old : Old)
     → i < length sources → source ≡ get_or sources i source → j ≡ i + 1 → left ≡ rest ++ old ∷ []
     → more ≡ keys ++ keys_in (length slots) source → new ≡ slots ++ Asking old (first_release config source) ∷ []
@@ -140,7 +140,7 @@ begun-more config sources olds lanes i j left rest keys more slots new now next 
           ∙ h.wait;
     })
 
-pub all-begun : (config : Config) (sources : List Source) (olds : List Old) (lanes : Lanes) (i : ℕ) (left : List Old) (keys : List Key) (slots : List Slot) (now : Lanes)
+pub all-begun : (config : Setup) (sources : List Source) (olds : List Old) (lanes : Lanes) (i : ℕ) (left : List Old) (keys : List Key) (slots : List Slot) (now : Lanes)
     → length sources ≡ i → HasBegun config sources olds lanes i left keys slots now
     → (keys ≡ keys_from 0 sources) × (slots ≡ first_slots config sources olds) × (now ≡ put_releases config 0 sources lanes)
 all-begun config sources olds lanes i left keys slots now e h =
@@ -160,13 +160,13 @@ pub map-constant : {A B : Type 0} (xs : List A) (z : B) → replicate (length xs
 map-constant [] z = refl
 map-constant (x ∷ xs) z = ap (λ zs. z ∷ zs) (map-constant xs z)
 
-pub length-first : (config : Config) (sources : List Source) (olds : List Old) → length olds ≡ length sources → length (first_slots config sources olds) ≡ length sources
+pub length-first : (config : Setup) (sources : List Source) (olds : List Old) → length olds ≡ length sources → length (first_slots config sources olds) ≡ length sources
 length-first config [] olds e = refl
 length-first config (source ∷ sources) [] e = absurd (omega (arith, e))
 length-first config (source ∷ sources) (old ∷ olds) e = ap suc (length-first config sources olds (omega (arith, e)))
 
 -- the board with which a run begins, field by field
-pub first-whole : (config : Config) (olds : List Old) (count : ℕ) (slots : List Slot) (lanes : Lanes) (out : List (Option ℕ)) (asks : List Asked) (settled : List ℕ) (verdicts : List Verdict2)
+pub first-whole : (config : Setup) (olds : List Old) (count : ℕ) (slots : List Slot) (lanes : Lanes) (out : List (Option ℕ)) (asks : List Asked) (settled : List ℕ) (verdicts : List Verdict2)
     → slots ≡ first_slots config config.sources olds → lanes ≡ put_releases config 0 config.sources (no_hosts count) → out ≡ replicate count None
     → asks ≡ [] → settled ≡ [] → verdicts ≡ replicate (length config.sources) no_verdict
     → record { config = config; slots = slots; lanes = lanes; out = out; asks = asks; settled = settled; verdicts = verdicts } ≡ first_board config olds count

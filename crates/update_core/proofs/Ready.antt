@@ -16,14 +16,14 @@ use Rattle.acq_base.specs.declared.installed.Old.{Old}
 use Rattle.acq_base.specs.declared.plan.Source.{Source}
 use Rattle.update_model.specs.declared.ask.Ask.{Ask}
 use Rattle.board_model.specs.Boards.{Board, first_ready, first_slots, settled_of}
-use Rattle.board_model.specs.Slots.{Config, Slot, Standing, Asking, Listing, Refused, Closed, ask_of, has_ended, is_ready, item_at, item_in, joined}
+use Rattle.board_model.specs.Slots.{Setup, Slot, Standing, Asking, Listing, Refused, SettledSlot, ask_of, has_ended, is_ready, item_at, item_in, joined}
 use Rattle.board_model.specs.declared.key.Key.{Key}
 use Rattle.std.proofs.lemmas.Option.{slice_get-get_or, slice_get-map, slice_get_within}
-use Rattle.update_core.specs.Parts.{AreReady, ready_at, ready_in, slots_of}
+use Rattle.update_core.specs.Refinement.{AreReady, ready_at, ready_in, slots_of}
 use Rattle.board_model.specs.Settling.{settled_in}
 use Rattle.update_model.specs.declared.settled.Settled.{Settled}
 use Rattle.update_core.proofs.Changed.{set-constant}
-use Rattle.board_slot.specs.Parts.{slot_of}
+use Rattle.board_slot.specs.Refinement.{slot_of}
 use Rattle.board_slot.specs.declared.slot.Slot.{Slot as CodeSlot}
 
 some-same : (m n : ℕ) → Some m ≡ Some n → m ≡ n
@@ -71,7 +71,7 @@ asks-unready (Listing set there lists) (suc place) ask e = some lists place e
       | inr isnt ↦ rw isnt refl
     ]
 asks-unready (Refused why) place ask e = absurd (cc)
-asks-unready Closed place ask e = absurd (cc)
+asks-unready SettledSlot place ask e = absurd (cc)
 
 -- where an item asks, its source is there, and isn't ready
 pub record IsBusy (slots : List Slot) (place : ℕ) : Type 0 where
@@ -128,14 +128,14 @@ same-order n m = elim (cases_Bool (nat_lt n m)) [
 -- ---- the places that are kept
 
 -- a source that wasn't ready is taken out
-pub ready-taken : (slots : List CodeSlot) (places : BTreeSet ℕ) (n : ℕ) (hole : CodeSlot) → n < length slots → ready_at (slots_of slots) n ≡ false → slot_of hole ≡ Closed
+pub ready-taken : (slots : List CodeSlot) (places : BTreeSet ℕ) (n : ℕ) (hole : CodeSlot) → n < length slots → ready_at (slots_of slots) n ≡ false → slot_of hole ≡ SettledSlot
     → AreReady slots places → AreReady (set slots n hole) places
 ready-taken slots places n hole within unready closed are = λ m.
     let within-model : n < length (slots_of slots) = subst (λ k. n < k) (sym (length-map slots slot_of)) within in
     are m
     ∙ sym (ready-kept (slots_of slots) n m false unready)
-    ∙ sym (ready-changed (slots_of slots) n m Closed within-model)
-    ∙ ap (λ (s : List Slot). ready_at s m) (sym (set-constant slot_of slots n hole Closed closed))
+    ∙ sym (ready-changed (slots_of slots) n m SettledSlot within-model)
+    ∙ ap (λ (s : List Slot). ready_at s m) (sym (set-constant slot_of slots n hole SettledSlot closed))
 
 -- it is put back, and its place is marked where it is ready
 pub ready-put : (slots : List CodeSlot) (before places : BTreeSet ℕ) (n : ℕ) (hole new : CodeSlot) (b : Bool) → n < length slots → b ≡ is_ready (slot_of new)
@@ -151,7 +151,7 @@ ready-put slots before places n hole new b within is marked are = λ m.
     ∙ ap (λ (s : List CodeSlot). ready_at (slots_of s) m) (sym (set-set slots n hole new))
 
 -- a source is settled, and its place goes
-pub ready-settled : (slots : List CodeSlot) (before places : BTreeSet ℕ) (n : ℕ) (hole : CodeSlot) → n < length slots → slot_of hole ≡ Closed
+pub ready-settled : (slots : List CodeSlot) (before places : BTreeSet ℕ) (n : ℕ) (hole : CodeSlot) → n < length slots → slot_of hole ≡ SettledSlot
     → ((m : ℕ) → contains nat_cmp places m ≡ cond (is_at (nat_cmp n) m) false (contains nat_cmp before m)) → AreReady slots before
     → AreReady (set slots n hole) places
 ready-settled slots before places n hole within closed gone are = λ m.
@@ -159,8 +159,8 @@ ready-settled slots before places n hole within closed gone are = λ m.
     gone m
     ∙ ap (λ (x : Bool). cond x false (contains nat_cmp before m)) (same-order n m)
     ∙ ap (λ (x : Bool). cond (nat_eq n m) false x) (are m)
-    ∙ sym (ready-changed (slots_of slots) n m Closed within-model)
-    ∙ ap (λ (s : List Slot). ready_at s m) (sym (set-constant slot_of slots n hole Closed closed))
+    ∙ sym (ready-changed (slots_of slots) n m SettledSlot within-model)
+    ∙ ap (λ (s : List Slot). ready_at s m) (sym (set-constant slot_of slots n hole SettledSlot closed))
 
 -- no key, no member
 pub empty-contains : (places : BTreeSet ℕ) → (0 < length places.keys → ⊥) → (m : ℕ) → contains nat_cmp places m ≡ false
@@ -185,13 +185,13 @@ busy-by slots key some = one (ask_of (item_at slots key)) refl some
     one (Some ask) e s = asks-busy slots key ask e
 
 -- at the beginning none is
-pub first-unready : (config : Config) (sources : List Source) (olds : List Old) (m : ℕ) → ready_at (first_slots config sources olds) m ≡ false
+pub first-unready : (config : Setup) (sources : List Source) (olds : List Old) (m : ℕ) → ready_at (first_slots config sources olds) m ≡ false
 first-unready config [] olds m = refl
 first-unready config (source ∷ sources) [] m = refl
 first-unready config (source ∷ sources) (old ∷ olds) zero = refl
 first-unready config (source ∷ sources) (old ∷ olds) (suc m) = first-unready config sources olds m
 
-pub empty-ready : (config : Config) (sources : List Source) (olds : List Old) (slots : List CodeSlot) (places : BTreeSet ℕ)
+pub empty-ready : (config : Setup) (sources : List Source) (olds : List Old) (slots : List CodeSlot) (places : BTreeSet ℕ)
     → slots_of slots ≡ first_slots config sources olds → places.keys ≡ [] → AreReady slots places
 empty-ready config sources olds slots places e none = λ m.
     ap (λ (ks : List ℕ). list_any (is_at (nat_cmp m)) ks) none

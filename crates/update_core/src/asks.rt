@@ -3,8 +3,8 @@
 ghost use Rattle.std.specs.Prelude.{◌≡◌, ◌<◌, ◌^◌, Some, OnOk, option_copied};
 ghost use Rattle.board_model.specs.Boards as model;
 ghost use Rattle.board_model.specs.Slots.{items_in};
-ghost use Rattle.board_slot.specs.Parts.{slot_of};
-ghost use Rattle.host_queues.specs.Standing.{lanes_of};
+ghost use Rattle.board_slot.specs.Refinement.{slot_of};
+ghost use Rattle.host_queues.specs.Refinement.{lanes_of};
 
 use acq_base::NoMemory;
 use board_slot::Slot;

@@ -4,11 +4,11 @@ ghost use Rattle.std.specs.Prelude.{◌≡◌, ◌<◌, ◌≤◌, ◌++◌, ◌
 ghost use Rattle.board_model.specs.Boards as model;
 ghost use Rattle.board_model.specs.Keys as keys;
 ghost use Rattle.board_model.specs.Slots as slots;
-ghost use Rattle.board_slot.specs.Parts.{slot_of};
-ghost use Rattle.board_source.specs.Parts.{config_of};
+ghost use Rattle.board_slot.specs.Refinement.{slot_of};
+ghost use Rattle.board_source.specs.Refinement.{config_of};
 ghost use Rattle.host_queues.specs.Lanes.{no_hosts};
-ghost use Rattle.host_queues.specs.Standing.{lanes_of};
-ghost use Rattle.update_core.specs.Parts.{slots_of};
+ghost use Rattle.host_queues.specs.Refinement.{lanes_of};
+ghost use Rattle.update_core.specs.Refinement.{slots_of};
 
 use crate::asks::put_ask;
 use acq_base::{NoMemory, Old, Row, Source};
@@ -28,7 +28,12 @@ pub struct Beginning {
 }
 
 /// Each source of a plan begins beside what is installed of it.
-pub fn begin(alloc: Global, setup: &Setup, old: Row<Old>, lanes: u32) -> Result<Beginning, NoMemory>
+pub fn begin_board(
+    alloc: Global,
+    setup: &Setup,
+    old: Row<Old>,
+    lanes: u32,
+) -> Result<Beginning, NoMemory>
     requires few { length setup.now.sources ≤ 4096 }
     requires each { length old ≡ length setup.now.sources }
     requires lanes { 1 ≤ lanes }
@@ -47,7 +52,7 @@ pub fn begin(alloc: Global, setup: &Setup, old: Row<Old>, lanes: u32) -> Result<
         let Some(old) = rest.pop() else {
             unreachable!()
         };
-        let slot = Slot::begin(alloc, setup, source, old)?;
+        let slot = Slot::begin_board(alloc, setup, source, old)?;
         begun.add(alloc, source, slot)?;
     }
     Ok(begun)

@@ -5,12 +5,12 @@ ghost use Rattle.acq_base.specs.Plan.{IsSound};
 ghost use Rattle.board_model.specs.Boards as model;
 ghost use Rattle.board_model.specs.Keys.{key_at, keys_from, name_at};
 ghost use Rattle.board_model.specs.Slots as asks;
-ghost use Rattle.board_source.specs.Parts.{config_of};
+ghost use Rattle.board_source.specs.Refinement.{config_of};
 
-use crate::beginning::{Beginning, begin, no_verdicts, none_out};
+use crate::beginning::{Beginning, begin_board, no_verdicts, none_out};
 use crate::jobs::{lane_with, put_out, take_back};
 use crate::sources::Sources;
-use crate::telling::{log, tell};
+use crate::telling::{log, log_verdict};
 use acq_base::{
     Job, ListName, NoMemory, Old, Plan, Row, Settings, Source, TryCopy, sources_are_planned,
 };
@@ -49,7 +49,7 @@ pub struct Board {
 }
 
 impl Board {
-    ghost use Rattle.update_core.specs.Standing.{board_of, config_for};
+    ghost use Rattle.update_core.specs.BoardRefinement.{board_of, config_for};
 
     /// A board of a plan of at most 4,096 sources and targets, on which each Release is asked for.
     ///
@@ -93,7 +93,7 @@ impl Board {
             keys,
             slots,
             queues,
-        } = begin(alloc, &setup, old, lanes)?;
+        } = begin_board(alloc, &setup, old, lanes)?;
         let out = none_out(alloc, lanes)?;
         let verdicts = no_verdicts(alloc, setup.sources.len())?;
         Ok(Board {
@@ -235,7 +235,7 @@ impl Board {
         ensures board { IfOk result (λ settled. board_of self.new ≡ model.settled_as (board_of self.old) source settled.verdict) }
     {
         let settled = self.sources.settle(alloc, &self.setup, source)?;
-        let told = tell(
+        let told = log_verdict(
             alloc,
             &mut self.settled,
             &mut self.verdicts,

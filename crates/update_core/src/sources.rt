@@ -7,11 +7,11 @@ ghost use Rattle.acq_base.specs.declared.plan.Source.{Source as AnySource};
 ghost use Rattle.board_model.specs.Boards as boards;
 ghost use Rattle.board_model.specs.Settling.{settled_in};
 ghost use Rattle.board_model.specs.Slots as model;
-ghost use Rattle.board_slot.specs.Parts.{slot_of};
-ghost use Rattle.board_source.specs.Parts.{config_of};
+ghost use Rattle.board_slot.specs.Refinement.{slot_of};
+ghost use Rattle.board_source.specs.Refinement.{config_of};
 ghost use Rattle.host_queues.specs.Lanes.{changed_at};
-ghost use Rattle.host_queues.specs.Standing.{lanes_of};
-ghost use Rattle.update_core.specs.Parts.{AreReady, ready_at, slots_of};
+ghost use Rattle.host_queues.specs.Refinement.{lanes_of};
+ghost use Rattle.update_core.specs.Refinement.{AreReady, ready_at, slots_of};
 
 use crate::asks::put_heard;
 use acq_base::NoMemory;
@@ -111,7 +111,7 @@ impl Sources {
         ensures settled { (source : AnySource) (slot : model.Slot) → slice_get setup.now.sources place ≡ Some source → slice_get (slots_of self.old.slots.items) place ≡ Some slot
             → IfOk result (λ settled. settled_in source slot ≡ Some settled) }
         ensures count { length self.new.slots.items ≡ length self.old.slots.items }
-        ensures slots { OnOk result (slots_of self.new.slots.items ≡ changed_at place (λ slot. model.Closed) (slots_of self.old.slots.items)) }
+        ensures slots { OnOk result (slots_of self.new.slots.items ≡ changed_at place (λ slot. model.SettledSlot) (slots_of self.old.slots.items)) }
     {
         let at = place as usize;
         let source = &setup.sources.as_slice()[at];

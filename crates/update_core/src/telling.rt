@@ -5,7 +5,7 @@ ghost use Rattle.acq_base.specs.declared.plan.Source.{Source as AnySource};
 ghost use Rattle.board_model.specs.Keys.{path_at};
 ghost use Rattle.board_model.specs.Slots.{ask_of, item_at};
 ghost use Rattle.host_queues.specs.Lanes.{changed_at};
-ghost use Rattle.update_core.specs.Parts.{slots_of};
+ghost use Rattle.update_core.specs.Refinement.{slots_of};
 ghost use Rattle.update_model.specs.Points.{entry as entry_of};
 ghost use Rattle.update_model.specs.declared.ask.Ask.{Ask as AnyAsk};
 
@@ -43,7 +43,7 @@ pub fn log(
 }
 
 /// A source is settled, and has come to this.
-pub fn tell(
+pub fn log_verdict(
     alloc: Global,
     settled: &mut Row<u32>,
     verdicts: &mut Vec<Verdict2>,

@@ -9,28 +9,28 @@ use Rattle.acq_base.specs.declared.plan.Source.{Source}
 use Rattle.acq_base.specs.declared.uri.ListName.{ListName}
 use Rattle.acq_outside.specs.Crash.{State, synced}
 use Rattle.acq_outside.specs.Disk.{Files}
-use Rattle.acq_outside.specs.Moments.{IsTold, Since, Stands}
+use Rattle.acq_outside.specs.States.{IsTold, Since, IsNow}
 use Rattle.board_model.specs.Boards.{Board, first_ready, settled_as, settled_of}
 use Rattle.board_model.specs.NameLaws.{AreNamedApart, RestsOn}
 use Rattle.board_model.specs.Runs.{Note}
-use Rattle.board_model.specs.Slots.{Config}
-use Rattle.board_model.specs.Uses.{Free, PartUse, rests}
-use Rattle.commit_journal.specs.Changes.{AreAllStaged, CanRecord, Filled, IsNone, filled, filled_all, touched_all}
-use Rattle.commit_journal.specs.Commits.{KeepsUnnamed}
-use Rattle.commit_journal.specs.Runs.{Commit, HasBegun as BegunCommit, HasCommitted, Moment}
+use Rattle.board_model.specs.Slots.{Setup}
+use Rattle.board_model.specs.Uses.{Free, WantedPart, wanted_part}
+use Rattle.commit_journal.specs.Changes.{AreAllStaged, CanRecord, Filled, IsNone, filled, filled_all, all_changed_names}
+use Rattle.commit_journal.specs.Commits.{KeepsUnchangedFiles}
+use Rattle.commit_journal.specs.Runs.{Commit, CommitHasBegun, HasCommitted, CommitProgress}
 use Rattle.commit_journal.specs.declared.changing.Change.{Change}
 use Rattle.journal_model.specs.Names.{partial}
-use Rattle.journal_model.specs.Rest.{IsAtRest, IsSettled, part_bytes, part_file}
+use Rattle.journal_model.specs.Rest.{IsAtRest, IsSynced, part_bytes, part_file}
 use Rattle.list_commits.specs.Changes.{changes_for}
-use Rattle.list_commits.specs.Made.{IsStopped, Made, NoneBegun, after_all, makes}
-use Rattle.list_commits.specs.RecordLaws.{AreGathered, Lasts}
+use Rattle.list_commits.specs.Made.{IsCommitStopped, CommitsMade, NoCommitBegun, after_all, makes}
+use Rattle.list_commits.specs.RecordLaws.{AreGathered, IsSyncedPart}
 use Rattle.list_commits.specs.SetLaws.{HasSum, HaveSums}
-use Rattle.run_jobs.specs.Coupling.{HoldsUse, UsesHold}
-use Rattle.run_jobs.specs.Running.{Begun as Start, HasHeard, IsSoundBegun, IsUnderWay}
-use Rattle.run_model.specs.Begun.{Begun}
-use Rattle.run_model.specs.Groups.{Group, OfSource, AreGroups, HaveShape, IsNewSet, all_groups, commit_of, commits_of, removed_in, sources_in}
-use Rattle.run_model.specs.Runs.{HasBegun, is_installed}
-use Rattle.update_model.specs.Outcomes.{Parts}
+use Rattle.run_jobs.specs.Coupling.{HasWantedPart, HasWantedParts}
+use Rattle.run_jobs.specs.Running.{RunStart, RunHasHeard, IsSoundBegun, IsUnderWay}
+use Rattle.run_model.specs.Begun.{RunInput}
+use Rattle.run_model.specs.Groups.{Group, SetOf, AreGroups, AreCommitGroups, IsNewSet, all_groups, commit_of, commits_of, removed_in, sources_in}
+use Rattle.run_model.specs.Runs.{MayBeStopped, is_installed}
+use Rattle.update_model.specs.Outcomes.{PartFiles}
 use Rattle.update_model.specs.declared.ask.Body.{Body}
 use Rattle.update_model.specs.declared.ask.Body.TheVariants.{Bytes, Staged}
 use Rattle.update_model.specs.declared.settled.Held.{Held}
@@ -46,20 +46,20 @@ use Rattle.run_model.proofs.Loose.{among}
 use Rattle.run_model.proofs.Names.{in_plan}
 use Rattle.run_model.proofs.Finishing.{is_held}
 use Rattle.run_jobs.proofs.Keeping.{stays_holds, told_back}
-use Rattle.update_engine.specs.Known.{Committing}
-use Rattle.update_engine.specs.Session.{GoesAside, HasCommittedSets, IsAtMoment, IsOneSet, IsStanding, StopsAside, begun_of, installed_in}
+use Rattle.update_engine.specs.Known.{CommittingLaws}
+use Rattle.update_engine.specs.Session.{KeepsRunGoing, HasCommittedSets, HasProgress, CommitsOneSource, MayCommit, StopsBetweenAsks, begun_of, installed_in}
 use Rattle.update_engine.proofs.Naming.{release_free, which_name}
 use Rattle.update_engine.proofs.OnBoards.{as_open, heard_settled, is_of, owns, told_more, under_settled, uses_settled}
 
 -- a source comes to a new set, of a run that is under way
-pub record IsSettling (start : Start) (notes : List Note) (count : ℕ) (b : Board) (n : ℕ) (settled : Settled) (now : List State) : Type 0 where
+pub record IsSettling (start : RunStart) (notes : List Note) (count : ℕ) (b : Board) (n : ℕ) (settled : Settled) (now : List State) : Type 0 where
   pub sound : IsSoundBegun start
   pub under : IsUnderWay start notes count b now
   pub ready : first_ready b.slots ≡ Some n
   pub comes : settled_of b n ≡ Some settled
 
 -- what is known of its source then
-pub record IsChanging (start : Start) (b : Board) (n : ℕ) (settled : Settled) : Type 0 where
+pub record IsChanging (start : RunStart) (b : Board) (n : ℕ) (settled : Settled) : Type 0 where
   pub source : Source
   pub here_is : slice_get b.config.sources n ≡ Some source
   pub source_is : slice_get start.config.sources n ≡ Some source
@@ -68,10 +68,10 @@ pub record IsChanging (start : Start) (b : Board) (n : ℕ) (settled : Settled) 
   pub former : Verdict2
   pub former_is : slice_get b.verdicts n ≡ Some former
 
-pub changing : Committing → (start : Start) (notes : List Note) (count : ℕ) (b : Board) (n : ℕ) (settled : Settled) (now : List State) → IsSettling start notes count b n settled now → IsChanging start b n settled
+pub changing : CommittingLaws → (start : RunStart) (notes : List Note) (count : ℕ) (b : Board) (n : ℕ) (settled : Settled) (now : List State) → IsSettling start notes count b n settled now → IsChanging start b n settled
 changing laws start notes count b n settled now s =
     let o = is_of b n settled s.comes in
-    let source_is : slice_get start.config.sources n ≡ Some o.source = subst (λ (c : Config). slice_get c.sources n ≡ Some o.source) s.under.heard.config o.source_is in
+    let source_is : slice_get start.config.sources n ≡ Some o.source = subst (λ (c : Setup). slice_get c.sources n ≡ Some o.source) s.under.heard.config o.source_is in
     let planned = at_all IsPlanned start.config.sources n o.source s.sound.planned source_is in
     let open_at = as_open laws.settling start.config start.olds notes b n o.source o.slot s.under.heard.reached s.ready source_is o.slot_is in
     let own = owns laws.settling start.config notes b n o.source o.slot settled open_at o.comes_to planned in
@@ -94,53 +94,53 @@ changing laws start notes count b n settled now s =
 
 -- ---- the commit's conditions
 
-pub can_record : Committing → (start : Start) (b : Board) (n : ℕ) (settled : Settled) (c : IsChanging start b n settled) → CanRecord (changes_for c.source settled ∷ [])
+pub can_record : CommittingLaws → (start : RunStart) (b : Board) (n : ℕ) (settled : Settled) (c : IsChanging start b n settled) → CanRecord (changes_for c.source settled ∷ [])
 can_record laws start b n settled c = laws.can start.config.sources ((c.source, settled) ∷ []) None c.gathered tt
 
-last_put : (wanted : List ℕ → PartUse) (first : Parts) (s : State) (past : List State) (name : ListName) (body : Body) → RestsOn wanted (name, body) → UsesHold wanted first (s ∷ past) → Lasts s name body
+last_put : (wanted : List ℕ → WantedPart) (first : PartFiles) (s : State) (past : List State) (name : ListName) (body : Body) → RestsOn wanted (name, body) → HasWantedParts wanted first (s ∷ past) → IsSyncedPart s name body
 last_put wanted first s past name (Bytes bytes) on uses = tt
 last_put wanted first s past name (Staged sum) on uses =
     let holds = rw on at (uses.each name.0 tt) in
     (holds.bytes, record { is = holds.file })
 
-pub last_puts : (wanted : List ℕ → PartUse) (first : Parts) (s : State) (past : List State) (puts : List (ListName × Body)) → Each (RestsOn wanted) puts → UsesHold wanted first (s ∷ past) → Each (λ (put : ListName × Body). Lasts s put.0 put.1) puts
+pub last_puts : (wanted : List ℕ → WantedPart) (first : PartFiles) (s : State) (past : List State) (puts : List (ListName × Body)) → Each (RestsOn wanted) puts → HasWantedParts wanted first (s ∷ past) → Each (λ (put : ListName × Body). IsSyncedPart s put.0 put.1) puts
 last_puts wanted first s past [] on uses = tt
 last_puts wanted first s past ((name, body) ∷ puts) on uses = (last_put wanted first s past name body on.0 uses, last_puts wanted first s past puts on.1 uses)
 
-pub puts_rest : Committing → (start : Start) (notes : List Note) (count : ℕ) (b : Board) (n : ℕ) (settled : Settled) (now : List State) → IsSettling start notes count b n settled now → Each (RestsOn (rests b)) settled.puts
+pub puts_rest : CommittingLaws → (start : RunStart) (notes : List Note) (count : ℕ) (b : Board) (n : ℕ) (settled : Settled) (now : List State) → IsSettling start notes count b n settled now → Each (RestsOn (wanted_part b)) settled.puts
 puts_rest laws start notes count b n settled now s = laws.puts b n settled (subst AreNamedApart (sym s.under.heard.config) s.sound.apart) s.comes
 
-pub are_staged : Committing → (start : Start) (notes : List Note) (count : ℕ) (b : Board) (n : ℕ) (settled : Settled) (now : List State) (source : Source) → IsSettling start notes count b n settled now
-    → Stands (AreAllStaged (changes_for source settled ∷ [])) now
+pub are_staged : CommittingLaws → (start : RunStart) (notes : List Note) (count : ℕ) (b : Board) (n : ℕ) (settled : Settled) (now : List State) (source : Source) → IsSettling start notes count b n settled now
+    → IsNow (AreAllStaged (changes_for source settled ∷ [])) now
 are_staged laws start notes count b n settled [] source s = tt
 are_staged laws start notes count b n settled (state ∷ past) source s =
-    laws.staged ((source, settled) ∷ []) None state (last_puts (rests b) start.parts state past settled.puts (puts_rest laws start notes count b n settled (state ∷ past) s) s.under.uses, tt)
+    laws.staged ((source, settled) ∷ []) None state (last_puts (wanted_part b) start.parts state past settled.puts (puts_rest laws start notes count b n settled (state ∷ past) s) s.under.uses, tt)
 
 -- ---- the sums of what is put
 
 bytes_synced : (now : List State) (name bytes : List ℕ) → part_file now name ≡ Some (synced bytes) → part_bytes now name ≡ bytes
 bytes_synced now name bytes e = rw e refl
 
-sum_put : (wanted : List ℕ → PartUse) (first : Parts) (now : List State) (name : ListName) (body : Body) → IsTold now → RestsOn wanted (name, body) → UsesHold wanted first now → HasSum (part_bytes now) name body
+sum_put : (wanted : List ℕ → WantedPart) (first : PartFiles) (now : List State) (name : ListName) (body : Body) → IsTold now → RestsOn wanted (name, body) → HasWantedParts wanted first now → HasSum (part_bytes now) name body
 sum_put wanted first now name (Bytes bytes) told on uses = tt
 sum_put wanted first now name (Staged sum) told on uses =
     let holds = rw on at (uses.each name.0 told) in
     ap sum_of (bytes_synced now name.0 holds.bytes holds.file) ∙ holds.sums
 
-sums_puts : (wanted : List ℕ → PartUse) (first : Parts) (now : List State) (puts : List (ListName × Body)) → IsTold now → Each (RestsOn wanted) puts → UsesHold wanted first now → Each (λ (put : ListName × Body). HasSum (part_bytes now) put.0 put.1) puts
+sums_puts : (wanted : List ℕ → WantedPart) (first : PartFiles) (now : List State) (puts : List (ListName × Body)) → IsTold now → Each (RestsOn wanted) puts → HasWantedParts wanted first now → Each (λ (put : ListName × Body). HasSum (part_bytes now) put.0 put.1) puts
 sums_puts wanted first now [] told on uses = tt
 sums_puts wanted first now ((name, body) ∷ puts) told on uses = (sum_put wanted first now name body told on.0 uses, sums_puts wanted first now puts told on.1 uses)
 
-pub have_sums : Committing → (start : Start) (notes : List Note) (count : ℕ) (b : Board) (n : ℕ) (settled : Settled) (now : List State) → IsTold now → IsSettling start notes count b n settled now → HaveSums (part_bytes now) settled
-have_sums laws start notes count b n settled now told s = sums_puts (rests b) start.parts now settled.puts told (puts_rest laws start notes count b n settled now s) s.under.uses
+pub have_sums : CommittingLaws → (start : RunStart) (notes : List Note) (count : ℕ) (b : Board) (n : ℕ) (settled : Settled) (now : List State) → IsTold now → IsSettling start notes count b n settled now → HaveSums (part_bytes now) settled
+have_sums laws start notes count b n settled now told s = sums_puts (wanted_part b) start.parts now settled.puts told (puts_rest laws start notes count b n settled now s) s.under.uses
 
 -- ---- what is wanted of lists on their way is there behind it
 
-holds_free : (wanted : PartUse) (name first : List ℕ) (now : List State) → wanted ≡ Free → HoldsUse wanted name first now
+holds_free : (wanted : WantedPart) (name first : List ℕ) (now : List State) → wanted ≡ Free → HasWantedPart wanted name first now
 holds_free wanted name first now e = rw e tt
 
 -- the lists of other sources stay
-unnamed : Committing → (start : Start) (b : Board) (n : ℕ) (settled : Settled) (c : IsChanging start b n settled) (name : List ℕ) → (Contains (names_of c.source) name → ⊥) → IsNone (partial name) (touched_all (changes_for c.source settled ∷ []))
+unnamed : CommittingLaws → (start : RunStart) (b : Board) (n : ℕ) (settled : Settled) (c : IsChanging start b n settled) (name : List ℕ) → (Contains (names_of c.source) name → ⊥) → IsNone (partial name) (all_changed_names (changes_for c.source settled ∷ []))
 unnamed laws start b n settled c name out =
     let names : names_of c.source ++ [] ≡ names_of c.source = append-nil (names_of c.source) in
     laws.others start.config.sources ((c.source, settled) ∷ []) None (partial name) c.gathered
@@ -149,27 +149,27 @@ unnamed laws start b n settled c name out =
     (none-in (partial name))
 
 -- and nothing is wanted of those of this one
-own_free : Committing → (start : Start) (b : Board) (n : ℕ) (settled : Settled) (c : IsChanging start b n settled) (name : List ℕ) → AreNamedApart b.config → settled_of b n ≡ Some settled → Contains (names_of c.source) name
-    → rests (settled_as b n settled.verdict) name ≡ Free
+own_free : CommittingLaws → (start : RunStart) (b : Board) (n : ℕ) (settled : Settled) (c : IsChanging start b n settled) (name : List ℕ) → AreNamedApart b.config → settled_of b n ≡ Some settled → Contains (names_of c.source) name
+    → wanted_part (settled_as b n settled.verdict) name ≡ Free
 own_free laws start b n settled c name apart comes within = elim (which_name c.source name within) [
-  | inl same ↦ subst (λ (x : List ℕ). rests (settled_as b n settled.verdict) x ≡ Free) same (release_free (settled_as b n settled.verdict) n c.source apart c.here_is)
-  | inr t ↦ subst (λ (x : List ℕ). rests (settled_as b n settled.verdict) x ≡ Free) t.is (laws.free b n t.k c.source t.target settled settled.verdict apart comes c.here_is t.at)
+  | inl same ↦ subst (λ (x : List ℕ). wanted_part (settled_as b n settled.verdict) x ≡ Free) same (release_free (settled_as b n settled.verdict) n c.source apart c.here_is)
+  | inr t ↦ subst (λ (x : List ℕ). wanted_part (settled_as b n settled.verdict) x ≡ Free) t.is (laws.free b n t.k c.source t.target settled settled.verdict apart comes c.here_is t.at)
 ]
 
-pub uses_committed : Committing → (start : Start) (notes : List Note) (count : ℕ) (b : Board) (n : ℕ) (settled : Settled) (old now : List State) → IsSettling start notes count b n settled old → (c : IsChanging start b n settled)
-    → (IsTold now → IsTold old) → KeepsUnnamed (changes_for c.source settled ∷ []) old now → UsesHold (rests (settled_as b n settled.verdict)) start.parts now
+pub uses_committed : CommittingLaws → (start : RunStart) (notes : List Note) (count : ℕ) (b : Board) (n : ℕ) (settled : Settled) (old now : List State) → IsSettling start notes count b n settled old → (c : IsChanging start b n settled)
+    → (IsTold now → IsTold old) → KeepsUnchangedFiles (changes_for c.source settled ∷ []) old now → HasWantedParts (wanted_part (settled_as b n settled.verdict)) start.parts now
 uses_committed laws start notes count b n settled old now s c back keeps = record { each = λ name told. one name told (among name (names_of c.source)) }
   where
     apart : AreNamedApart b.config
     apart = subst AreNamedApart (sym s.under.heard.config) s.sound.apart
 
-    one : (name : List ℕ) → IsTold now → Contains (names_of c.source) name ⊎ (Contains (names_of c.source) name → ⊥) → HoldsUse (rests (settled_as b n settled.verdict) name) name (start.parts name) now
-    one name told (inl within) = holds_free (rests (settled_as b n settled.verdict) name) name (start.parts name) now (own_free laws start b n settled c name apart s.comes within)
-    one name told (inr out) = stays_holds (rests (settled_as b n settled.verdict) name) name (start.parts name) old now (keeps (partial name) (partial_not_journal name) (unnamed laws start b n settled c name out))
+    one : (name : List ℕ) → IsTold now → Contains (names_of c.source) name ⊎ (Contains (names_of c.source) name → ⊥) → HasWantedPart (wanted_part (settled_as b n settled.verdict) name) name (start.parts name) now
+    one name told (inl within) = holds_free (wanted_part (settled_as b n settled.verdict) name) name (start.parts name) now (own_free laws start b n settled c name apart s.comes within)
+    one name told (inr out) = stays_holds (wanted_part (settled_as b n settled.verdict) name) name (start.parts name) old now (keeps (partial name) (partial_not_journal name) (unnamed laws start b n settled c name out))
         ((uses_settled laws.settling b n settled.verdict start.parts old s.under.uses).each name (back told))
 
-pub under_committed : Committing → (start : Start) (notes : List Note) (count : ℕ) (b : Board) (n : ℕ) (settled : Settled) (old now : List State) → IsSettling start notes count b n settled old → (c : IsChanging start b n settled)
-    → (IsTold now → IsTold old) → KeepsUnnamed (changes_for c.source settled ∷ []) old now → IsUnderWay start notes count (settled_as b n settled.verdict) now
+pub under_committed : CommittingLaws → (start : RunStart) (notes : List Note) (count : ℕ) (b : Board) (n : ℕ) (settled : Settled) (old now : List State) → IsSettling start notes count b n settled old → (c : IsChanging start b n settled)
+    → (IsTold now → IsTold old) → KeepsUnchangedFiles (changes_for c.source settled ∷ []) old now → IsUnderWay start notes count (settled_as b n settled.verdict) now
 under_committed laws start notes count b n settled old now s c back keeps =
     let heard = heard_settled laws.settling start notes count b n settled old s.ready s.comes s.under.heard in
     record {
@@ -180,7 +180,7 @@ under_committed laws start notes count b n settled old now s c back keeps =
 
 -- ---- the commits with one more
 
-one_group : (part : List ℕ → List ℕ) (n : ℕ) (changes : List Change) → filled_all part (changes ∷ []) ≡ commit_of (OfSource n (filled part changes) ∷ [])
+one_group : (part : List ℕ → List ℕ) (n : ℕ) (changes : List Change) → filled_all part (changes ∷ []) ≡ commit_of (SetOf n (filled part changes) ∷ [])
 unfolding filled_all
 one_group part n changes = refl
 
@@ -188,30 +188,30 @@ pub commits_last : (commits : List (List Group)) (groups : List Group) → commi
 commits_last [] groups = refl
 commits_last (other ∷ commits) groups = ap (λ (cs : List Commit). commit_of other ∷ cs) (commits_last commits groups)
 
-groups_last : (begun : Begun) (heard : List Note) (commits : List (List Group)) (n : ℕ) (changes : List Filled) → Each IsOneSet commits → AreGroups begun heard (all_groups commits) → IsNewSet begun heard n changes
-    → AreGroups begun heard (all_groups (commits ++ (OfSource n changes ∷ []) ∷ []))
+groups_last : (begun : RunInput) (heard : List Note) (commits : List (List Group)) (n : ℕ) (changes : List Filled) → Each CommitsOneSource commits → AreGroups begun heard (all_groups commits) → IsNewSet begun heard n changes
+    → AreGroups begun heard (all_groups (commits ++ (SetOf n changes ∷ []) ∷ []))
 groups_last begun heard [] n changes each are new_set = (new_set, tt)
 groups_last begun heard (groups ∷ commits) n changes each are new_set =
     let first = each.0 in
-    let rest : AreGroups begun heard (OfSource first.n first.changes ∷ all_groups commits) = subst (λ (gs : List Group). AreGroups begun heard (gs ++ all_groups commits)) first.is are in
-    subst (λ (gs : List Group). AreGroups begun heard (gs ++ all_groups (commits ++ (OfSource n changes ∷ []) ∷ []))) (sym first.is) (rest.0, groups_last begun heard commits n changes each.1 rest.1 new_set)
+    let rest : AreGroups begun heard (SetOf first.n first.changes ∷ all_groups commits) = subst (λ (gs : List Group). AreGroups begun heard (gs ++ all_groups commits)) first.is are in
+    subst (λ (gs : List Group). AreGroups begun heard (gs ++ all_groups (commits ++ (SetOf n changes ∷ []) ∷ []))) (sym first.is) (rest.0, groups_last begun heard commits n changes each.1 rest.1 new_set)
 
-sources_last : (commits : List (List Group)) (n : ℕ) (changes : List Filled) → Each IsOneSet commits → sources_in (all_groups (commits ++ (OfSource n changes ∷ []) ∷ [])) ≡ sources_in (all_groups commits) ++ n ∷ []
+sources_last : (commits : List (List Group)) (n : ℕ) (changes : List Filled) → Each CommitsOneSource commits → sources_in (all_groups (commits ++ (SetOf n changes ∷ []) ∷ [])) ≡ sources_in (all_groups commits) ++ n ∷ []
 sources_last [] n changes each = refl
 sources_last (groups ∷ commits) n changes each =
     let first = each.0 in
-    subst (λ (gs : List Group). sources_in (gs ++ all_groups (commits ++ (OfSource n changes ∷ []) ∷ [])) ≡ sources_in (gs ++ all_groups commits) ++ n ∷ []) (sym first.is)
+    subst (λ (gs : List Group). sources_in (gs ++ all_groups (commits ++ (SetOf n changes ∷ []) ∷ [])) ≡ sources_in (gs ++ all_groups commits) ++ n ∷ []) (sym first.is)
     (ap (λ (ns : List ℕ). first.n ∷ ns) (sources_last commits n changes each.1))
 
-each_last : (commits : List (List Group)) (n : ℕ) (changes : List Filled) → Each IsOneSet commits → Each IsOneSet (commits ++ (OfSource n changes ∷ []) ∷ [])
+each_last : (commits : List (List Group)) (n : ℕ) (changes : List Filled) → Each CommitsOneSource commits → Each CommitsOneSource (commits ++ (SetOf n changes ∷ []) ∷ [])
 each_last [] n changes each = (record { n = n; changes = changes; is = refl }, tt)
 each_last (groups ∷ commits) n changes each = (each.0, each_last commits n changes each.1)
 
-pub have_shape : (commits : List (List Group)) → Each IsOneSet commits → HaveShape false commits
+pub have_shape : (commits : List (List Group)) → Each CommitsOneSource commits → AreCommitGroups false commits
 have_shape [] each = tt
 have_shape (groups ∷ commits) each = (ap length each.0.is, have_shape commits each.1)
 
-pub new_set : Committing → (start : Start) (notes : List Note) (count : ℕ) (b : Board) (n : ℕ) (settled : Settled) (old : List State) (held : Held) → IsTold old → IsSettling start notes count b n settled old → (c : IsChanging start b n settled)
+pub new_set : CommittingLaws → (start : RunStart) (notes : List Note) (count : ℕ) (b : Board) (n : ℕ) (settled : Settled) (old : List State) (held : Held) → IsTold old → IsSettling start notes count b n settled old → (c : IsChanging start b n settled)
     → settled.verdict ≡ Installed held → IsNewSet (begun_of start) notes n (filled (part_bytes old) (changes_for c.source settled))
 new_set laws start notes count b n settled old held told s c installs = record {
   source = c.source;
@@ -226,28 +226,28 @@ new_set laws start notes count b n settled old held told s c installs = record {
 }
 
 -- what is told as installed then
-pub told_installed : Committing → (start : Start) (notes : List Note) (count : ℕ) (b : Board) (n : ℕ) (settled : Settled) (old : List State) → IsSettling start notes count b n settled old → (c : IsChanging start b n settled)
+pub told_installed : CommittingLaws → (start : RunStart) (notes : List Note) (count : ℕ) (b : Board) (n : ℕ) (settled : Settled) (old : List State) → IsSettling start notes count b n settled old → (c : IsChanging start b n settled)
     → installed_in (settled_as b n settled.verdict) ≡ installed_in b ++ (if is_installed settled.verdict then n ∷ [] else [])
 told_installed laws start notes count b n settled old s c =
     let reached = laws.settling.reached start.config start.olds notes b n settled s.under.heard.reached s.ready s.comes in
     told_more b n settled.verdict c.former c.former_is (laws.settling.once start.config start.olds notes (settled_as b n settled.verdict) reached).once
 
-told_new : Committing → (start : Start) (notes : List Note) (count : ℕ) (b : Board) (n : ℕ) (settled : Settled) (old : List State) (held : Held) → IsSettling start notes count b n settled old → (c : IsChanging start b n settled)
+told_new : CommittingLaws → (start : RunStart) (notes : List Note) (count : ℕ) (b : Board) (n : ℕ) (settled : Settled) (old : List State) (held : Held) → IsSettling start notes count b n settled old → (c : IsChanging start b n settled)
     → settled.verdict ≡ Installed held → installed_in (settled_as b n settled.verdict) ≡ installed_in b ++ n ∷ []
 told_new laws start notes count b n settled old held s c installs =
     told_installed laws start notes count b n settled old s c ∙ ap (λ (v : Verdict2). installed_in b ++ (if is_installed v then n ∷ [] else [])) installs
 
 -- the sets so far, and one more
-pub sets_committed : Committing → (start : Start) (notes : List Note) (count : ℕ) (opened : List State) (b : Board) (n : ℕ) (settled : Settled) (old now : List State) (held : Held) → IsSettling start notes count b n settled old → (c : IsChanging start b n settled)
+pub sets_committed : CommittingLaws → (start : RunStart) (notes : List Note) (count : ℕ) (opened : List State) (b : Board) (n : ℕ) (settled : Settled) (old now : List State) (held : Held) → IsSettling start notes count b n settled old → (c : IsChanging start b n settled)
     → settled.verdict ≡ Installed held → IsTold now → HasCommitted (filled_all (part_bytes old) (changes_for c.source settled ∷ [])) old now
     → HasCommittedSets (begun_of start) notes opened old b → HasCommittedSets (begun_of start) notes opened now (settled_as b n settled.verdict)
 sets_committed laws start notes count opened b n settled old now held s c installs told done sets =
     let changes = filled (part_bytes old) (changes_for c.source settled) in
     record {
       told = told;
-      commits = sets.commits ++ (OfSource n changes ∷ []) ∷ [];
-      made = subst (λ (cs : List Commit). Made cs opened now) (sym (commits_last sets.commits (OfSource n changes ∷ [])))
-          (makes sets.made (commit_of (OfSource n changes ∷ [])) (subst (λ (x : Commit). HasCommitted x old now) (one_group (part_bytes old) n (changes_for c.source settled)) done));
+      commits = sets.commits ++ (SetOf n changes ∷ []) ∷ [];
+      made = subst (λ (cs : List Commit). CommitsMade cs opened now) (sym (commits_last sets.commits (SetOf n changes ∷ [])))
+          (makes sets.made (commit_of (SetOf n changes ∷ [])) (subst (λ (x : Commit). HasCommitted x old now) (one_group (part_bytes old) n (changes_for c.source settled)) done));
       each = each_last sets.commits n changes sets.each;
       groups = groups_last (begun_of start) notes sets.commits n changes sets.each sets.groups (new_set laws start notes count b n settled old held sets.told s c installs);
       order = sources_last sets.commits n changes sets.each ∙ ap (λ (ns : List ℕ). ns ++ n ∷ []) sets.order ∙ sym (told_new laws start notes count b n settled old held s c installs);
@@ -256,15 +256,15 @@ sets_committed laws start notes count opened b n settled old now held s c instal
 -- ---- a stop
 
 -- the disk was settled behind the commits that were made
-pub settled_made : Committing → (commits : List Commit) (lists : Files) (opened now : List State) → Made commits opened now → Stands (IsAtRest lists) opened → Stands IsSettled now
+pub settled_made : CommittingLaws → (commits : List Commit) (lists : Files) (opened now : List State) → CommitsMade commits opened now → IsNow (IsAtRest lists) opened → IsNow IsSynced now
 settled_made laws commits lists opened now made rest = settled_at (after_all commits lists) now (laws.leaves commits lists opened now made rest)
 
-pub none_removed : (commits : List (List Group)) → Each IsOneSet commits → removed_in (all_groups commits) ≡ []
+pub none_removed : (commits : List (List Group)) → Each CommitsOneSource commits → removed_in (all_groups commits) ≡ []
 none_removed [] each = refl
 none_removed (groups ∷ commits) each = subst (λ (gs : List Group). removed_in (gs ++ all_groups commits) ≡ []) (sym each.0.is) (none_removed commits each.1)
 
-unfoldable pub has_begun : (start : Start) (notes : List Note) (count : ℕ) (b : Board) (now : List State) (lists : Files) (commits : List (List Group)) → HasHeard start notes count b now → Each IsOneSet commits
-    → AreGroups (begun_of start) notes (all_groups commits) → sources_in (all_groups commits) ≡ installed_in b → HasBegun false (begun_of start) lists commits
+unfoldable pub has_begun : (start : RunStart) (notes : List Note) (count : ℕ) (b : Board) (now : List State) (lists : Files) (commits : List (List Group)) → RunHasHeard start notes count b now → Each CommitsOneSource commits
+    → AreGroups (begun_of start) notes (all_groups commits) → sources_in (all_groups commits) ≡ installed_in b → MayBeStopped false (begun_of start) lists commits
 has_begun start notes count b now lists commits heard each groups order = record {
   heard = notes;
   board = b;
@@ -276,8 +276,8 @@ has_begun start notes count b now lists commits heard each groups order = record
 }
 
 -- where no commit was begun
-pub stops_unbegun : Committing → (start : Start) (notes : List Note) (count : ℕ) (lists : Files) (opened : List State) (b : Board) (old now : List State) → HasHeard start notes count b old → NoneBegun old now → (Stands IsSettled old → Stands IsSettled now)
-    → HasCommittedSets (begun_of start) notes opened old b → IsAtMoment start false lists opened now
+pub stops_unbegun : CommittingLaws → (start : RunStart) (notes : List Note) (count : ℕ) (lists : Files) (opened : List State) (b : Board) (old now : List State) → RunHasHeard start notes count b old → NoCommitBegun old now → (IsNow IsSynced old → IsNow IsSynced now)
+    → HasCommittedSets (begun_of start) notes opened old b → HasProgress start false lists opened now
 unfolding has_begun
 stops_unbegun laws start notes count lists opened b old now heard unbegun settled sets = record {
   commits = sets.commits;
@@ -290,20 +290,20 @@ stops_unbegun laws start notes count lists opened b old now heard unbegun settle
 }
 
 -- where the next was
-pub stops_begun : Committing → (start : Start) (notes : List Note) (count : ℕ) (lists : Files) (opened : List State) (b : Board) (n : ℕ) (settled : Settled) (old now : List State) (held : Held) → IsSettling start notes count b n settled old
-    → (c : IsChanging start b n settled) → settled.verdict ≡ Installed held → BegunCommit (filled_all (part_bytes old) (changes_for c.source settled ∷ [])) old now → (Stands IsSettled old → Stands IsSettled now)
-    → HasCommittedSets (begun_of start) notes opened old b → IsAtMoment start false lists opened now
+pub stops_begun : CommittingLaws → (start : RunStart) (notes : List Note) (count : ℕ) (lists : Files) (opened : List State) (b : Board) (n : ℕ) (settled : Settled) (old now : List State) (held : Held) → IsSettling start notes count b n settled old
+    → (c : IsChanging start b n settled) → settled.verdict ≡ Installed held → CommitHasBegun (filled_all (part_bytes old) (changes_for c.source settled ∷ [])) old now → (IsNow IsSynced old → IsNow IsSynced now)
+    → HasCommittedSets (begun_of start) notes opened old b → HasProgress start false lists opened now
 unfolding has_begun
 stops_begun laws start notes count lists opened b n settled old now held s c installs begun is_settled sets =
     let changes = filled (part_bytes old) (changes_for c.source settled) in
-    let group = OfSource n changes ∷ [] in
+    let group = SetOf n changes ∷ [] in
     let heard = heard_settled laws.settling start notes count b n settled old s.ready s.comes s.under.heard in
     record {
       commits = sets.commits ++ group ∷ [];
       acknowledged = length (commits_of sets.commits);
       started = suc (length (commits_of sets.commits));
-      moment = subst (λ (cs : List Commit). Moment cs (length (commits_of sets.commits)) (suc (length (commits_of sets.commits))) opened now) (sym (commits_last sets.commits group))
-          (laws.begun (commits_of sets.commits) (commit_of group) opened old now sets.made (subst (λ (x : Commit). BegunCommit x old now) (one_group (part_bytes old) n (changes_for c.source settled)) begun));
+      moment = subst (λ (cs : List Commit). CommitProgress cs (length (commits_of sets.commits)) (suc (length (commits_of sets.commits))) opened now) (sym (commits_last sets.commits group))
+          (laws.begun (commits_of sets.commits) (commit_of group) opened old now sets.made (subst (λ (x : Commit). CommitHasBegun x old now) (one_group (part_bytes old) n (changes_for c.source settled)) begun));
       has = has_begun start notes count (settled_as b n settled.verdict) old lists (sets.commits ++ group ∷ []) heard (each_last sets.commits n changes sets.each)
           (groups_last (begun_of start) notes sets.commits n changes sets.each sets.groups (new_set laws start notes count b n settled old held sets.told s c installs))
           (sources_last sets.commits n changes sets.each ∙ ap (λ (ns : List ℕ). ns ++ n ∷ []) sets.order ∙ sym (told_new laws start notes count b n settled old held s c installs));
@@ -311,9 +311,9 @@ stops_begun laws start notes count lists opened b n settled old now held s c ins
       settled = λ rest. is_settled (settled_made laws (commits_of sets.commits) lists opened old sets.made rest);
     }
 
-pub stops_committing : Committing → (start : Start) (notes : List Note) (count : ℕ) (lists : Files) (opened : List State) (b : Board) (n : ℕ) (settled : Settled) (old now : List State) (held : Held) → IsSettling start notes count b n settled old
-    → (c : IsChanging start b n settled) → settled.verdict ≡ Installed held → IsStopped (filled_all (part_bytes old) (changes_for c.source settled ∷ [])) old now → (Stands IsSettled old → Stands IsSettled now)
-    → HasCommittedSets (begun_of start) notes opened old b → IsAtMoment start false lists opened now
+pub stops_committing : CommittingLaws → (start : RunStart) (notes : List Note) (count : ℕ) (lists : Files) (opened : List State) (b : Board) (n : ℕ) (settled : Settled) (old now : List State) (held : Held) → IsSettling start notes count b n settled old
+    → (c : IsChanging start b n settled) → settled.verdict ≡ Installed held → IsCommitStopped (filled_all (part_bytes old) (changes_for c.source settled ∷ [])) old now → (IsNow IsSynced old → IsNow IsSynced now)
+    → HasCommittedSets (begun_of start) notes opened old b → HasProgress start false lists opened now
 stops_committing laws start notes count lists opened b n settled old now held s c installs (inl unbegun) is_settled sets = stops_unbegun laws start notes count lists opened b old now s.under.heard unbegun is_settled sets
 stops_committing laws start notes count lists opened b n settled old now held s c installs (inr begun) is_settled sets = stops_begun laws start notes count lists opened b n settled old now held s c installs begun is_settled sets
 
@@ -328,9 +328,9 @@ told_on P (s ∷ past) now since told = by since.states since.joined
     by (t ∷ states) joined = rw joined tt
 
 -- no new set was there
-pub goes_settled : Committing → (b c : Board) (n : ℕ) (settled : Settled) (now : List State) → first_ready b.slots ≡ Some n → settled_of b n ≡ Some settled → c ≡ settled_as b n settled.verdict → is_installed settled.verdict ≡ false
-    → GoesAside b c now now
-goes_settled laws b c n settled now ready comes same none_new = subst (λ (x : Board). GoesAside b x now now) (sym same) (record {
+pub goes_settled : CommittingLaws → (b c : Board) (n : ℕ) (settled : Settled) (now : List State) → first_ready b.slots ≡ Some n → settled_of b n ≡ Some settled → c ≡ settled_as b n settled.verdict → is_installed settled.verdict ≡ false
+    → KeepsRunGoing b c now now
+goes_settled laws b c n settled now ready comes same none_new = subst (λ (x : Board). KeepsRunGoing b x now now) (sym same) (record {
   under_way = λ start notes count sound under. under_settled laws.settling start notes count b n settled now ready comes under;
   sets = λ start notes count opened sound under sets. record {
     told = sets.told;
@@ -342,7 +342,7 @@ goes_settled laws b c n settled now ready comes same none_new = subst (λ (x : B
   };
 })
   where
-    told_none : (start : Start) (notes : List Note) (count : ℕ) → IsSoundBegun start → IsUnderWay start notes count b now → installed_in (settled_as b n settled.verdict) ≡ installed_in b
+    told_none : (start : RunStart) (notes : List Note) (count : ℕ) → IsSoundBegun start → IsUnderWay start notes count b now → installed_in (settled_as b n settled.verdict) ≡ installed_in b
     told_none start notes count sound under =
         let s : IsSettling start notes count b n settled now = record { sound = sound; under = under; ready = ready; comes = comes } in
         let c = changing laws start notes count b n settled now s in
@@ -352,19 +352,19 @@ goes_settled laws b c n settled now ready comes same none_new = subst (λ (x : B
 abbrev pub AreGroupsOf : Board → ℕ → Settled → List (List Change) → Type 0
 AreGroupsOf b n settled groups = (source : Source) → slice_get b.config.sources n ≡ Some source → groups ≡ changes_for source settled ∷ []
 
-pub commit_can : Committing → (b : Board) (n : ℕ) (settled : Settled) (groups : List (List Change)) (now : List State) → IsStanding b now → first_ready b.slots ≡ Some n → settled_of b n ≡ Some settled → AreGroupsOf b n settled groups
+pub commit_can : CommittingLaws → (b : Board) (n : ℕ) (settled : Settled) (groups : List (List Change)) (now : List State) → MayCommit b now → first_ready b.slots ≡ Some n → settled_of b n ≡ Some settled → AreGroupsOf b n settled groups
     → CanRecord groups
 commit_can laws b n settled groups now stands ready comes are =
     let s : IsSettling stands.start stands.notes stands.count b n settled now = record { sound = stands.sound; under = stands.under_way; ready = ready; comes = comes } in
     let c = changing laws stands.start stands.notes stands.count b n settled now s in
     subst CanRecord (sym (are c.source c.here_is)) (can_record laws stands.start b n settled c)
 
-pub commit_staged : Committing → (b : Board) (n : ℕ) (settled : Settled) (groups : List (List Change)) (now : List State) → IsStanding b now → first_ready b.slots ≡ Some n → settled_of b n ≡ Some settled → AreGroupsOf b n settled groups
-    → Stands (AreAllStaged groups) now
+pub commit_staged : CommittingLaws → (b : Board) (n : ℕ) (settled : Settled) (groups : List (List Change)) (now : List State) → MayCommit b now → first_ready b.slots ≡ Some n → settled_of b n ≡ Some settled → AreGroupsOf b n settled groups
+    → IsNow (AreAllStaged groups) now
 commit_staged laws b n settled groups now stands ready comes are =
     let s : IsSettling stands.start stands.notes stands.count b n settled now = record { sound = stands.sound; under = stands.under_way; ready = ready; comes = comes } in
     let c = changing laws stands.start stands.notes stands.count b n settled now s in
-    subst (λ (gs : List (List Change)). Stands (AreAllStaged gs) now) (sym (are c.source c.here_is)) (are_staged laws stands.start stands.notes stands.count b n settled now c.source s)
+    subst (λ (gs : List (List Change)). IsNow (AreAllStaged gs) now) (sym (are c.source c.here_is)) (are_staged laws stands.start stands.notes stands.count b n settled now c.source s)
 
 back_committed : (commit : Commit) (old now : List State) → HasCommitted commit old now → IsTold now → IsTold old
 back_committed commit old now done told = told_back _ old done.begun.prepared done.begun.before (told_back _ done.begun.prepared now done.begun.during told)
@@ -373,14 +373,14 @@ on_committed : (commit : Commit) (old now : List State) → HasCommitted commit 
 on_committed commit old now done told = told_on _ done.begun.prepared now done.begun.during (told_on _ old done.begun.prepared done.begun.before told)
 
 -- the new set is committed
-pub goes_committed : Committing → (b c : Board) (n : ℕ) (settled : Settled) (groups : List (List Change)) (old now : List State) → first_ready b.slots ≡ Some n → settled_of b n ≡ Some settled → c ≡ settled_as b n settled.verdict
-    → is_installed settled.verdict ≡ true → AreGroupsOf b n settled groups → KeepsUnnamed groups old now → HasCommitted (filled_all (part_bytes old) groups) old now → GoesAside b c old now
-goes_committed laws b c n settled groups old now ready comes same new_one are keeps done = subst (λ (x : Board). GoesAside b x old now) (sym same) (record {
+pub goes_committed : CommittingLaws → (b c : Board) (n : ℕ) (settled : Settled) (groups : List (List Change)) (old now : List State) → first_ready b.slots ≡ Some n → settled_of b n ≡ Some settled → c ≡ settled_as b n settled.verdict
+    → is_installed settled.verdict ≡ true → AreGroupsOf b n settled groups → KeepsUnchangedFiles groups old now → HasCommitted (filled_all (part_bytes old) groups) old now → KeepsRunGoing b c old now
+goes_committed laws b c n settled groups old now ready comes same new_one are keeps done = subst (λ (x : Board). KeepsRunGoing b x old now) (sym same) (record {
   under_way = λ start notes count sound under.
       let s : IsSettling start notes count b n settled old = record { sound = sound; under = under; ready = ready; comes = comes } in
       let d = changing laws start notes count b n settled old s in
       under_committed laws start notes count b n settled old now s d (back_committed (filled_all (part_bytes old) groups) old now done)
-      (subst (λ (gs : List (List Change)). KeepsUnnamed gs old now) (are d.source d.here_is) keeps);
+      (subst (λ (gs : List (List Change)). KeepsUnchangedFiles gs old now) (are d.source d.here_is) keeps);
   sets = λ start notes count opened sound under sets.
       let s : IsSettling start notes count b n settled old = record { sound = sound; under = under; ready = ready; comes = comes } in
       let d = changing laws start notes count b n settled old s in
@@ -392,19 +392,19 @@ goes_committed laws b c n settled groups old now ready comes same new_one are ke
 -- ---- where it stops
 
 -- nothing was done to the disk
-pub stops_here : Committing → (b : Board) (now : List State) → StopsAside b now now
+pub stops_here : CommittingLaws → (b : Board) (now : List State) → StopsBetweenAsks b now now
 stops_here laws b now = λ start notes count lists opened sound under sets.
     stops_unbegun laws start notes count lists opened b now now under.heard (record { lists = no_time now now _ refl; rest = no_time now now _ refl }) (λ is. is) sets
 
 -- the commit was not made
-pub stops_in_commit : Committing → (b : Board) (n : ℕ) (settled : Settled) (groups : List (List Change)) (old now : List State) → first_ready b.slots ≡ Some n → settled_of b n ≡ Some settled → is_installed settled.verdict ≡ true
-    → AreGroupsOf b n settled groups → IsStopped (filled_all (part_bytes old) groups) old now → (Stands IsSettled old → Stands IsSettled now) → StopsAside b old now
+pub stops_in_commit : CommittingLaws → (b : Board) (n : ℕ) (settled : Settled) (groups : List (List Change)) (old now : List State) → first_ready b.slots ≡ Some n → settled_of b n ≡ Some settled → is_installed settled.verdict ≡ true
+    → AreGroupsOf b n settled groups → IsCommitStopped (filled_all (part_bytes old) groups) old now → (IsNow IsSynced old → IsNow IsSynced now) → StopsBetweenAsks b old now
 stops_in_commit laws b n settled groups old now ready comes new_one are stopped is_settled = λ start notes count lists opened sound under sets.
     let s : IsSettling start notes count b n settled old = record { sound = sound; under = under; ready = ready; comes = comes } in
     let d = changing laws start notes count b n settled old s in
     let held = is_held settled.verdict new_one in
     stops_committing laws start notes count lists opened b n settled old now held.0 s d held.1
-    (subst (λ (gs : List (List Change)). IsStopped (filled_all (part_bytes old) gs) old now) (are d.source d.here_is) stopped) is_settled sets
+    (subst (λ (gs : List (List Change)). IsCommitStopped (filled_all (part_bytes old) gs) old now) (are d.source d.here_is) stopped) is_settled sets
 
 pub groups_of : (b c : Board) (n : ℕ) (settled : Settled) (changes : List Change) (groups : List (List Change)) → c ≡ settled_as b n settled.verdict
     → ((source : Source) → slice_get c.config.sources n ≡ Some source → changes ≡ changes_for source settled) → groups ≡ changes ∷ [] → AreGroupsOf b n settled groups

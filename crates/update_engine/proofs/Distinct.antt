@@ -11,16 +11,16 @@ use Rattle.acq_base.proofs.Lists.{first-or-rest}
 use Rattle.acq_outside.specs.Crash.{State}
 use Rattle.board_model.specs.Runs.{Note}
 use Rattle.commit_journal.specs.Changes.{AreApart, IsNone}
-use Rattle.list_commits.specs.RecordLaws.{AllLast, AreGathered, names_gathered}
-use Rattle.run_jobs.specs.Running.{Begun as Start, IsSoundBegun}
+use Rattle.list_commits.specs.RecordLaws.{AllSynced, AreGathered, names_gathered}
+use Rattle.run_jobs.specs.Running.{RunStart, IsSoundBegun}
 use Rattle.update_model.specs.declared.settled.Settled.{Settled}
 use Rattle.board_model.proofs.Making.{none-in}
 use Rattle.list_commits.proofs.Apart.{there, apart_of, none_if, not_in}
 use Rattle.list_commits.proofs.Recording.{right_apart}
 use Rattle.run_model.specs.Runs.{AreRising}
-use Rattle.update_engine.specs.Session.{IsPick, Pick, numbers_of}
+use Rattle.update_engine.specs.Session.{IsNewSource, NewSource, numbers_of}
 
-abbrev pub gathered_for : List Pick → List (Source × Settled)
+abbrev pub gathered_for : List NewSource → List (Source × Settled)
 gathered_for picks = map (λ p. (p.source, p.settled)) picks
 
 -- ---- lists within others
@@ -64,23 +64,23 @@ within_keep zs xs ys w = record {
 
 -- ---- picks of a plan
 
-abbrev sources_for : List Pick → List Source
+abbrev sources_for : List NewSource → List Source
 sources_for picks = map (λ p. p.source) picks
 
 -- the pick is of the sources from the k-th on
-record IsAt (rest : List Source) (k : ℕ) (p : Pick) : Type 0 where
+record IsAt (rest : List Source) (k : ℕ) (p : NewSource) : Type 0 where
   j : ℕ
   n_is : p.n ≡ k + j
   at : slice_get rest j ≡ Some p.source
 
-one_on : (s : Source) (rest : List Source) (k : ℕ) (p : Pick) → k < p.n → IsAt (s ∷ rest) k p → IsAt rest (suc k) p
+one_on : (s : Source) (rest : List Source) (k : ℕ) (p : NewSource) → k < p.n → IsAt (s ∷ rest) k p → IsAt rest (suc k) p
 one_on s rest k p less a = by a.j a.n_is a.at
   where
     by : (j : ℕ) → p.n ≡ k + j → slice_get (s ∷ rest) j ≡ Some p.source → IsAt rest (suc k) p
     by zero n_is at = absurd (omega (arith, n_is, less))
     by (suc j) n_is at = record { j = j; n_is = omega (arith, n_is); at = at }
 
-all_on : (s : Source) (rest : List Source) (k : ℕ) (picks : List Pick) → Each (λ n. k < n) (numbers_of picks) → Each (IsAt (s ∷ rest) k) picks → Each (IsAt rest (suc k)) picks
+all_on : (s : Source) (rest : List Source) (k : ℕ) (picks : List NewSource) → Each (λ n. k < n) (numbers_of picks) → Each (IsAt (s ∷ rest) k) picks → Each (IsAt rest (suc k)) picks
 all_on s rest k [] below each = tt
 all_on s rest k (p ∷ picks) below each = (one_on s rest k p below.0 each.0, all_on s rest k picks below.1 each.1)
 
@@ -88,7 +88,7 @@ above : (n m : ℕ) (ns : List ℕ) → n < m → Each (λ k. m < k) ns → Each
 above n m [] less each = tt
 above n m (k ∷ ns) less each = (let high = each.0 in omega (arith, less, high), above n m ns less each.1)
 
-picks_within : (rest : List Source) (k : ℕ) (picks : List Pick) → Each (IsAt rest k) picks → AreRising (numbers_of picks) → Within (flat_map names_of (sources_for picks)) (flat_map names_of rest)
+picks_within : (rest : List Source) (k : ℕ) (picks : List NewSource) → Each (IsAt rest k) picks → AreRising (numbers_of picks) → Within (flat_map names_of (sources_for picks)) (flat_map names_of rest)
 picks_within rest k [] each turn = within_none (flat_map names_of rest)
 picks_within [] k (p ∷ picks) each turn = absurd (none each.0.j each.0.at)
   where
@@ -121,20 +121,20 @@ pairs_apart : (xs : List (List ℕ)) → AreApart xs → AllPairs (λ a b. a ≢
 pairs_apart [] apart = λ i j d low high. absurd (omega (arith, high))
 pairs_apart (x ∷ xs) apart = AllPairs-cons (λ a b. a ≢ b) x xs (all_none x xs apart.0) (pairs_apart xs apart.1)
 
-gathered_sources : (picks : List Pick) → map (λ s. s.0) (gathered_for picks) ≡ sources_for picks
+gathered_sources : (picks : List NewSource) → map (λ s. s.0) (gathered_for picks) ≡ sources_for picks
 gathered_sources [] = refl
 gathered_sources (p ∷ picks) = ap (λ (ss : List Source). p.source ∷ ss) (gathered_sources picks)
 
-at_first : (start : Start) (notes : List Note) (now : List State) (picks : List Pick) → Each (IsPick start notes now) picks → Each (IsAt start.config.sources 0) picks
+at_first : (start : RunStart) (notes : List Note) (now : List State) (picks : List NewSource) → Each (IsNewSource start notes now) picks → Each (IsAt start.config.sources 0) picks
 at_first start notes now [] each = tt
 at_first start notes now (p ∷ picks) each = (record { j = p.n; n_is = omega arith; at = each.0.source_is }, at_first start notes now picks each.1)
 
-each_gathered : (start : Start) (notes : List Note) (now : List State) (P : Source × Settled → Type 0) → ((p : Pick) → IsPick start notes now p → P (p.source, p.settled)) → (picks : List Pick) → Each (IsPick start notes now) picks
+each_gathered : (start : RunStart) (notes : List Note) (now : List State) (P : Source × Settled → Type 0) → ((p : NewSource) → IsNewSource start notes now p → P (p.source, p.settled)) → (picks : List NewSource) → Each (IsNewSource start notes now) picks
     → Each P (gathered_for picks)
 each_gathered start notes now P f [] each = tt
 each_gathered start notes now P f (p ∷ picks) each = (f p each.0, each_gathered start notes now P f picks each.1)
 
-pub are_gathered : (start : Start) (notes : List Note) (now : List State) (picks : List Pick) → IsSoundBegun start → Each (IsPick start notes now) picks → AreRising (numbers_of picks) → AreGathered start.config.sources (gathered_for picks)
+pub are_gathered : (start : RunStart) (notes : List Note) (now : List State) (picks : List NewSource) → IsSoundBegun start → Each (IsNewSource start notes now) picks → AreRising (numbers_of picks) → AreGathered start.config.sources (gathered_for picks)
 are_gathered start notes now picks sound each turn =
     let w = picks_within start.config.sources 0 picks (at_first start notes now picks each) turn in
     let same : names_gathered (gathered_for picks) ≡ flat_map names_of (sources_for picks) = ap (flat_map names_of) (gathered_sources picks) in
@@ -149,5 +149,5 @@ are_gathered start notes now picks sound each turn =
       few = subst (λ (ns : List (List ℕ)). length ns ≤ 4096) (sym same) short;
     }
 
-pub all_last : (start : Start) (notes : List Note) (s : State) (past : List State) (picks : List Pick) → Each (IsPick start notes (s ∷ past)) picks → AllLast s (gathered_for picks)
+pub all_last : (start : RunStart) (notes : List Note) (s : State) (past : List State) (picks : List NewSource) → Each (IsNewSource start notes (s ∷ past)) picks → AllSynced s (gathered_for picks)
 all_last start notes s past picks each = each_gathered start notes (s ∷ past) _ (λ p is. is.lasts) picks each

@@ -5,15 +5,15 @@ use Rattle.acq_outside.specs.Crash.{State}
 use Rattle.board_model.specs.Boards.{Board, first_ready, is_finished}
 use Rattle.board_model.specs.Jobs.{NoneAsks}
 use Rattle.board_model.specs.Reached.{Reached}
-use Rattle.board_model.specs.Runs.{World, run, start as start_world}
-use Rattle.board_model.specs.Slots.{Closed}
-use Rattle.update_engine.specs.Known.{Finishing}
-use Rattle.update_engine.specs.Session.{IsStanding}
+use Rattle.board_model.specs.Runs.{BoardRun, run, start as start_world}
+use Rattle.board_model.specs.Slots.{SettledSlot}
+use Rattle.update_engine.specs.Known.{FinishingLaws}
+use Rattle.update_engine.specs.Session.{MayCommit}
 
-pub finished : Finishing → (b : Board) (now : List State) → IsStanding b now → NoneAsks b → first_ready b.slots ≡ None → is_finished b ≡ true
+pub finished : FinishingLaws → (b : Board) (now : List State) → MayCommit b now → NoneAsks b → first_ready b.slots ≡ None → is_finished b ≡ true
 finished laws b now stands quiet none =
     let r : Reached stands.start.config stands.start.olds stands.notes b = stands.under_way.heard.reached in
     let closed = laws.ready stands.start.config stands.start.olds stands.notes b r quiet none in
-    let board : (run r.events (start_world stands.start.config stands.start.olds r.lanes)).board ≡ b = ap (λ (w : World). w.board) r.leads in
-    let all = subst (λ (x : Board). Each (λ slot. slot ≡ Closed) x.slots) (sym board) closed in
+    let board : (run r.events (start_world stands.start.config stands.start.olds r.lanes)).board ≡ b = ap (λ (w : BoardRun). w.board) r.leads in
+    let all = subst (λ (x : Board). Each (λ slot. slot ≡ SettledSlot) x.slots) (sym board) closed in
     ap is_finished (sym board) ∙ (laws.exactly stands.start.config stands.start.olds r.lanes r.events r.each).1 all

@@ -6,33 +6,33 @@ use Rattle.std.proofs.lemmas.List.{append-nil, append_assoc}
 use Rattle.acq_base.specs.declared.plan.Source.{Source}
 use Rattle.acq_base.specs.declared.uri.ListName.{ListName}
 use Rattle.acq_outside.specs.Crash.{State}
-use Rattle.acq_outside.specs.Moments.{Stands}
+use Rattle.acq_outside.specs.States.{IsNow}
 use Rattle.board_model.specs.Boards.{Board, first_ready, settled_as, settled_of}
 use Rattle.board_model.specs.Runs.{Note}
-use Rattle.board_model.specs.Uses.{rests}
+use Rattle.board_model.specs.Uses.{wanted_part}
 use Rattle.commit_journal.specs.declared.changing.Change.{Change}
 use Rattle.list_commits.specs.Changes.{changes_for}
-use Rattle.list_commits.specs.RecordLaws.{Lasts}
-use Rattle.run_jobs.specs.Running.{Begun as Start, IsUnderWay}
+use Rattle.list_commits.specs.RecordLaws.{IsSyncedPart}
+use Rattle.run_jobs.specs.Running.{RunStart, IsUnderWay}
 use Rattle.run_model.specs.Runs.{AreRising, is_installed}
 use Rattle.update_model.specs.declared.ask.Body.{Body}
 use Rattle.update_model.specs.declared.settled.Settled.{Settled}
 use Rattle.run_model.proofs.Finishing.{is_held}
 use Rattle.run_model.proofs.Following.{later_than}
 use Rattle.run_jobs.proofs.Telling.{each_last}
-use Rattle.update_engine.specs.Known.{Committing}
-use Rattle.update_engine.specs.Session.{Gathers, GathersOne, HasGathered, IsPick, Pick, groups_for, installed_in, numbers_of}
+use Rattle.update_engine.specs.Known.{CommittingLaws}
+use Rattle.update_engine.specs.Session.{GathersChanges, GathersChangesOf, HasGatheredChanges, IsNewSource, NewSource, groups_for, installed_in, numbers_of}
 use Rattle.update_engine.proofs.Committing.{IsChanging, IsSettling, changing, have_sums, last_puts, puts_rest, told_installed}
 use Rattle.update_engine.proofs.Lists.{each_more}
 use Rattle.update_engine.proofs.OnBoards.{under_settled}
 
 -- ---- lists with one more
 
-numbers_last : (picks : List Pick) (p : Pick) → numbers_of (picks ++ p ∷ []) ≡ numbers_of picks ++ p.n ∷ []
+numbers_last : (picks : List NewSource) (p : NewSource) → numbers_of (picks ++ p ∷ []) ≡ numbers_of picks ++ p.n ∷ []
 numbers_last [] p = refl
 numbers_last (q ∷ picks) p = ap (λ (ns : List ℕ). q.n ∷ ns) (numbers_last picks p)
 
-groups_last : (picks : List Pick) (p : Pick) → groups_for (picks ++ p ∷ []) ≡ groups_for picks ++ changes_for p.source p.settled ∷ []
+groups_last : (picks : List NewSource) (p : NewSource) → groups_for (picks ++ p ∷ []) ≡ groups_for picks ++ changes_for p.source p.settled ∷ []
 groups_last [] p = refl
 groups_last (q ∷ picks) p = ap (λ (gs : List (List Change)). changes_for q.source q.settled ∷ gs) (groups_last picks p)
 
@@ -42,13 +42,13 @@ turn_last (n ∷ ns) m turn below = (each_last (λ k. n < k) ns m turn.0 below.0
 
 -- ---- a source that came to a new set
 
-lasts_now : Committing → (start : Start) (notes : List Note) (count : ℕ) (b : Board) (n : ℕ) (settled : Settled) (now : List State) → IsSettling start notes count b n settled now
-    → Stands (λ s. Each (λ (put : ListName × Body). Lasts s put.0 put.1) settled.puts) now
+lasts_now : CommittingLaws → (start : RunStart) (notes : List Note) (count : ℕ) (b : Board) (n : ℕ) (settled : Settled) (now : List State) → IsSettling start notes count b n settled now
+    → IsNow (λ s. Each (λ (put : ListName × Body). IsSyncedPart s put.0 put.1) settled.puts) now
 lasts_now laws start notes count b n settled [] s = tt
-lasts_now laws start notes count b n settled (state ∷ past) s = last_puts (rests b) start.parts state past settled.puts (puts_rest laws start notes count b n settled (state ∷ past) s) s.under.uses
+lasts_now laws start notes count b n settled (state ∷ past) s = last_puts (wanted_part b) start.parts state past settled.puts (puts_rest laws start notes count b n settled (state ∷ past) s) s.under.uses
 
-is_pick : Committing → (start : Start) (notes : List Note) (count : ℕ) (b : Board) (n : ℕ) (settled : Settled) (now : List State) → IsSettling start notes count b n settled now → (c : IsChanging start b n settled) → is_installed settled.verdict ≡ true
-    → IsPick start notes now (record { n = n; source = c.source; settled = settled })
+is_pick : CommittingLaws → (start : RunStart) (notes : List Note) (count : ℕ) (b : Board) (n : ℕ) (settled : Settled) (now : List State) → IsSettling start notes count b n settled now → (c : IsChanging start b n settled) → is_installed settled.verdict ≡ true
+    → IsNewSource start notes now (record { n = n; source = c.source; settled = settled })
 is_pick laws start notes count b n settled now s c new_one =
     let held = is_held settled.verdict new_one in
     record {
@@ -64,7 +64,7 @@ is_pick laws start notes count b n settled now s c new_one =
 
 -- ---- one more source
 
-pub gathers_none : (b : Board) → Gathers b b []
+pub gathers_none : (b : Board) → GathersChanges b b []
 gathers_none b start notes count now sound under = record {
   under_way = under;
   picks = [];
@@ -75,12 +75,12 @@ gathers_none b start notes count now sound under = record {
   next = λ m ready. tt;
 }
 
-gathers_to : Committing → (b c : Board) (n : ℕ) (groups later : List (List Change)) (settled : Settled) → Gathers b c groups → first_ready c.slots ≡ Some n → settled_of c n ≡ Some settled
+gathers_to : CommittingLaws → (b c : Board) (n : ℕ) (groups later : List (List Change)) (settled : Settled) → GathersChanges b c groups → first_ready c.slots ≡ Some n → settled_of c n ≡ Some settled
     → ((source : Source) → slice_get c.config.sources n ≡ Some source → later ≡ groups ++ (if is_installed settled.verdict then changes_for source settled ∷ [] else []))
-    → Gathers b (settled_as c n settled.verdict) later
+    → GathersChanges b (settled_as c n settled.verdict) later
 gathers_to laws b c n groups later settled gathers ready comes group start notes count now sound under = one (is_installed settled.verdict) refl
   where
-    g : HasGathered start notes count now b c groups
+    g : HasGatheredChanges start notes count now b c groups
     g = gathers start notes count now sound under
 
     s : IsSettling start notes count c n settled now
@@ -101,7 +101,7 @@ gathers_to laws b c n groups later settled gathers ready comes group start notes
     behind : (m : ℕ) → n < m → Each (λ k. k < m) (numbers_of g.picks)
     behind m less = each_more (λ k. k < n) (λ k. k < m) (numbers_of g.picks) (λ k low. omega (arith, low, less)) (g.next n ready)
 
-    one : (t : Bool) → is_installed settled.verdict ≡ t → HasGathered start notes count now b (settled_as c n settled.verdict) later
+    one : (t : Bool) → is_installed settled.verdict ≡ t → HasGatheredChanges start notes count now b (settled_as c n settled.verdict) later
     one false e = record {
       under_way = under_then;
       picks = g.picks;
@@ -112,25 +112,25 @@ gathers_to laws b c n groups later settled gathers ready comes group start notes
       next = λ m next. behind m (before m next);
     }
     one true e =
-        let p : Pick = record { n = n; source = d.source; settled = settled } in
+        let p : NewSource = record { n = n; source = d.source; settled = settled } in
         record {
           under_way = under_then;
           picks = g.picks ++ p ∷ [];
           are = group d.source d.here_is ∙ ap (λ (t : Bool). groups ++ (if t then changes_for d.source settled ∷ [] else [])) e
               ∙ ap (λ (gs : List (List Change)). gs ++ changes_for d.source settled ∷ []) g.are ∙ sym (groups_last g.picks p);
-          each = each_last (IsPick start notes now) g.picks p g.each (is_pick laws start notes count c n settled now s d e);
+          each = each_last (IsNewSource start notes now) g.picks p g.each (is_pick laws start notes count c n settled now s d e);
           order = told ∙ ap (λ (t : Bool). installed_in c ++ (if t then n ∷ [] else [])) e ∙ ap (λ (ns : List ℕ). ns ++ n ∷ []) g.order
               ∙ append_assoc (installed_in b) (numbers_of g.picks) (n ∷ []) ∙ ap (λ (ns : List ℕ). installed_in b ++ ns) (sym (numbers_last g.picks p));
           in_turn = subst AreRising (sym (numbers_last g.picks p)) (turn_last (numbers_of g.picks) n g.in_turn (g.next n ready));
           next = λ m next. subst (λ (ns : List ℕ). Each (λ k. k < m) ns) (sym (numbers_last g.picks p)) (each_last (λ k. k < m) (numbers_of g.picks) n (behind m (before m next)) (before m next));
         }
 
-pub gathers_more : Committing → (b c d : Board) (n : ℕ) (groups later : List (List Change)) → Gathers b c groups → first_ready c.slots ≡ Some n → GathersOne n c d groups later → Gathers b d later
-gathers_more laws b c d n groups later gathers ready one = subst (λ (x : Board). Gathers b x later) (sym one.board) (gathers_to laws b c n groups later one.settled gathers ready one.comes one.group)
+pub gathers_more : CommittingLaws → (b c d : Board) (n : ℕ) (groups later : List (List Change)) → GathersChanges b c groups → first_ready c.slots ≡ Some n → GathersChangesOf n c d groups later → GathersChanges b d later
+gathers_more laws b c d n groups later gathers ready one = subst (λ (x : Board). GathersChanges b x later) (sym one.board) (gathers_to laws b c n groups later one.settled gathers ready one.comes one.group)
 
 -- ---- how one is gathered
 
-pub gathers_kept : (b c : Board) (n : ℕ) (settled : Settled) (groups : List (List Change)) → settled_of b n ≡ Some settled → c ≡ settled_as b n settled.verdict → is_installed settled.verdict ≡ false → GathersOne n b c groups groups
+pub gathers_kept : (b c : Board) (n : ℕ) (settled : Settled) (groups : List (List Change)) → settled_of b n ≡ Some settled → c ≡ settled_as b n settled.verdict → is_installed settled.verdict ≡ false → GathersChangesOf n b c groups groups
 gathers_kept b c n settled groups comes board e = record {
   settled = settled;
   comes = comes;
@@ -139,7 +139,7 @@ gathers_kept b c n settled groups comes board e = record {
 }
 
 pub gathers_new : (b c : Board) (n : ℕ) (settled : Settled) (changes : List Change) (groups later : List (List Change)) → settled_of b n ≡ Some settled → c ≡ settled_as b n settled.verdict → is_installed settled.verdict ≡ true
-    → ((source : Source) → slice_get c.config.sources n ≡ Some source → changes ≡ changes_for source settled) → later ≡ groups ++ changes ∷ [] → GathersOne n b c groups later
+    → ((source : Source) → slice_get c.config.sources n ≡ Some source → changes ≡ changes_for source settled) → later ≡ groups ++ changes ∷ [] → GathersChangesOf n b c groups later
 gathers_new b c n settled changes groups later comes board e made is = record {
   settled = settled;
   comes = comes;

@@ -11,7 +11,7 @@ use Rattle.acq_base.proofs.Lists.{first-or-rest}
 use Rattle.board_model.specs.Boards.{Board}
 use Rattle.board_model.specs.NameLaws.{AreNamedApart}
 use Rattle.board_model.specs.Slots.{Slot}
-use Rattle.board_model.specs.Uses.{Free, PartUse, or_use, rests, use_among, use_in, use_under}
+use Rattle.board_model.specs.Uses.{Free, WantedPart, or_use, wanted_part, use_among, use_in, use_under}
 use Rattle.board_model.proofs.Making.{none-in}
 use Rattle.commit_journal.specs.Changes.{AreApart, IsNone}
 use Rattle.list_commits.proofs.Apart.{here, there, apart_of, not_in}
@@ -74,9 +74,9 @@ none_under : (sizes : List ℕ → ℕ) (sources : List Source) (slots : List Sl
 none_under sizes [] slots name none = refl
 none_under sizes (source ∷ sources) [] name none = refl
 none_under sizes (source ∷ sources) (slot ∷ slots) name none =
-    ap (λ (o : Option PartUse). or_use o (use_under sizes sources slots name)) (not_among sizes slot 0 source.targets name none.0) ∙ none_under sizes sources slots name none.1
+    ap (λ (o : Option WantedPart). or_use o (use_under sizes sources slots name)) (not_among sizes slot 0 source.targets name none.0) ∙ none_under sizes sources slots name none.1
 
-pub release_free : (b : Board) (n : ℕ) (source : Source) → AreNamedApart b.config → slice_get b.config.sources n ≡ Some source → rests b source.release_name.0 ≡ Free
+pub release_free : (b : Board) (n : ℕ) (source : Source) → AreNamedApart b.config → slice_get b.config.sources n ≡ Some source → wanted_part b source.release_name.0 ≡ Free
 release_free b n source apart is = none_under b.config.sizes b.config.sources b.slots source.release_name.0 (no_target b.config.sources n source (apart_of (flat_map names_of b.config.sources) apart) is)
 
 -- a name of a source is its Release's or a target's

@@ -5,7 +5,7 @@ use Rattle.std.specs.List.{flat_map, AllByRecursion as Each}
 use Rattle.std.proofs.lemmas.List.{length-replicate, length-take-le}
 use Rattle.std.proofs.lemmas.List.Elements.{All-head, All-tail}
 use Rattle.std.proofs.lemmas.Slice.Eq.{bytes_eq-Decides}
-use Rattle.acq_base.specs.Mirror.{World as Mirror}
+use Rattle.acq_base.specs.Mirror.{MirrorMap}
 use Rattle.acq_base.specs.Plan.{IsPlanned, IsSound}
 use Rattle.acq_base.specs.declared.installed.Old.{Old}
 use Rattle.acq_base.specs.declared.plan.Plan.{Plan}
@@ -16,28 +16,28 @@ use Rattle.acq_base.specs.declared.uri.ListName.{ListName}
 use Rattle.acq_base.proofs.Lists.{first-or-rest}
 use Rattle.acq_outside.specs.Crash.{IsShown, State, reads}
 use Rattle.acq_outside.specs.Disk.{Files}
-use Rattle.acq_outside.specs.Moments.{IsTold, ToldAs}
+use Rattle.acq_outside.specs.States.{IsTold, ToldAs}
 use Rattle.board_model.specs.Agreeing.{Agrees}
 use Rattle.board_model.specs.Boards.{Board, first_board}
 use Rattle.board_model.specs.Keys.{named}
-use Rattle.board_model.specs.Slots.{Config}
-use Rattle.board_model.specs.Uses.{rests, use_from}
-use Rattle.journal_model.specs.Reopen.{lists_now}
+use Rattle.board_model.specs.Slots.{Setup}
+use Rattle.board_model.specs.Uses.{wanted_part, use_from}
+use Rattle.journal_model.specs.Reopen.{installed_now}
 use Rattle.journal_model.specs.Rest.{IsAtRest, part_bytes, size_below}
 use Rattle.lists_dir.specs.Installed.{installed_of, listed, lists_of}
 use Rattle.release_file.specs.declared.changing.Change.{Change}
-use Rattle.run_jobs.specs.Coupling.{HoldsUse, UsesHold}
-use Rattle.update_core.specs.Standing.{config_for}
+use Rattle.run_jobs.specs.Coupling.{HasWantedPart, HasWantedParts}
+use Rattle.update_core.specs.BoardRefinement.{config_for}
 use Rattle.update_model.specs.Next.{Keeps}
-use Rattle.update_model.specs.Outcomes.{Parts}
+use Rattle.update_model.specs.Outcomes.{PartFiles}
 use Rattle.board_model.proofs.Making.{none-in}
 use Rattle.list_commits.proofs.Apart.{here, there}
 use Rattle.run_model.proofs.Loose.{among}
 use Rattle.run_jobs.proofs.Keeping.{falls_holds}
-use Rattle.update_engine.specs.Known.{Beginning}
+use Rattle.update_engine.specs.Known.{BeginningLaws}
 use Rattle.update_engine.specs.Reading.{size_of, sizes_in, sizes_of}
-use Rattle.update_engine.specs.Run.{IsReadFrom, run_of, short_part, target_names}
-use Rattle.update_engine.specs.Session.{HasStarted, Starts}
+use Rattle.update_engine.specs.Run.{IsReadFromDisk, run_of, resumable_part, target_names}
+use Rattle.update_engine.specs.Session.{IsNewRun, StartsRun}
 
 -- ---- sizes
 
@@ -73,7 +73,7 @@ named_within now (row ∷ rows) name each = one (bytes_eq row.0.0 name) refl (na
 
 -- ---- the lists on their way, as far as they may be resumed
 
-parts_at : List State → (List ℕ → ℕ) → Parts
+parts_at : List State → (List ℕ → ℕ) → PartFiles
 parts_at [] sizes name = replicate (sizes name) 0
 parts_at (s ∷ past) sizes name = take (sizes name) (part_bytes (s ∷ past) name)
 
@@ -87,15 +87,15 @@ take_twice zero xs = refl
 take_twice (suc n) [] = refl
 take_twice (suc n) (x ∷ xs) = ap (λ (ys : List ℕ). x ∷ ys) (take_twice n xs)
 
-use_at_first : (n : ℕ) (now : List State) (name : List ℕ) → n ≤ length (part_bytes now name) → HoldsUse (use_from n) name (take n (part_bytes now name)) now
+use_at_first : (n : ℕ) (now : List State) (name : List ℕ) → n ≤ length (part_bytes now name) → HasWantedPart (use_from n) name (take n (part_bytes now name)) now
 use_at_first zero now name within = tt
 use_at_first (suc n) now name within = record { front = take_twice (suc n) (part_bytes now name); within = within }
 
-uses_at_first : Beginning → (config : Config) (olds : List Old) (now : List State) → (IsTold now → (name : List ℕ) → config.sizes name ≤ length (part_bytes now name)) → UsesHold (rests (first_board config olds 1)) (parts_at now config.sizes) now
+uses_at_first : BeginningLaws → (config : Setup) (olds : List Old) (now : List State) → (IsTold now → (name : List ℕ) → config.sizes name ≤ length (part_bytes now name)) → HasWantedParts (wanted_part (first_board config olds 1)) (parts_at now config.sizes) now
 unfolding parts_at
 uses_at_first laws config olds [] within = record { each = λ name told. absurd told }
 uses_at_first laws config olds (s ∷ past) within = record {
-  each = λ name told. falls_holds (use_from (config.sizes name)) (rests (first_board config olds 1) name) name (take (config.sizes name) (part_bytes (s ∷ past) name)) (s ∷ past)
+  each = λ name told. falls_holds (use_from (config.sizes name)) (wanted_part (first_board config olds 1) name) name (take (config.sizes name) (part_bytes (s ∷ past) name)) (s ∷ past)
       (laws.rest config olds 1 name) (use_at_first (config.sizes name) (s ∷ past) name (within tt name));
 }
 
@@ -144,7 +144,7 @@ sizes_are_read now (s ∷ sources) name is = ⊎_elim
     (λ never. size_past_targets now s.targets (sizes_of now sources) name (sizes_are_read now sources name (in_later (target_names s) (flat_map target_names sources) name is never)))
     (among name (target_names s))
 
-parts_are_read : (now : List State) (sizes : List ℕ → ℕ) (name : List ℕ) → IsTold now → sizes name ≡ part_size now name → parts_at now sizes name ≡ short_part (part_bytes now name)
+parts_are_read : (now : List State) (sizes : List ℕ → ℕ) (name : List ℕ) → IsTold now → sizes name ≡ part_size now name → parts_at now sizes name ≡ resumable_part (part_bytes now name)
 unfolding parts_at
 parts_are_read [] sizes name told read = absurd told
 parts_are_read (s ∷ past) sizes name told read = ap (λ (n : ℕ). take n (part_bytes (s ∷ past) name)) read
@@ -167,7 +167,7 @@ all_alike (s ∷ sources) lists files planned alike =
     ∙ ap (λ (os : List Old). installed_of lists s ∷ os) (all_alike sources lists files (All-tail IsPlanned s sources planned) alike)
 
 -- over a disk at rest, what was read of its files is what its lists have
-pub olds_are_read : Beginning → (tells : Bool) (files : Files) (now : List State) (olds : List Old) (sources sources' : List Source) → All IsPlanned sources → IsShown tells files now → sources' ≡ sources
+pub olds_are_read : BeginningLaws → (tells : Bool) (files : Files) (now : List State) (olds : List Old) (sources sources' : List Source) → All IsPlanned sources → IsShown tells files now → sources' ≡ sources
     → (IsTrue tells → olds ≡ map (installed_of files) sources') → (lists : Files) → ToldAs (IsAtRest lists) now → olds ≡ map (installed_of lists) sources
 olds_are_read laws tells files [] olds sources sources' planned shown same read lists rest = absurd rest
 olds_are_read laws tells files (s ∷ past) olds sources sources' planned shown same read lists rest =
@@ -178,15 +178,15 @@ olds_are_read laws tells files (s ∷ past) olds sources sources' planned shown 
 
 -- ---- it begins
 
-none_heard : (mirror : Option Mirror) (parts : Parts) (sources : List Source) → IfSome mirror (λ mirror. Agrees mirror parts sources [])
+none_heard : (mirror : Option MirrorMap) (parts : PartFiles) (sources : List Source) → IfSome mirror (λ mirror. Agrees mirror parts sources [])
 none_heard None parts sources = tt
 none_heard (Some mirror) parts sources = tt
 
-pub starts : Beginning → (plan : Plan) (settings : Settings) (change : Change) (moment : ℤ) (together : Bool) (olds : List Old) (sizes : List (ListName × ℕ)) (now : List State) (b : Board) → IsSound plan → All IsPlanned plan.sources
-    → length olds ≡ length plan.sources → ((lists : Files) → ToldAs (IsAtRest lists) now → olds ≡ map (installed_of lists) plan.sources) → (IsTold now → sizes ≡ sizes_of now plan.sources) → b ≡ first_board (config_for plan sizes settings change moment) olds 1 → Starts (run_of plan settings change moment together) now b
-starts laws plan settings change moment together olds sizes now b sound planned each rests read is = subst (Starts (run_of plan settings change moment together) now) (sym is) (λ mirror count. started mirror count)
+pub starts : BeginningLaws → (plan : Plan) (settings : Settings) (change : Change) (moment : ℤ) (together : Bool) (olds : List Old) (sizes : List (ListName × ℕ)) (now : List State) (b : Board) → IsSound plan → All IsPlanned plan.sources
+    → length olds ≡ length plan.sources → ((lists : Files) → ToldAs (IsAtRest lists) now → olds ≡ map (installed_of lists) plan.sources) → (IsTold now → sizes ≡ sizes_of now plan.sources) → b ≡ first_board (config_for plan sizes settings change moment) olds 1 → StartsRun (run_of plan settings change moment together) now b
+starts laws plan settings change moment together olds sizes now b sound planned each wanted_part read is = subst (StartsRun (run_of plan settings change moment together) now) (sym is) (λ mirror count. started mirror count)
   where
-    config : Config
+    config : Setup
     config = config_for plan sizes settings change moment
 
     within : IsTold now → (name : List ℕ) → config.sizes name ≤ length (part_bytes now name)
@@ -199,21 +199,21 @@ starts laws plan settings change moment together olds sizes now b sound planned 
     told_at lists [] rest = absurd rest
     told_at lists (s ∷ past) rest = tt
 
-    begins : (entry : List State) → ToldAs (IsAtRest (lists_now entry)) now → IsReadFrom entry now (record { config = config; olds = olds; parts = parts_at now config.sizes })
+    begins : (entry : List State) → ToldAs (IsAtRest (installed_now entry)) now → IsReadFromDisk entry now (record { config = config; olds = olds; parts = parts_at now config.sizes })
     begins entry rest = record {
-      olds = rests (lists_now entry) rest;
+      olds = wanted_part (installed_now entry) rest;
       begins = record {
         planned = planned;
         apart = sound.distinct;
-        over = laws.over config olds (lists_now entry) (parts_at now config.sizes) (rests (lists_now entry) rest) long;
+        over = laws.over config olds (installed_now entry) (parts_at now config.sizes) (wanted_part (installed_now entry) rest) long;
         alone = laws.alone entry;
       };
-      parts = λ name is. let told : IsTold now = told_at (lists_now entry) now rest in
+      parts = λ name is. let told : IsTold now = told_at (installed_now entry) now rest in
           parts_are_read now config.sizes name told
           (subst (λ (rows : List (ListName × ℕ)). size_under rows name ≡ part_size now name) (sym (read told)) (sizes_are_read now plan.sources name is));
     }
 
-    started : (mirror : Option Mirror) (count : ℕ) → HasStarted (run_of plan settings change moment together) mirror count now (first_board config olds 1)
+    started : (mirror : Option MirrorMap) (count : ℕ) → IsNewRun (run_of plan settings change moment together) mirror count now (first_board config olds 1)
     started mirror count = record {
       start = record { config = config; olds = olds; parts = parts_at now config.sizes; mirror = mirror; count = count };
       from = refl;

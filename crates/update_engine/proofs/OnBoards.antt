@@ -12,17 +12,17 @@ use Rattle.board_model.specs.CallLaws.{AreOnce}
 use Rattle.board_model.specs.Reached.{Reached}
 use Rattle.board_model.specs.Runs.{Note}
 use Rattle.board_model.specs.Settling.{settled_in}
-use Rattle.board_model.specs.Slots.{Closed, Config, Slot, ask_of, is_ready, item_at}
+use Rattle.board_model.specs.Slots.{SettledSlot, Setup, Slot, ask_of, is_ready, item_at}
 use Rattle.board_model.specs.Jobs.{NoneAsks}
 use Rattle.board_model.specs.Keys.{key_at}
 use Rattle.board_model.specs.declared.key.Key.{Key}
 use Rattle.update_model.specs.declared.ask.Ask.{Ask}
 use Rattle.board_model.specs.Stands.{AllStand, IsOpen, SourceStands, StandsAt, history_of}
-use Rattle.board_model.specs.Uses.{rests}
+use Rattle.board_model.specs.Uses.{wanted_part}
 use Rattle.host_queues.specs.Lanes.{changed_at}
 use Rattle.list_commits.specs.SetLaws.{OwnsChanges}
-use Rattle.run_jobs.specs.Coupling.{UsesHold}
-use Rattle.run_jobs.specs.Running.{Begun as Start, HasHeard, IsUnderWay}
+use Rattle.run_jobs.specs.Coupling.{HasWantedParts}
+use Rattle.run_jobs.specs.Running.{RunStart, RunHasHeard, IsUnderWay}
 use Rattle.run_model.specs.Runs.{is_installed, is_told_installed}
 use Rattle.update_model.specs.Obtained.{◌>>=◌}
 use Rattle.update_model.specs.declared.settled.Settled.{Settled}
@@ -32,7 +32,7 @@ use Rattle.board_model.proofs.Resting.{olds-there}
 use Rattle.board_model.proofs.Events.{ready-slot}
 use Rattle.board_model.proofs.Agreement.{come-open}
 use Rattle.run_jobs.proofs.Keeping.{falls_holds}
-use Rattle.update_engine.specs.Known.{Settling as Below}
+use Rattle.update_engine.specs.Known.{SettlingLaws}
 use Rattle.update_engine.specs.Session.{HasSettled, OnlySettles, installed_in}
 use Rattle.update_engine.proofs.Lists.{each_more, filter_last, filter_same}
 
@@ -53,13 +53,13 @@ is_of b n settled e =
     record { source = p.0; source_is = p.1; slot = q.0; slot_is = q.1; comes_to = q.2 }
 
 -- the source as it stands on a board that was reached
-pub record AsOpen (config : Config) (notes : List Note) (b : Board) (n : ℕ) (source : Source) (slot : Slot) : Type 0 where
+pub record AsOpen (config : Setup) (notes : List Note) (b : Board) (n : ℕ) (source : Source) (slot : Slot) : Type 0 where
   pub old : Old
   pub open_slot : IsOpen config n source old slot (history_of n notes)
   pub verdict : Verdict2
   pub verdict_is : slice_get b.verdicts n ≡ Some verdict
 
-pub as_open : Below → (config : Config) (olds : List Old) (notes : List Note) (b : Board) (n : ℕ) (source : Source) (slot : Slot) → (r : Reached config olds notes b) → first_ready b.slots ≡ Some n
+pub as_open : SettlingLaws → (config : Setup) (olds : List Old) (notes : List Note) (b : Board) (n : ℕ) (source : Source) (slot : Slot) → (r : Reached config olds notes b) → first_ready b.slots ≡ Some n
     → slice_get config.sources n ≡ Some source → slice_get b.slots n ≡ Some slot → AsOpen config notes b n source slot
 as_open below config olds notes b n source slot r ready source_is slot_is =
     let all : AllStand config olds (record { board = b; jobs = r.jobs; queue = []; notes = notes }) = subst (AllStand config olds) r.leads (below.stand config olds r.lanes r.events) in
@@ -79,7 +79,7 @@ as_open below config olds notes b n source slot r ready source_is slot_is =
     }
 
 -- its changes are of its own names, each once
-pub owns : Below → (config : Config) (notes : List Note) (b : Board) (n : ℕ) (source : Source) (slot : Slot) (settled : Settled) → AsOpen config notes b n source slot → settled_in source slot ≡ Some settled → IsPlanned source
+pub owns : SettlingLaws → (config : Setup) (notes : List Note) (b : Board) (n : ℕ) (source : Source) (slot : Slot) (settled : Settled) → AsOpen config notes b n source slot → settled_in source slot ≡ Some settled → IsPlanned source
     → OwnsChanges source settled
 owns below config notes b n source slot settled at comes planned = record {
   own = below.own source slot settled comes;
@@ -89,11 +89,11 @@ owns below config notes b n source slot settled at comes planned = record {
 -- ---- the board behind it
 
 -- what it wants of lists on their way is there where it was
-pub uses_settled : Below → (b : Board) (n : ℕ) (verdict : Verdict2) (first : List ℕ → List ℕ) (now : List State) → UsesHold (rests b) first now → UsesHold (rests (settled_as b n verdict)) first now
-uses_settled below b n verdict first now uses = record { each = λ name told. falls_holds (rests b name) (rests (settled_as b n verdict) name) name (first name) now (below.rest b n verdict name) (uses.each name told) }
+pub uses_settled : SettlingLaws → (b : Board) (n : ℕ) (verdict : Verdict2) (first : List ℕ → List ℕ) (now : List State) → HasWantedParts (wanted_part b) first now → HasWantedParts (wanted_part (settled_as b n verdict)) first now
+uses_settled below b n verdict first now uses = record { each = λ name told. falls_holds (wanted_part b name) (wanted_part (settled_as b n verdict) name) name (first name) now (below.rest b n verdict name) (uses.each name told) }
 
-pub heard_settled : Below → (start : Start) (notes : List Note) (count : ℕ) (b : Board) (n : ℕ) (settled : Settled) (now : List State) → first_ready b.slots ≡ Some n → settled_of b n ≡ Some settled
-    → HasHeard start notes count b now → HasHeard start notes count (settled_as b n settled.verdict) now
+pub heard_settled : SettlingLaws → (start : RunStart) (notes : List Note) (count : ℕ) (b : Board) (n : ℕ) (settled : Settled) (now : List State) → first_ready b.slots ≡ Some n → settled_of b n ≡ Some settled
+    → RunHasHeard start notes count b now → RunHasHeard start notes count (settled_as b n settled.verdict) now
 heard_settled below start notes count b n settled now ready comes heard = record {
   config = heard.config;
   reached = below.reached start.config start.olds notes b n settled heard.reached ready comes;
@@ -103,7 +103,7 @@ heard_settled below start notes count b n settled now ready comes heard = record
   lanes = heard.lanes;
 }
 
-pub under_settled : Below → (start : Start) (notes : List Note) (count : ℕ) (b : Board) (n : ℕ) (settled : Settled) (now : List State) → first_ready b.slots ≡ Some n → settled_of b n ≡ Some settled
+pub under_settled : SettlingLaws → (start : RunStart) (notes : List Note) (count : ℕ) (b : Board) (n : ℕ) (settled : Settled) (now : List State) → first_ready b.slots ≡ Some n → settled_of b n ≡ Some settled
     → IsUnderWay start notes count b now → IsUnderWay start notes count (settled_as b n settled.verdict) now
 under_settled below start notes count b n settled now ready comes under = record {
   heard = heard_settled below start notes count b n settled now ready comes under.heard;
@@ -150,30 +150,30 @@ abbrev pub ready_count : List Slot → ℕ
 ready_count [] = 0
 ready_count (slot ∷ slots) = (if is_ready slot then 1 else 0) + ready_count slots
 
-fewer_ready : (slots : List Slot) (n : ℕ) → first_ready slots ≡ Some n → ready_count (changed_at n (λ slot. Closed) slots) < ready_count slots
+fewer_ready : (slots : List Slot) (n : ℕ) → first_ready slots ≡ Some n → ready_count (changed_at n (λ slot. SettledSlot) slots) < ready_count slots
 fewer_ready [] n e = absurd (cc)
 fewer_ready (slot ∷ slots) n e = elim (cases_Bool (is_ready slot)) [
   | inl is ↦
       let zero_is : Some 0 ≡ Some n = rw is at e in
       let same : 0 ≡ n = cc in
-      subst (λ (k : ℕ). ready_count (changed_at k (λ slot. Closed) (slot ∷ slots)) < ready_count (slot ∷ slots)) same (rw is (omega arith))
+      subst (λ (k : ℕ). ready_count (changed_at k (λ slot. SettledSlot) (slot ∷ slots)) < ready_count (slot ∷ slots)) same (rw is (omega arith))
   | inr isnt ↦ later (fewer_ready slots) (first_ready slots) refl (rw isnt at e)
 ]
   where
-    later : ((k : ℕ) → first_ready slots ≡ Some k → ready_count (changed_at k (λ slot. Closed) slots) < ready_count slots) → (o : Option ℕ) → first_ready slots ≡ o → option_map (λ k. k + 1) o ≡ Some n
-        → ready_count (changed_at n (λ slot. Closed) (slot ∷ slots)) < ready_count (slot ∷ slots)
+    later : ((k : ℕ) → first_ready slots ≡ Some k → ready_count (changed_at k (λ slot. SettledSlot) slots) < ready_count slots) → (o : Option ℕ) → first_ready slots ≡ o → option_map (λ k. k + 1) o ≡ Some n
+        → ready_count (changed_at n (λ slot. SettledSlot) (slot ∷ slots)) < ready_count (slot ∷ slots)
     later less None is e = absurd (cc)
     later less (Some k) is e =
         let same : suc k ≡ n = let q : k + 1 ≡ n = cc in omega arith in
         let fewer = less k is in
-        subst (λ (m : ℕ). ready_count (changed_at m (λ slot. Closed) (slot ∷ slots)) < ready_count (slot ∷ slots)) same (omega (arith, fewer))
+        subst (λ (m : ℕ). ready_count (changed_at m (λ slot. SettledSlot) (slot ∷ slots)) < ready_count (slot ∷ slots)) same (omega (arith, fewer))
 
 pub fewer_settled : (b c : Board) (n : ℕ) → first_ready b.slots ≡ Some n → HasSettled n b c → ready_count c.slots < ready_count b.slots
 fewer_settled b c n ready settled = subst (λ (x : Board). ready_count x.slots < ready_count b.slots) (sym settled.is) (fewer_ready b.slots n ready)
 
 -- ---- nothing more is asked
 
-slot_then : (slots : List Slot) (n m : ℕ) → (slice_get (changed_at n (λ slot. Closed) slots) m ≡ slice_get slots m) ⊎ (slice_get (changed_at n (λ slot. Closed) slots) m ≡ Some Closed)
+slot_then : (slots : List Slot) (n m : ℕ) → (slice_get (changed_at n (λ slot. SettledSlot) slots) m ≡ slice_get slots m) ⊎ (slice_get (changed_at n (λ slot. SettledSlot) slots) m ≡ Some SettledSlot)
 slot_then [] n m = inl refl
 slot_then (slot ∷ slots) zero zero = inr refl
 slot_then (slot ∷ slots) zero (suc m) = inl refl
@@ -183,20 +183,20 @@ slot_then (slot ∷ slots) (suc n) (suc m) = slot_then slots n m
 abbrev asker_by : Key → Source → Option Ask → Option Asker
 asker_by key source o = o >>= λ (ask : Ask). Some (record { key = key; source = source; ask = ask })
 
-abbrev asker_with : List Slot → Config → Option Key → Option Asker
+abbrev asker_with : List Slot → Setup → Option Key → Option Asker
 asker_with slots config key = key >>= λ (k : Key). slice_get config.sources k.source >>= λ (source : Source). asker_by k source (ask_of (item_at slots k))
 
 asker_then : (b : Board) (n : ℕ) (verdict : Verdict2) (number : ℕ) (key : Option Key) → asker_with b.slots b.config key ≡ None → asker_with (settled_as b n verdict).slots b.config key ≡ None
 asker_then b n verdict number None e = refl
 asker_then b n verdict number (Some key) e = one (slice_get b.config.sources key.source) e
   where
-    two : (source : Source) → (slice_get (changed_at n (λ slot. Closed) b.slots) key.source ≡ slice_get b.slots key.source) ⊎ (slice_get (changed_at n (λ slot. Closed) b.slots) key.source ≡ Some Closed)
-        → asker_by key source (ask_of (item_at b.slots key)) ≡ None → asker_by key source (ask_of (item_at (changed_at n (λ slot. Closed) b.slots) key)) ≡ None
+    two : (source : Source) → (slice_get (changed_at n (λ slot. SettledSlot) b.slots) key.source ≡ slice_get b.slots key.source) ⊎ (slice_get (changed_at n (λ slot. SettledSlot) b.slots) key.source ≡ Some SettledSlot)
+        → asker_by key source (ask_of (item_at b.slots key)) ≡ None → asker_by key source (ask_of (item_at (changed_at n (λ slot. SettledSlot) b.slots) key)) ≡ None
     two source (inl same) e = rw same e
     two source (inr closed) e = rw closed refl
 
     one : (o : Option Source) → (o >>= λ (source : Source). asker_by key source (ask_of (item_at b.slots key))) ≡ None
-        → (o >>= λ (source : Source). asker_by key source (ask_of (item_at (changed_at n (λ slot. Closed) b.slots) key))) ≡ None
+        → (o >>= λ (source : Source). asker_by key source (ask_of (item_at (changed_at n (λ slot. SettledSlot) b.slots) key))) ≡ None
     one None e = refl
     one (Some source) e = two source (slot_then b.slots n key.source) e
 

@@ -4,58 +4,58 @@ use Rattle.std.proofs.lemmas.Bool.Decides.{nat_tests}
 use Rattle.std.proofs.lemmas.List.{append-nil, drop_all, take_all}
 use Rattle.std.specs.Prelude.{filter, if◌then◌else◌, slice_get, ◌==◌}
 use Rattle.std.specs.List.{AllByRecursion as Each}
-use Rattle.acq_base.specs.Mirror.{World as Mirror}
+use Rattle.acq_base.specs.Mirror.{MirrorMap}
 use Rattle.acq_base.specs.declared.plan.Source.{Source}
 use Rattle.acq_base.specs.declared.settings.Settings.{Settings}
 use Rattle.acq_outside.specs.Crash.{IsShown, State, reads}
 use Rattle.acq_outside.specs.Disk.{Files}
-use Rattle.acq_outside.specs.Moments.{From, IsTold, Since, Stands, ToldAs}
+use Rattle.acq_outside.specs.States.{From, IsTold, Since, IsNow, ToldAs}
 use Rattle.board_model.specs.Agreeing.{Agrees}
 use Rattle.board_model.specs.Boards.{Board}
 use Rattle.board_model.specs.Runs.{Note}
-use Rattle.board_model.specs.Slots.{Config}
-use Rattle.commit_journal.specs.Opening.{FindsDamage as FindsNoDamage, IsOfOpening, LeavesOthers, Recovers}
+use Rattle.board_model.specs.Slots.{Setup}
+use Rattle.commit_journal.specs.Opening.{FindsDamage as FindsNoDamage, IsOfOpening, KeepsFilesBut, Recovers}
 use Rattle.commit_journal.specs.declared.opening.Journal.{Journal}
 use Rattle.journal_model.specs.Names.{journal}
-use Rattle.journal_model.specs.Reopen.{lists_now}
-use Rattle.journal_model.specs.Rest.{IsAtRest, IsIdle, IsSettled, KeepsRest}
-use Rattle.list_commits.specs.Made.{Made, none, rests}
+use Rattle.journal_model.specs.Reopen.{installed_now}
+use Rattle.journal_model.specs.Rest.{IsAtRest, IsIdle, IsSynced, KeptAtRestSince}
+use Rattle.list_commits.specs.Made.{CommitsMade, none, rests}
 use Rattle.run_jobs.specs.Counting.{CountsUp}
-use Rattle.run_jobs.specs.Running.{Begun as Start, IsReady, IsSoundBegun, IsUnderWay}
-use Rattle.run_model.specs.Begun.{Begun}
+use Rattle.run_jobs.specs.Running.{RunStart, MayAsk, IsSoundBegun, IsUnderWay}
+use Rattle.run_model.specs.Begun.{RunInput}
 use Rattle.run_model.specs.Groups.{Group, all_groups, commits_of}
-use Rattle.run_model.specs.Runs.{AreAll, MayHaveBegun, is_told_installed}
-use Rattle.update_model.specs.Outcomes.{Parts}
+use Rattle.run_model.specs.Runs.{AreAllGroups, MayBeCommitted, is_told_installed}
+use Rattle.update_model.specs.Outcomes.{PartFiles}
 use Rattle.update_model.specs.declared.log.Asked.{Asked}
 use Rattle.update_model.specs.declared.log.RunLog.{RunLog}
 use Rattle.run_model.proofs.Counting.{verdicts_count}
-use Rattle.update_engine.specs.Known.{Committing}
-use Rattle.update_engine.specs.Run.{Engine, FaultsRise, FindsDamage, ForMirror, HasFinished, HasOpened, IsReadFrom, KeepsMethods, Logged, Run, StaysSafe, StopsAtMoment, asks_of_lane}
-use Rattle.update_engine.specs.Session.{Ends, EndsLast, GoesFar, GoesFarWith, HasBegunOver, HasCommittedSets, HasEnded, HasStarted, IsAtMoment, IsEnd, IsStanding, Starts, StopsFar, StopsLast, begun_of}
+use Rattle.update_engine.specs.Known.{CommittingLaws}
+use Rattle.update_engine.specs.Run.{Engine, FaultsRise, FindsDamage, ForMirror, HasFinished, HasOpenedJournal, IsReadFromDisk, KeepsMethods, LogIsTrue, Run, SurvivesCrash, StopsAmongCommits, asks_of_lane}
+use Rattle.update_engine.specs.Session.{EndsWithLog, CommitsAll, RunGoesOn, RunGoesOnWith, RunsOverLists, HasCommittedSets, HasCommittedAll, IsNewRun, HasProgress, IsLogOfRun, MayCommit, StartsRun, StopsWhileAsking, StopsWhileEnding, begun_of}
 use Rattle.update_engine.proofs.Committing.{settled_made, told_on}
 use Rattle.update_engine.proofs.Lists.{each_more, none_fall}
 
 -- ---- what is known at its jobs
 
-pub starts_ready : (run : Run) (mirror : Option Mirror) (count : ℕ) (now later : List State) (b : Board) → Starts run now b → later ≡ now → Stands IsIdle now → IsReady mirror count b later
+pub starts_ready : (run : Run) (mirror : Option MirrorMap) (count : ℕ) (now later : List State) (b : Board) → StartsRun run now b → later ≡ now → IsNow IsIdle now → MayAsk mirror count b later
 starts_ready run mirror count now later b starts same idle =
-    let h : HasStarted run mirror count now b = starts mirror count in
-    subst (IsReady mirror count b) (sym same)
+    let h : IsNewRun run mirror count now b = starts mirror count in
+    subst (MayAsk mirror count b) (sym same)
     (record { begun = h.start; notes = []; sound = h.sound; from = h.from; under_way = h.under_way; idle = idle })
 
-pub starts_change : (run : Run) (mirror : Option Mirror) (count : ℕ) (now : List State) (b : Board) → Starts run now b → run.change ≡ b.config.change
+pub starts_change : (run : Run) (mirror : Option MirrorMap) (count : ℕ) (now : List State) (b : Board) → StartsRun run now b → run.change ≡ b.config.change
 starts_change run mirror count now b starts =
-    let h : HasStarted run mirror count now b = starts mirror count in
-    sym (ap (λ (c : Config). c.change) h.under_way.heard.config ∙ h.of_run.change)
+    let h : IsNewRun run mirror count now b = starts mirror count in
+    sym (ap (λ (c : Setup). c.change) h.under_way.heard.config ∙ h.of_run.change)
 
-pub far_stands : (mirror : Option Mirror) (count later : ℕ) (b c : Board) (old now : List State) → IsReady mirror count b old → GoesFar mirror count later b c old now → Stands IsIdle now → IsStanding c now
+pub far_stands : (mirror : Option MirrorMap) (count later : ℕ) (b c : Board) (old now : List State) → MayAsk mirror count b old → RunGoesOn mirror count later b c old now → IsNow IsIdle now → MayCommit c now
 far_stands mirror count later b c old now ready far idle =
     let w = far ready.begun ready.notes ready.sound ready.from ready.under_way in
     record { start = ready.begun; notes = _; count = later; sound = ready.sound; under_way = w.under_way; idle = idle }
 
 -- ---- what a disk tells
 
-told_as : (P : State → Type 0) (now : List State) → Stands P now → IsTold now → ToldAs P now
+told_as : (P : State → Type 0) (now : List State) → IsNow P now → IsTold now → ToldAs P now
 told_as P [] is told = absurd told
 told_as P (s ∷ past) is told = is
 
@@ -63,7 +63,7 @@ was_told : (P : State → Type 0) (now : List State) → ToldAs P now → IsTold
 was_told P [] is = absurd is
 was_told P (s ∷ past) is = tt
 
-pub was : (P : State → Type 0) (now : List State) → ToldAs P now → Stands P now
+pub was : (P : State → Type 0) (now : List State) → ToldAs P now → IsNow P now
 was P [] is = absurd is
 was P (s ∷ past) is = is
 
@@ -74,7 +74,7 @@ still_told tells later files after (s ∷ past) [] shown is same told = absurd (
 still_told tells later files after (s ∷ past) (t ∷ more) shown is same told = tt
 
 -- P of the mirror that the first method tells
-for_first : (told : Option Mirror) (others : List (Option Mirror)) (P : Mirror → Type 0) → IfSome told P → ForMirror (told ∷ others) P
+for_first : (told : Option MirrorMap) (others : List (Option MirrorMap)) (P : MirrorMap → Type 0) → IfSome told P → ForMirror (told ∷ others) P
 for_first None others P is = tt
 for_first (Some mirror) others P is = λ same. is
 
@@ -82,20 +82,20 @@ for_first (Some mirror) others P is = λ same. is
 
 -- the journal was opened over a disk that tells and was settled
 pub record IsOpen (entry opened : List State) : Type 0 where
-  pub opens : HasOpened entry opened
+  pub opens : HasOpenedJournal entry opened
   pub told : IsTold opened
-  pub idle : Stands IsIdle opened
+  pub idle : IsNow IsIdle opened
 
-others_left : (tells : Bool) (files : Files) (entry opened : List State) → IsShown tells files entry → (IsTrue tells → LeavesOthers (IsOfOpening (files journal)) entry opened)
-    → Stands (λ (s : State). LeavesOthers (IsOfOpening (reads s journal)) entry opened) entry
+others_left : (tells : Bool) (files : Files) (entry opened : List State) → IsShown tells files entry → (IsTrue tells → KeepsFilesBut (IsOfOpening (files journal)) entry opened)
+    → IsNow (λ (s : State). KeepsFilesBut (IsOfOpening (reads s journal)) entry opened) entry
 others_left tells files [] opened shown others = tt
-others_left tells files (s ∷ past) opened shown others = subst (λ (f : Files). LeavesOthers (IsOfOpening (f journal)) (s ∷ past) opened) shown.1 (others shown.0)
+others_left tells files (s ∷ past) opened shown others = subst (λ (f : Files). KeepsFilesBut (IsOfOpening (f journal)) (s ∷ past) opened) shown.1 (others shown.0)
 
-pub is_open : (tells : Bool) (files : Files) (entry opened later : List State) → IsShown tells files entry → Since entry opened (From Recovers entry) → (IsTrue tells → LeavesOthers (IsOfOpening (files journal)) entry opened)
-    → (Stands IsSettled entry → Stands (IsAtRest (lists_now entry)) opened) → Stands IsIdle opened → later ≡ opened → ToldAs IsSettled entry → IsOpen entry later
+pub is_open : (tells : Bool) (files : Files) (entry opened later : List State) → IsShown tells files entry → Since entry opened (From Recovers entry) → (IsTrue tells → KeepsFilesBut (IsOfOpening (files journal)) entry opened)
+    → (IsNow IsSynced entry → IsNow (IsAtRest (installed_now entry)) opened) → IsNow IsIdle opened → later ≡ opened → ToldAs IsSynced entry → IsOpen entry later
 is_open tells files entry opened later shown recovers others at_rest idle same settled = subst (IsOpen entry) (sym same) (record {
-  opens = record { recovers = recovers; others = others_left tells files entry opened shown others; rests = at_rest (was IsSettled entry settled) };
-  told = told_on (From Recovers entry) entry opened recovers (was_told IsSettled entry settled);
+  opens = record { recovers = recovers; others = others_left tells files entry opened shown others; rests = at_rest (was IsSynced entry settled) };
+  told = told_on (From Recovers entry) entry opened recovers (was_told IsSynced entry settled);
   idle = idle;
 })
 
@@ -105,19 +105,19 @@ none_found None j log finds = λ at wrong. absurd (cc)
 none_found (Some at) j log finds = ⊎_elim (λ wrong. absurd (cc)) (⊎_elim (λ wrong. absurd (cc)) (λ wrong. absurd (cc))) finds
 
 -- so far no more was done
-pub stays_unopened : (run : Run) (before after : Engine) (opened : List State) → Since before.trace opened (From Recovers before.trace) → (Stands IsSettled before.trace → Stands IsSettled opened) → after.trace ≡ opened → StaysSafe run before after
+pub stays_unopened : (run : Run) (before after : Engine) (opened : List State) → Since before.trace opened (From Recovers before.trace) → (IsNow IsSynced before.trace → IsNow IsSynced opened) → after.trace ≡ opened → SurvivesCrash run before after
 stays_unopened run before after opened recovers is_settled same = record {
   stops = λ settled. inl (subst (λ (t : List State). Since before.trace t (From Recovers before.trace)) (sym same) recovers);
-  settled = λ settled. subst (Stands IsSettled) (sym same) (is_settled (was IsSettled before.trace settled));
+  settled = λ settled. subst (IsNow IsSynced) (sym same) (is_settled (was IsSynced before.trace settled));
 }
 
 -- ---- where it stops
 
-is_read : (run : Run) (mirror : Option Mirror) (count : ℕ) (entry opened : List State) (b : Board) → IsOpen entry opened → (h : HasStarted run mirror count opened b) → IsReadFrom entry opened (begun_of h.start)
-is_read run mirror count entry opened b ready_at h = h.read entry (told_as (IsAtRest (lists_now entry)) opened ready_at.opens.rests ready_at.told)
+is_read : (run : Run) (mirror : Option MirrorMap) (count : ℕ) (entry opened : List State) (b : Board) → IsOpen entry opened → (h : IsNewRun run mirror count opened b) → IsReadFromDisk entry opened (begun_of h.start)
+is_read run mirror count entry opened b ready_at h = h.read entry (told_as (IsAtRest (installed_now entry)) opened ready_at.opens.rests ready_at.told)
 
-stops_at : (run : Run) (mirror : Option Mirror) (others : List (Option Mirror)) (count : ℕ) (entry opened now : List State) (b : Board) → IsOpen entry opened → (h : HasStarted run mirror count opened b) → IsTold now
-    → IsAtMoment h.start run.together (lists_now entry) opened now → StopsAtMoment run (mirror ∷ others) entry now
+stops_at : (run : Run) (mirror : Option MirrorMap) (others : List (Option MirrorMap)) (count : ℕ) (entry opened now : List State) (b : Board) → IsOpen entry opened → (h : IsNewRun run mirror count opened b) → IsTold now
+    → HasProgress h.start run.together (installed_now entry) opened now → StopsAmongCommits run (mirror ∷ others) entry now
 stops_at run mirror others count entry opened now b ready_at h told m = record {
   opened = opened;
   opens = ready_at.opens;
@@ -129,24 +129,24 @@ stops_at run mirror others count entry opened now b ready_at h told m = record {
   started = m.started;
   moment = m.moment;
   has = m.has;
-  answers = for_first mirror others (λ (w : Mirror). Agrees w h.start.parts h.start.config.sources m.has.heard)
-      (subst (λ (o : Option Mirror). IfSome o (λ (w : Mirror). Agrees w h.start.parts h.start.config.sources m.has.heard)) h.from (m.agrees told));
+  answers = for_first mirror others (λ (w : MirrorMap). Agrees w h.start.parts h.start.config.sources m.has.heard)
+      (subst (λ (o : Option MirrorMap). IfSome o (λ (w : MirrorMap). Agrees w h.start.parts h.start.config.sources m.has.heard)) h.from (m.agrees told));
 }
 
-stays_at : (run : Run) (mirror mirror' : Option Mirror) (others others' : List (Option Mirror)) (counts counts' : List ℕ) (count : ℕ) (entry opened now : List State) (b : Board) → (ToldAs IsSettled entry → IsOpen entry opened)
-    → (h : HasStarted run mirror count opened b) → (IsTold entry → IsTold now) → (IsOpen entry opened → IsAtMoment h.start run.together (lists_now entry) opened now)
-    → StaysSafe run (record { trace = entry; mirrors = mirror ∷ others; faults = counts }) (record { trace = now; mirrors = mirror' ∷ others'; faults = counts' })
+stays_at : (run : Run) (mirror mirror' : Option MirrorMap) (others others' : List (Option MirrorMap)) (counts counts' : List ℕ) (count : ℕ) (entry opened now : List State) (b : Board) → (ToldAs IsSynced entry → IsOpen entry opened)
+    → (h : IsNewRun run mirror count opened b) → (IsTold entry → IsTold now) → (IsOpen entry opened → HasProgress h.start run.together (installed_now entry) opened now)
+    → SurvivesCrash run (record { trace = entry; mirrors = mirror ∷ others; faults = counts }) (record { trace = now; mirrors = mirror' ∷ others'; faults = counts' })
 stays_at run mirror mirror' others others' counts counts' count entry opened now b ready_at h told at = record {
-  stops = λ settled. inr (stops_at run mirror others count entry opened now b (ready_at settled) h (told (was_told IsSettled entry settled)) (at (ready_at settled)));
+  stops = λ settled. inr (stops_at run mirror others count entry opened now b (ready_at settled) h (told (was_told IsSynced entry settled)) (at (ready_at settled)));
   settled = λ settled. (at (ready_at settled)).settled (ready_at settled).opens.rests;
 }
 
-none_heard : (mirror : Option Mirror) (parts : Parts) (sources : List Source) → IfSome mirror (λ (w : Mirror). Agrees w parts sources [])
+none_heard : (mirror : Option MirrorMap) (parts : PartFiles) (sources : List Source) → IfSome mirror (λ (w : MirrorMap). Agrees w parts sources [])
 none_heard None parts sources = tt
 none_heard (Some mirror) parts sources = tt
 
 -- no set is committed so far
-sets_none : (start : Start) (opened : List State) (b : Board) → IsTold opened → b.settled ≡ [] → HasCommittedSets (begun_of start) [] opened opened b
+sets_none : (start : RunStart) (opened : List State) (b : Board) → IsTold opened → b.settled ≡ [] → HasCommittedSets (begun_of start) [] opened opened b
 sets_none start opened b told unsettled = record {
   told = told;
   commits = [];
@@ -157,11 +157,11 @@ sets_none start opened b told unsettled = record {
 }
 
 -- within its jobs: one by one at a moment of its commits, and together before any
-at_asking : Committing → (together : Bool) (mirror : Option Mirror) (count : ℕ) (start : Start) (lists : Files) (opened now : List State) (b : Board) → IsSoundBegun start → start.mirror ≡ mirror → IsUnderWay start [] count b opened
-    → IsTold opened → Stands IsIdle opened → b.settled ≡ [] → StopsFar mirror count b opened now → (together ≡ true → Since opened now (KeepsRest opened)) → IsAtMoment start together lists opened now
+at_asking : CommittingLaws → (together : Bool) (mirror : Option MirrorMap) (count : ℕ) (start : RunStart) (lists : Files) (opened now : List State) (b : Board) → IsSoundBegun start → start.mirror ≡ mirror → IsUnderWay start [] count b opened
+    → IsTold opened → IsNow IsIdle opened → b.settled ≡ [] → StopsWhileAsking mirror count b opened now → (together ≡ true → Since opened now (KeptAtRestSince opened)) → HasProgress start together lists opened now
 at_asking laws false mirror count start lists opened now b sound from under told idle unsettled stops bare = stops start [] lists opened sound from under (sets_none start opened b told unsettled)
 at_asking laws true mirror count start lists opened now b sound from under told idle unsettled stops bare =
-    let made : Made [] opened now = rests none idle (bare refl) in
+    let made : CommitsMade [] opened now = rests none idle (bare refl) in
     record {
       commits = [];
       acknowledged = 0;
@@ -172,19 +172,19 @@ at_asking laws true mirror count start lists opened now b sound from under told 
       settled = λ rest. settled_made laws [] lists opened now made rest;
     }
 
-pub safe_asking : Committing → (run : Run) (mirror mirror' : Option Mirror) (others others' : List (Option Mirror)) (counts counts' : List ℕ) (count : ℕ) (entry opened now : List State) (b : Board) → (ToldAs IsSettled entry → IsOpen entry opened)
-    → Starts run opened b → (IsTold entry → IsTold now) → StopsFar mirror count b opened now → (run.together ≡ true → Since opened now (KeepsRest opened))
-    → StaysSafe run (record { trace = entry; mirrors = mirror ∷ others; faults = counts }) (record { trace = now; mirrors = mirror' ∷ others'; faults = counts' })
+pub safe_asking : CommittingLaws → (run : Run) (mirror mirror' : Option MirrorMap) (others others' : List (Option MirrorMap)) (counts counts' : List ℕ) (count : ℕ) (entry opened now : List State) (b : Board) → (ToldAs IsSynced entry → IsOpen entry opened)
+    → StartsRun run opened b → (IsTold entry → IsTold now) → StopsWhileAsking mirror count b opened now → (run.together ≡ true → Since opened now (KeptAtRestSince opened))
+    → SurvivesCrash run (record { trace = entry; mirrors = mirror ∷ others; faults = counts }) (record { trace = now; mirrors = mirror' ∷ others'; faults = counts' })
 safe_asking laws run mirror mirror' others others' counts counts' count entry opened now b ready_at starts told stops bare =
-    let h : HasStarted run mirror count opened b = starts mirror count in
+    let h : IsNewRun run mirror count opened b = starts mirror count in
     stays_at run mirror mirror' others others' counts counts' count entry opened now b ready_at h told
-    (λ is. at_asking laws run.together mirror count h.start (lists_now entry) opened now b h.sound h.from h.under_way is.told is.idle h.none stops bare)
+    (λ is. at_asking laws run.together mirror count h.start (installed_now entry) opened now b h.sound h.from h.under_way is.told is.idle h.none stops bare)
 
 -- ---- at its end
 
 -- so far it has heard more, and committed its sets
-begun_over : (run : Run) (mirror : Option Mirror) (count later : ℕ) (entry opened mid : List State) (b c : Board) → IsOpen entry opened → (h : HasStarted run mirror count opened b) → (w : GoesFarWith h.start [] later b c opened mid)
-    → (run.together ≡ true → c.settled ≡ b.settled) → HasBegunOver run.together h.start ([] ++ w.more) later (lists_now entry) opened mid c
+begun_over : (run : Run) (mirror : Option MirrorMap) (count later : ℕ) (entry opened mid : List State) (b c : Board) → IsOpen entry opened → (h : IsNewRun run mirror count opened b) → (w : RunGoesOnWith h.start [] later b c opened mid)
+    → (run.together ≡ true → c.settled ≡ b.settled) → RunsOverLists run.together h.start ([] ++ w.more) later (installed_now entry) opened mid c
 begun_over run mirror count later entry opened mid b c ready_at h w unsettled = record {
   sound = h.sound;
   under_way = w.under_way;
@@ -194,26 +194,26 @@ begun_over run mirror count later entry opened mid b c ready_at h w unsettled = 
   over = (is_read run mirror count entry opened b ready_at h).begins;
 }
 
-cleanup_is : (run : Run) (mirror : Option Mirror) (count : ℕ) (opened : List State) (b : Board) (cleanup : Bool) → (h : HasStarted run mirror count opened b) → run.settings.cleanup ≡ cleanup → h.start.config.settings.cleanup ≡ cleanup
+cleanup_is : (run : Run) (mirror : Option MirrorMap) (count : ℕ) (opened : List State) (b : Board) (cleanup : Bool) → (h : IsNewRun run mirror count opened b) → run.settings.cleanup ≡ cleanup → h.start.config.settings.cleanup ≡ cleanup
 cleanup_is run mirror count opened b cleanup h switch = ap (λ (s : Settings). s.cleanup) h.of_run.settings ∙ switch
 
-pub safe_ending : (run : Run) (mirror mirror' : Option Mirror) (others others' : List (Option Mirror)) (counts counts' : List ℕ) (count later : ℕ) (entry opened mid now : List State) (b c : Board) (cleanup : Bool)
-    → (ToldAs IsSettled entry → IsOpen entry opened) → Starts run opened b → (IsTold entry → IsTold now) → run.settings.cleanup ≡ cleanup → GoesFar mirror count later b c opened mid → (run.together ≡ true → c.settled ≡ b.settled)
-    → StopsLast run.together cleanup c mid now
-    → StaysSafe run (record { trace = entry; mirrors = mirror ∷ others; faults = counts }) (record { trace = now; mirrors = mirror' ∷ others'; faults = counts' })
+pub safe_ending : (run : Run) (mirror mirror' : Option MirrorMap) (others others' : List (Option MirrorMap)) (counts counts' : List ℕ) (count later : ℕ) (entry opened mid now : List State) (b c : Board) (cleanup : Bool)
+    → (ToldAs IsSynced entry → IsOpen entry opened) → StartsRun run opened b → (IsTold entry → IsTold now) → run.settings.cleanup ≡ cleanup → RunGoesOn mirror count later b c opened mid → (run.together ≡ true → c.settled ≡ b.settled)
+    → StopsWhileEnding run.together cleanup c mid now
+    → SurvivesCrash run (record { trace = entry; mirrors = mirror ∷ others; faults = counts }) (record { trace = now; mirrors = mirror' ∷ others'; faults = counts' })
 safe_ending run mirror mirror' others others' counts counts' count later entry opened mid now b c cleanup ready_at starts told switch far unsettled stops =
-    let h : HasStarted run mirror count opened b = starts mirror count in
-    let w : GoesFarWith h.start [] later b c opened mid = far h.start [] h.sound h.from h.under_way in
+    let h : IsNewRun run mirror count opened b = starts mirror count in
+    let w : RunGoesOnWith h.start [] later b c opened mid = far h.start [] h.sound h.from h.under_way in
     stays_at run mirror mirror' others others' counts counts' count entry opened now b ready_at h told
-    (λ is. stops h.start ([] ++ w.more) later (lists_now entry) opened (cleanup_is run mirror count opened b cleanup h switch) (begun_over run mirror count later entry opened mid b c is h w unsettled))
+    (λ is. stops h.start ([] ++ w.more) later (installed_now entry) opened (cleanup_is run mirror count opened b cleanup h switch) (begun_over run mirror count later entry opened mid b c is h w unsettled))
 
-all_may : (together : Bool) (begun : Begun) (lists : Files) (b : Board) (groups : List Group) → AreAll begun lists b groups → MayHaveBegun together begun lists b groups
+all_may : (together : Bool) (begun : RunInput) (lists : Files) (b : Board) (groups : List Group) → AreAllGroups begun lists b groups → MayBeCommitted together begun lists b groups
 all_may false begun lists b groups all = inr all
 all_may true begun lists b groups all = inr all
 
 -- all commits are made
-ended_at : Committing → (together : Bool) (start : Start) (notes : List Note) (lists : Files) (opened now : List State) (log : RunLog) → (IsTold now → IfSome start.mirror (λ (w : Mirror). Agrees w start.parts start.config.sources notes))
-    → HasEnded together start notes lists opened now log → IsAtMoment start together lists opened now
+ended_at : CommittingLaws → (together : Bool) (start : RunStart) (notes : List Note) (lists : Files) (opened now : List State) (log : RunLog) → (IsTold now → IfSome start.mirror (λ (w : MirrorMap). Agrees w start.parts start.config.sources notes))
+    → HasCommittedAll together start notes lists opened now log → HasProgress start together lists opened now
 ended_at laws together start notes lists opened now log agree e = record {
   commits = e.commits;
   acknowledged = length (commits_of e.commits);
@@ -228,20 +228,20 @@ ended_at laws together start notes lists opened now log agree e = record {
     in_turn = e.ran.in_turn;
     shape = e.ran.shape;
   };
-  agrees = λ told. subst (λ (ns : List Note). IfSome start.mirror (λ (w : Mirror). Agrees w start.parts start.config.sources ns)) (sym e.same) (agree told);
+  agrees = λ told. subst (λ (ns : List Note). IfSome start.mirror (λ (w : MirrorMap). Agrees w start.parts start.config.sources ns)) (sym e.same) (agree told);
   settled = λ rest. settled_made laws (commits_of e.commits) lists opened now e.made rest;
 }
 
-pub safe_ended : Committing → (run : Run) (mirror mirror' : Option Mirror) (others others' : List (Option Mirror)) (counts counts' : List ℕ) (count later : ℕ) (entry opened mid now : List State) (b c : Board) (cleanup : Bool) (log : RunLog)
-    → (ToldAs IsSettled entry → IsOpen entry opened) → Starts run opened b → (IsTold entry → IsTold now) → (IsTold now → IsTold mid) → run.settings.cleanup ≡ cleanup → GoesFar mirror count later b c opened mid
-    → (run.together ≡ true → c.settled ≡ b.settled) → EndsLast run.together cleanup c mid now log
-    → StaysSafe run (record { trace = entry; mirrors = mirror ∷ others; faults = counts }) (record { trace = now; mirrors = mirror' ∷ others'; faults = counts' })
+pub safe_ended : CommittingLaws → (run : Run) (mirror mirror' : Option MirrorMap) (others others' : List (Option MirrorMap)) (counts counts' : List ℕ) (count later : ℕ) (entry opened mid now : List State) (b c : Board) (cleanup : Bool) (log : RunLog)
+    → (ToldAs IsSynced entry → IsOpen entry opened) → StartsRun run opened b → (IsTold entry → IsTold now) → (IsTold now → IsTold mid) → run.settings.cleanup ≡ cleanup → RunGoesOn mirror count later b c opened mid
+    → (run.together ≡ true → c.settled ≡ b.settled) → CommitsAll run.together cleanup c mid now log
+    → SurvivesCrash run (record { trace = entry; mirrors = mirror ∷ others; faults = counts }) (record { trace = now; mirrors = mirror' ∷ others'; faults = counts' })
 safe_ended laws run mirror mirror' others others' counts counts' count later entry opened mid now b c cleanup log ready_at starts told back switch far unsettled ends =
-    let h : HasStarted run mirror count opened b = starts mirror count in
-    let w : GoesFarWith h.start [] later b c opened mid = far h.start [] h.sound h.from h.under_way in
+    let h : IsNewRun run mirror count opened b = starts mirror count in
+    let w : RunGoesOnWith h.start [] later b c opened mid = far h.start [] h.sound h.from h.under_way in
     stays_at run mirror mirror' others others' counts counts' count entry opened now b ready_at h told
-    (λ is. ended_at laws run.together h.start ([] ++ w.more) (lists_now entry) opened now log (λ told_now. w.under_way.heard.answers (back told_now))
-    (ends h.start ([] ++ w.more) later (lists_now entry) opened (cleanup_is run mirror count opened b cleanup h switch) (begun_over run mirror count later entry opened mid b c is h w unsettled)))
+    (λ is. ended_at laws run.together h.start ([] ++ w.more) (installed_now entry) opened now log (λ told_now. w.under_way.heard.answers (back told_now))
+    (ends h.start ([] ++ w.more) later (installed_now entry) opened (cleanup_is run mirror count opened b cleanup h switch) (begun_over run mirror count later entry opened mid b c is h w unsettled)))
 
 -- ---- the faults of each method
 
@@ -274,35 +274,35 @@ faults_rise count later counts asks up each = record {
         subst (CountsUp first last) (sym (lane_other lane asks each)) (omega (arith, same))
 
 -- only the first method was used
-pub keeps_others : (mirror mirror' : Option Mirror) (others : List (Option Mirror)) (count later : ℕ) (counts : List ℕ) (entry now : List State) → mirror' ≡ mirror → count ≤ later
+pub keeps_others : (mirror mirror' : Option MirrorMap) (others : List (Option MirrorMap)) (count later : ℕ) (counts : List ℕ) (entry now : List State) → mirror' ≡ mirror → count ≤ later
     → KeepsMethods (record { trace = entry; mirrors = mirror ∷ others; faults = count ∷ counts }) (record { trace = now; mirrors = mirror' ∷ others; faults = later ∷ counts })
-keeps_others mirror mirror' others count later counts entry now same rose = record { mirrors = ap (λ (m : Option Mirror). m ∷ others) same; counts = (rose, none_fall counts) }
+keeps_others mirror mirror' others count later counts entry now same rose = record { mirrors = ap (λ (m : Option MirrorMap). m ∷ others) same; counts = (rose, none_fall counts) }
 
 -- ---- its log
 
-pub logged : Committing → (run : Run) (mirror mirror' : Option Mirror) (others others' : List (Option Mirror)) (counts : List ℕ) (count later : ℕ) (entry opened mid now : List State) (b c : Board) (cleanup : Bool) (log : RunLog)
-    → (ToldAs IsSettled entry → IsOpen entry opened) → Starts run opened b → (IsTold now → IsTold mid) → run.settings.cleanup ≡ cleanup → GoesFar mirror count later b c opened mid
-    → (run.together ≡ true → c.settled ≡ b.settled) → EndsLast run.together cleanup c mid now log → Ends cleanup c mid log
-    → Logged run (record { trace = entry; mirrors = mirror ∷ others; faults = count ∷ counts }) (record { trace = now; mirrors = mirror' ∷ others'; faults = later ∷ counts }) log
+pub logged : CommittingLaws → (run : Run) (mirror mirror' : Option MirrorMap) (others others' : List (Option MirrorMap)) (counts : List ℕ) (count later : ℕ) (entry opened mid now : List State) (b c : Board) (cleanup : Bool) (log : RunLog)
+    → (ToldAs IsSynced entry → IsOpen entry opened) → StartsRun run opened b → (IsTold now → IsTold mid) → run.settings.cleanup ≡ cleanup → RunGoesOn mirror count later b c opened mid
+    → (run.together ≡ true → c.settled ≡ b.settled) → CommitsAll run.together cleanup c mid now log → EndsWithLog cleanup c mid log
+    → LogIsTrue run (record { trace = entry; mirrors = mirror ∷ others; faults = count ∷ counts }) (record { trace = now; mirrors = mirror' ∷ others'; faults = later ∷ counts }) log
 logged laws run mirror mirror' others others' counts count later entry opened mid now b c cleanup log ready_at starts back switch far unsettled ended ends =
-    let h : HasStarted run mirror count opened b = starts mirror count in
-    let w : GoesFarWith h.start [] later b c opened mid = far h.start [] h.sound h.from h.under_way in
-    let e : IsEnd h.start ([] ++ w.more) later log = ends h.start ([] ++ w.more) later h.sound (cleanup_is run mirror count opened b cleanup h switch) w.under_way in
+    let h : IsNewRun run mirror count opened b = starts mirror count in
+    let w : RunGoesOnWith h.start [] later b c opened mid = far h.start [] h.sound h.from h.under_way in
+    let e : IsLogOfRun h.start ([] ++ w.more) later log = ends h.start ([] ++ w.more) later h.sound (cleanup_is run mirror count opened b cleanup h switch) w.under_way in
     record {
       begun = begun_of h.start;
       of_run = h.of_run;
       heard = [] ++ w.more;
       tells = e.tells;
-      answers = λ told. for_first mirror others (λ (m : Mirror). Agrees m h.start.parts h.start.config.sources ([] ++ w.more))
-          (subst (λ (o : Option Mirror). IfSome o (λ (m : Mirror). Agrees m h.start.parts h.start.config.sources ([] ++ w.more))) h.from (w.under_way.heard.answers (back told)));
+      answers = λ told. for_first mirror others (λ (m : MirrorMap). Agrees m h.start.parts h.start.config.sources ([] ++ w.more))
+          (subst (λ (o : Option MirrorMap). IfSome o (λ (m : MirrorMap). Agrees m h.start.parts h.start.config.sources ([] ++ w.more))) h.from (w.under_way.heard.answers (back told)));
       faults = faults_rise count later counts log.asks (subst (λ (n : ℕ). CountsUp n later log.asks) h.at e.counts) e.lanes;
       commits = λ settled. finished h w (ready_at settled);
     }
   where
-    finished : (h : HasStarted run mirror count opened b) (w : GoesFarWith h.start [] later b c opened mid) → IsOpen entry opened → HasFinished run (begun_of h.start) ([] ++ w.more) entry now log
+    finished : (h : IsNewRun run mirror count opened b) (w : RunGoesOnWith h.start [] later b c opened mid) → IsOpen entry opened → HasFinished run (begun_of h.start) ([] ++ w.more) entry now log
     finished h w is =
-        let e : HasEnded run.together h.start ([] ++ w.more) (lists_now entry) opened now log =
-        ended h.start ([] ++ w.more) later (lists_now entry) opened (cleanup_is run mirror count opened b cleanup h switch) (begun_over run mirror count later entry opened mid b c is h w unsettled) in
+        let e : HasCommittedAll run.together h.start ([] ++ w.more) (installed_now entry) opened now log =
+        ended h.start ([] ++ w.more) later (installed_now entry) opened (cleanup_is run mirror count opened b cleanup h switch) (begun_over run mirror count later entry opened mid b c is h w unsettled) in
         record {
           opened = opened;
           opens = is.opens;
@@ -311,16 +311,16 @@ logged laws run mirror mirror' others others' counts count later entry opened mi
           ran = e.ran;
           same = e.same;
           made = e.made;
-          rests = laws.leaves (commits_of e.commits) (lists_now entry) opened now e.made is.opens.rests;
+          rests = laws.leaves (commits_of e.commits) (installed_now entry) opened now e.made is.opens.rests;
         }
 
 -- a verdict for each source
-pub verdicts_told : (run : Run) (mirror : Option Mirror) (count later : ℕ) (opened mid : List State) (b c : Board) (cleanup : Bool) (log : RunLog) → Starts run opened b → run.settings.cleanup ≡ cleanup → GoesFar mirror count later b c opened mid
-    → Ends cleanup c mid log → length log.verdicts ≡ length run.plan.sources
+pub verdicts_told : (run : Run) (mirror : Option MirrorMap) (count later : ℕ) (opened mid : List State) (b c : Board) (cleanup : Bool) (log : RunLog) → StartsRun run opened b → run.settings.cleanup ≡ cleanup → RunGoesOn mirror count later b c opened mid
+    → EndsWithLog cleanup c mid log → length log.verdicts ≡ length run.plan.sources
 verdicts_told run mirror count later opened mid b c cleanup log starts switch far ends =
-    let h : HasStarted run mirror count opened b = starts mirror count in
-    let w : GoesFarWith h.start [] later b c opened mid = far h.start [] h.sound h.from h.under_way in
-    let e : IsEnd h.start ([] ++ w.more) later log = ends h.start ([] ++ w.more) later h.sound (cleanup_is run mirror count opened b cleanup h switch) w.under_way in
+    let h : IsNewRun run mirror count opened b = starts mirror count in
+    let w : RunGoesOnWith h.start [] later b c opened mid = far h.start [] h.sound h.from h.under_way in
+    let e : IsLogOfRun h.start ([] ++ w.more) later log = ends h.start ([] ++ w.more) later h.sound (cleanup_is run mirror count opened b cleanup h switch) w.under_way in
     ap length e.tells.verdicts ∙ (verdicts_count h.start.config h.start.olds ([] ++ w.more) e.tells.board e.tells.reached ∙ ap length h.of_run.sources)
 
 -- ---- the first of some methods

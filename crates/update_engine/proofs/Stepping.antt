@@ -1,38 +1,38 @@
 -- A run from step to step.
 use Rattle.std.proofs.Common.{◌≡◌, ◌∙◌, ◌≤◌, ◌<◌, ◌-◌, ℕ, ◌+◌, ◌++◌, false, List, [], length, Option, sym, subst, arith}
 use Rattle.std.proofs.lemmas.List.{append-nil, append_assoc}
-use Rattle.acq_base.specs.Mirror.{World as Mirror}
+use Rattle.acq_base.specs.Mirror.{MirrorMap}
 use Rattle.acq_outside.specs.Crash.{State}
 use Rattle.acq_outside.specs.Disk.{Files}
-use Rattle.acq_outside.specs.Moments.{IsTold, Since, Stands}
+use Rattle.acq_outside.specs.States.{IsTold, Since, IsNow}
 use Rattle.board_model.specs.Boards.{Board}
 use Rattle.board_model.specs.CountLaws.{AsksAreFew, most_asks}
 use Rattle.board_model.specs.Runs.{Note}
-use Rattle.journal_model.specs.Rest.{IsIdle, KeepsRest}
+use Rattle.journal_model.specs.Rest.{IsIdle, KeptAtRestSince}
 use Rattle.commit_journal.proofs.Fills.{idle_on, rests_on}
 use Rattle.list_commits.specs.Made.{rests}
-use Rattle.run_jobs.specs.Running.{Begun as Start, GoesOn, HasHeard, IsReady, IsUnderWay, SameBoard}
+use Rattle.run_jobs.specs.Running.{RunStart, JobKeepsRunGoing, RunHasHeard, MayAsk, IsUnderWay, SameBoard}
 use Rattle.run_model.specs.Groups.{all_groups, commits_of}
 use Rattle.run_jobs.proofs.Keeping.{told_back}
-use Rattle.update_engine.specs.Known.{Committing}
-use Rattle.update_engine.specs.Session.{GoesAside, GoesFar, HasCommittedSets, IsAtMoment, IsStanding, StopsAside, StopsFar, begun_of}
+use Rattle.update_engine.specs.Known.{CommittingLaws}
+use Rattle.update_engine.specs.Session.{KeepsRunGoing, RunGoesOn, HasCommittedSets, HasProgress, MayCommit, StopsBetweenAsks, StopsWhileAsking, begun_of}
 use Rattle.update_engine.proofs.Committing.{has_begun, settled_made, told_on}
 
 -- ---- between two jobs
 
-pub goes_nowhere : (b : Board) (now : List State) → GoesAside b b now now
+pub goes_nowhere : (b : Board) (now : List State) → KeepsRunGoing b b now now
 goes_nowhere b now = record { under_way = λ start notes count sound under. under; sets = λ start notes count opened sound under sets. sets }
 
-pub goes_aside : (b c d : Board) (old mid now : List State) → GoesAside b c old mid → GoesAside c d mid now → GoesAside b d old now
+pub goes_aside : (b c d : Board) (old mid now : List State) → KeepsRunGoing b c old mid → KeepsRunGoing c d mid now → KeepsRunGoing b d old now
 goes_aside b c d old mid now one two = record {
   under_way = λ start notes count sound under. two.under_way start notes count sound (one.under_way start notes count sound under);
   sets = λ start notes count opened sound under sets. two.sets start notes count opened sound (one.under_way start notes count sound under) (one.sets start notes count opened sound under sets);
 }
 
-pub stops_aside : (b c : Board) (old mid now : List State) → GoesAside b c old mid → StopsAside c mid now → StopsAside b old now
+pub stops_aside : (b c : Board) (old mid now : List State) → KeepsRunGoing b c old mid → StopsBetweenAsks c mid now → StopsBetweenAsks b old now
 stops_aside b c old mid now one stops = λ start notes count lists opened sound under sets. stops start notes count lists opened sound (one.under_way start notes count sound under) (one.sets start notes count opened sound under sets)
 
-pub stands_aside : (b c : Board) (old now : List State) → IsStanding b old → GoesAside b c old now → Stands IsIdle now → IsStanding c now
+pub stands_aside : (b c : Board) (old now : List State) → MayCommit b old → KeepsRunGoing b c old now → IsNow IsIdle now → MayCommit c now
 stands_aside b c old now stands goes idle = record {
   start = stands.start;
   notes = stands.notes;
@@ -42,10 +42,10 @@ stands_aside b c old now stands goes idle = record {
   idle = idle;
 }
 
-pub stands_ready : (mirror : Option Mirror) (count : ℕ) (b : Board) (now : List State) → IsReady mirror count b now → IsStanding b now
+pub stands_ready : (mirror : Option MirrorMap) (count : ℕ) (b : Board) (now : List State) → MayAsk mirror count b now → MayCommit b now
 stands_ready mirror count b now ready = record { start = ready.begun; notes = ready.notes; count = count; sound = ready.sound; under_way = ready.under_way; idle = ready.idle }
 
-pub ready_aside : (mirror : Option Mirror) (count : ℕ) (b c : Board) (old now : List State) → IsReady mirror count b old → GoesAside b c old now → Stands IsIdle now → IsReady mirror count c now
+pub ready_aside : (mirror : Option MirrorMap) (count : ℕ) (b c : Board) (old now : List State) → MayAsk mirror count b old → KeepsRunGoing b c old now → IsNow IsIdle now → MayAsk mirror count c now
 ready_aside mirror count b c old now ready goes idle = record {
   begun = ready.begun;
   notes = ready.notes;
@@ -57,20 +57,20 @@ ready_aside mirror count b c old now ready goes idle = record {
 
 -- ---- over jobs
 
-with_more : {start : Start} {count : ℕ} {b : Board} {now : List State} (notes more later : List Note) → IsUnderWay start ((notes ++ more) ++ later) count b now → IsUnderWay start (notes ++ (more ++ later)) count b now
+with_more : {start : RunStart} {count : ℕ} {b : Board} {now : List State} (notes more later : List Note) → IsUnderWay start ((notes ++ more) ++ later) count b now → IsUnderWay start (notes ++ (more ++ later)) count b now
 with_more {start} {count} {b} {now} notes more later under = subst (λ (ns : List Note). IsUnderWay start ns count b now) (append_assoc notes more later) under
 
-sets_more : (start : Start) {opened now : List State} {b : Board} (notes more later : List Note) → HasCommittedSets (begun_of start) ((notes ++ more) ++ later) opened now b → HasCommittedSets (begun_of start) (notes ++ (more ++ later)) opened now b
+sets_more : (start : RunStart) {opened now : List State} {b : Board} (notes more later : List Note) → HasCommittedSets (begun_of start) ((notes ++ more) ++ later) opened now b → HasCommittedSets (begun_of start) (notes ++ (more ++ later)) opened now b
 sets_more start {opened} {now} {b} notes more later sets = subst (λ (ns : List Note). HasCommittedSets (begun_of start) ns opened now b) (append_assoc notes more later) sets
 
-pub far_nowhere : (mirror : Option Mirror) (count : ℕ) (b : Board) (now : List State) → GoesFar mirror count count b b now now
+pub far_nowhere : (mirror : Option MirrorMap) (count : ℕ) (b : Board) (now : List State) → RunGoesOn mirror count count b b now now
 far_nowhere mirror count b now = λ start notes sound from under. record {
   more = [];
   under_way = subst (λ (ns : List Note). IsUnderWay start ns count b now) (sym (append-nil notes)) under;
   sets = λ opened sets. subst (λ (ns : List Note). HasCommittedSets (begun_of start) ns opened now b) (sym (append-nil notes)) sets;
 }
 
-pub far_aside : (mirror : Option Mirror) (count mid_count : ℕ) (b c d : Board) (old mid now : List State) → GoesFar mirror count mid_count b c old mid → GoesAside c d mid now → GoesFar mirror count mid_count b d old now
+pub far_aside : (mirror : Option MirrorMap) (count mid_count : ℕ) (b c d : Board) (old mid now : List State) → RunGoesOn mirror count mid_count b c old mid → KeepsRunGoing c d mid now → RunGoesOn mirror count mid_count b d old now
 far_aside mirror count mid_count b c d old mid now far aside = λ start notes sound from under.
     let w = far start notes sound from under in
     record {
@@ -80,10 +80,10 @@ far_aside mirror count mid_count b c d old mid now far aside = λ start notes so
     }
 
 -- the sets stand behind a job
-sets_asked : Committing → (start : Start) (notes more : List Note) (opened : List State) (b c : Board) (old now : List State) → Stands IsIdle old → Since old now (KeepsRest old) → SameBoard b c
+sets_asked : CommittingLaws → (start : RunStart) (notes more : List Note) (opened : List State) (b c : Board) (old now : List State) → IsNow IsIdle old → Since old now (KeptAtRestSince old) → SameBoard b c
     → HasCommittedSets (begun_of start) notes opened old b → HasCommittedSets (begun_of start) (notes ++ more) opened now c
 sets_asked laws start notes more opened b c old now idle since same sets = record {
-  told = told_on (KeepsRest old) old now since sets.told;
+  told = told_on (KeptAtRestSince old) old now since sets.told;
   commits = sets.commits;
   made = rests sets.made idle since;
   each = sets.each;
@@ -91,8 +91,8 @@ sets_asked laws start notes more opened b c old now idle since same sets = recor
   order = rw (same.settled, same.verdicts) sets.order;
 }
 
-pub far_asked : Committing → (mirror here : Option Mirror) (count mid_count later : ℕ) (b c d : Board) (old mid now : List State) → here ≡ mirror → GoesFar mirror count mid_count b c old mid → Stands IsIdle mid
-    → Since mid now (KeepsRest mid) → SameBoard c d → GoesOn here mid_count later c d mid now → GoesFar mirror count later b d old now
+pub far_asked : CommittingLaws → (mirror here : Option MirrorMap) (count mid_count later : ℕ) (b c d : Board) (old mid now : List State) → here ≡ mirror → RunGoesOn mirror count mid_count b c old mid → IsNow IsIdle mid
+    → Since mid now (KeptAtRestSince mid) → SameBoard c d → JobKeepsRunGoing here mid_count later c d mid now → RunGoesOn mirror count later b d old now
 far_asked laws mirror here count mid_count later b c d old mid now world far idle since same goes = λ start notes sound from under.
     let w = far start notes sound from under in
     let v = goes start (notes ++ w.more) sound (from ∙ sym world) w.under_way in
@@ -103,8 +103,8 @@ far_asked laws mirror here count mid_count later b c d old mid now world far idl
     }
 
 -- a run that was ready is so after a job
-pub ready_asked : (mirror later_mirror : Option Mirror) (count later : ℕ) (b c : Board) (old now : List State) → later_mirror ≡ mirror → IsReady mirror count b old → Since old now (KeepsRest old) → GoesOn mirror count later b c old now
-    → IsReady later_mirror later c now
+pub ready_asked : (mirror later_mirror : Option MirrorMap) (count later : ℕ) (b c : Board) (old now : List State) → later_mirror ≡ mirror → MayAsk mirror count b old → Since old now (KeptAtRestSince old) → JobKeepsRunGoing mirror count later b c old now
+    → MayAsk later_mirror later c now
 ready_asked mirror later_mirror count later b c old now same ready since goes =
     let w = goes ready.begun ready.notes ready.sound ready.from ready.under_way in
     record {
@@ -119,8 +119,8 @@ ready_asked mirror later_mirror count later b c old now same ready since goes =
 -- ---- where it stops
 
 -- at a moment at which all sets so far are made
-pub at_moment : Committing → (start : Start) (notes : List Note) (count : ℕ) (lists : Files) (opened : List State) (b : Board) (old now : List State) → HasHeard start notes count b old → (IsTold now → IsTold old) → HasCommittedSets (begun_of start) notes opened now b
-    → IsAtMoment start false lists opened now
+pub at_moment : CommittingLaws → (start : RunStart) (notes : List Note) (count : ℕ) (lists : Files) (opened : List State) (b : Board) (old now : List State) → RunHasHeard start notes count b old → (IsTold now → IsTold old) → HasCommittedSets (begun_of start) notes opened now b
+    → HasProgress start false lists opened now
 unfolding has_begun
 at_moment laws start notes count lists opened b old now heard back sets = record {
   commits = sets.commits;
@@ -132,37 +132,37 @@ at_moment laws start notes count lists opened b old now heard back sets = record
   settled = λ rest. settled_made laws (commits_of sets.commits) lists opened now sets.made rest;
 }
 
-pub far_stops : (mirror : Option Mirror) (count mid_count : ℕ) (b c : Board) (old mid now : List State) → GoesFar mirror count mid_count b c old mid → StopsAside c mid now → StopsFar mirror count b old now
+pub far_stops : (mirror : Option MirrorMap) (count mid_count : ℕ) (b c : Board) (old mid now : List State) → RunGoesOn mirror count mid_count b c old mid → StopsBetweenAsks c mid now → StopsWhileAsking mirror count b old now
 far_stops mirror count mid_count b c old mid now far stops = λ start notes lists opened sound from under sets.
     let w = far start notes sound from under in
     stops start (notes ++ w.more) mid_count lists opened sound w.under_way (w.sets opened sets)
 
 -- within a job
-pub far_stops_asking : Committing → (mirror : Option Mirror) (count mid_count : ℕ) (b c : Board) (old mid now : List State) → GoesFar mirror count mid_count b c old mid → Stands IsIdle mid → Since mid now (KeepsRest mid)
-    → StopsFar mirror count b old now
+pub far_stops_asking : CommittingLaws → (mirror : Option MirrorMap) (count mid_count : ℕ) (b c : Board) (old mid now : List State) → RunGoesOn mirror count mid_count b c old mid → IsNow IsIdle mid → Since mid now (KeptAtRestSince mid)
+    → StopsWhileAsking mirror count b old now
 far_stops_asking laws mirror count mid_count b c old mid now far idle since = λ start notes lists opened sound from under sets.
     let w = far start notes sound from under in
     let s = w.sets opened sets in
-    at_moment laws start (notes ++ w.more) mid_count lists opened c mid now w.under_way.heard (told_back (KeepsRest mid) mid now since)
-    (record { told = told_on (KeepsRest mid) mid now since s.told; commits = s.commits; made = rests s.made idle since; each = s.each; groups = s.groups; order = s.order })
+    at_moment laws start (notes ++ w.more) mid_count lists opened c mid now w.under_way.heard (told_back (KeptAtRestSince mid) mid now since)
+    (record { told = told_on (KeptAtRestSince mid) mid now since s.told; commits = s.commits; made = rests s.made idle since; each = s.each; groups = s.groups; order = s.order })
 
 -- ---- what is at rest
 
 -- where nothing is committed, what is at rest stays so
-pub bare_round : (old begin mid now : List State) → Since old begin (KeepsRest old) → mid ≡ begin → Since mid now (KeepsRest mid) → Since old now (KeepsRest old)
+pub bare_round : (old begin mid now : List State) → Since old begin (KeptAtRestSince old) → mid ≡ begin → Since mid now (KeptAtRestSince mid) → Since old now (KeptAtRestSince old)
 bare_round old begin mid now one same two = rests_on old begin now one (rw same at two)
 
-pub bare_aside : (old begin now : List State) → Since old begin (KeepsRest old) → now ≡ begin → Since old now (KeepsRest old)
+pub bare_aside : (old begin now : List State) → Since old begin (KeptAtRestSince old) → now ≡ begin → Since old now (KeptAtRestSince old)
 bare_aside old begin now one same = rw same one
 
 -- the journal stays open for commits
-pub idle_after : (old now : List State) → Stands IsIdle old → Since old now (KeepsRest old) → Stands IsIdle now
+pub idle_after : (old now : List State) → IsNow IsIdle old → Since old now (KeptAtRestSince old) → IsNow IsIdle now
 idle_after old now idle since = idle_on old now since idle
 
 -- ---- how much is asked
 
 -- a log that has room for one more entry
-asks_few : AsksAreFew → (mirror : Option Mirror) (count : ℕ) (b : Board) (now : List State) → IsReady mirror count b now → length b.asks ≤ most_asks b.config
+asks_few : AsksAreFew → (mirror : Option MirrorMap) (count : ℕ) (b : Board) (now : List State) → MayAsk mirror count b now → length b.asks ≤ most_asks b.config
 asks_few law mirror count b now ready =
     let heard = ready.under_way.heard in
     rw heard.config (law ready.begun.config ready.begun.olds ready.notes b heard.reached)
@@ -172,7 +172,7 @@ fewer : (most asks more : ℕ) → more ≡ asks + 1 → more ≤ most → most 
 fewer most asks more e le = omega arith
 
 -- each round leaves fewer entries that the log may get
-pub smaller : AsksAreFew → (mirror : Option Mirror) (count : ℕ) (b d e : Board) (now : List State) → IsReady mirror count e now → d.asks ≡ b.asks → d.config ≡ b.config → e.config ≡ d.config → length e.asks ≡ length d.asks + 1
+pub smaller : AsksAreFew → (mirror : Option MirrorMap) (count : ℕ) (b d e : Board) (now : List State) → MayAsk mirror count e now → d.asks ≡ b.asks → d.config ≡ b.config → e.config ≡ d.config → length e.asks ≡ length d.asks + 1
     → most_asks e.config - length e.asks < most_asks b.config - length b.asks
 smaller law mirror count b d e now ready asks config same more =
     let few : length e.asks ≤ most_asks b.config = rw (same ∙ config) at (asks_few law mirror count e now ready) in

@@ -1,24 +1,24 @@
 -- What is asked of a run, and what it promises.
 use Rattle.std.specs.Prelude.{◌≡◌, ◌≢◌, ◌⊎◌, ℕ, ℤ, ◌<◌, ◌≤◌, ◌-◌, ◌^◌, ◌==◌, Bool, true, false, Contains, IfSome, List, [], ◌∷◌, filter, length, map, slice_get, take, Option, Some, None, Result, Err}
 use Rattle.std.specs.List.{flat_map, AllByRecursion as Each}
-use Rattle.acq_base.specs.Mirror.{World as Mirror}
+use Rattle.acq_base.specs.Mirror.{MirrorMap}
 use Rattle.acq_base.specs.declared.plan.Plan.{Plan}
 use Rattle.acq_base.specs.declared.plan.Source.{Source}
 use Rattle.acq_base.specs.declared.settings.Settings.{Settings}
 use Rattle.acq_outside.specs.Crash.{State, reads}
-use Rattle.acq_outside.specs.Moments.{From, IsTold, Since, Stands, ToldAs}
+use Rattle.acq_outside.specs.States.{From, IsTold, Since, IsNow, ToldAs}
 use Rattle.acq_outside.specs.declared.disk.Disk.{Ghosts as Disks}
 use Rattle.acq_outside.specs.declared.method.Method.{Ghosts as Methods}
 use Rattle.board_model.specs.Agreeing.{Agrees}
 use Rattle.board_model.specs.Boards.{Board, is_finished}
 use Rattle.board_model.specs.Reached.{Reached}
 use Rattle.board_model.specs.Runs.{Note}
-use Rattle.commit_journal.specs.Opening.{IsOfOpening, LeavesOthers, Recovers}
-use Rattle.commit_journal.specs.Runs.{Moment}
+use Rattle.commit_journal.specs.Opening.{IsOfOpening, KeepsFilesBut, Recovers}
+use Rattle.commit_journal.specs.Runs.{CommitProgress}
 use Rattle.journal_model.specs.Names.{journal}
-use Rattle.journal_model.specs.Reopen.{lists_now}
-use Rattle.journal_model.specs.Rest.{IsAtRest, IsSettled, part_bytes, size_below}
-use Rattle.list_commits.specs.Made.{Made, after_all}
+use Rattle.journal_model.specs.Reopen.{installed_now}
+use Rattle.journal_model.specs.Rest.{IsAtRest, IsSynced, part_bytes, size_below}
+use Rattle.list_commits.specs.Made.{CommitsMade, after_all}
 use Rattle.lists_dir.specs.Installed.{installed_of}
 use Rattle.release_file.specs.declared.changing.Change.{Change}
 use Rattle.update_model.specs.declared.log.Asked.{Asked}
@@ -26,9 +26,9 @@ use Rattle.update_model.specs.declared.log.RunLog.{RunLog}
 use Rattle.run_jobs.specs.Counting.{CountsUp}
 use Rattle.run_jobs.specs.declared.error.RunError.{RunError}
 use Rattle.run_jobs.specs.declared.error.RunError.TheVariants.{BadJournal, DiskFault, NoMemory}
-use Rattle.run_model.specs.Begun.{Begun, BeginsOver}
+use Rattle.run_model.specs.Begun.{RunInput, ReadsPlanned}
 use Rattle.run_model.specs.Groups.{Group, commits_of}
-use Rattle.run_model.specs.Runs.{HasBegun, HasRun, cleans_up}
+use Rattle.run_model.specs.Runs.{MayBeStopped, HasRun, cleans_up}
 
 -- what is asked of a run
 pub record Run : Type 0 where
@@ -44,7 +44,7 @@ run_of plan settings change moment together = record { plan = plan; settings = s
 -- the disk and the methods at one moment: the states that the disk has had, and what each method tells and counts
 pub record Engine : Type 0 where
   pub trace : List State
-  pub mirrors : List (Option Mirror)
+  pub mirrors : List (Option MirrorMap)
   pub faults : List ℕ
 
 abbrev pub engine : {D M : Type 0} → Disks D → Methods M → D → List M → Engine
@@ -64,7 +64,7 @@ pub record KeepsMethods (before after : Engine) : Type 0 where
   pub counts : NoneFell before.faults after.faults
 
 -- P of the mirror that all of them tell, where they tell one
-abbrev pub ForMirror : List (Option Mirror) → (Mirror → Type 0) → Type 0
+abbrev pub ForMirror : List (Option MirrorMap) → (MirrorMap → Type 0) → Type 0
 ForMirror [] P = Unit {0}
 ForMirror (told ∷ others) P = IfSome told (λ mirror. Each (λ other. other ≡ Some mirror) others → P mirror)
 
@@ -79,15 +79,15 @@ pub record FaultsRise (before after : List ℕ) (asks : List Asked) : Type 0 whe
 -- ---- with what it begins
 
 -- a list on its way from which a fetch may go on: fewer bytes than 2^64 - 1
-abbrev pub short_part : List ℕ → List ℕ
-short_part bytes = take (size_below (2 ^ 64 - 1) (length bytes)) bytes
+abbrev pub resumable_part : List ℕ → List ℕ
+resumable_part bytes = take (size_below (2 ^ 64 - 1) (length bytes)) bytes
 
 -- the names of the lists that a source's targets are installed under
 abbrev pub target_names : Source → List (List ℕ)
 target_names source = map (λ target. target.name.0) source.targets
 
 -- The board's configuration is that of the run, and the sizes are those of the lists on their way.
-pub record IsOfRun (run : Run) (begun : Begun) : Type 0 where
+pub record IsConfiguredBy (run : Run) (begun : RunInput) : Type 0 where
   pub sources : begun.config.sources ≡ run.plan.sources
   pub settings : begun.config.settings ≡ run.settings
   pub change : begun.config.change ≡ run.change
@@ -96,42 +96,42 @@ pub record IsOfRun (run : Run) (begun : Begun) : Type 0 where
 
 -- From entry on the journal is opened, in which a crash leaves what it left at entry, and no other file changes; then the
 -- disk is at rest with the lists that it stood for at entry.
-pub record HasOpened (entry opened : List State) : Type 0 where
+pub record HasOpenedJournal (entry opened : List State) : Type 0 where
   pub recovers : Since entry opened (From Recovers entry)
-  pub others : Stands (λ s. LeavesOthers (IsOfOpening (reads s journal)) entry opened) entry
-  pub rests : Stands (IsAtRest (lists_now entry)) opened
+  pub others : IsNow (λ s. KeepsFilesBut (IsOfOpening (reads s journal)) entry opened) entry
+  pub rests : IsNow (IsAtRest (installed_now entry)) opened
 
 -- The run begins over the lists that the disk stood for at entry, and the targets' lists on their way are those that reads
 -- gave once the journal was open.
-pub record IsReadFrom (entry opened : List State) (begun : Begun) : Type 0 where
-  pub olds : begun.olds ≡ map (installed_of (lists_now entry)) begun.config.sources
-  pub begins : BeginsOver begun (lists_now entry)
-  pub parts : (name : List ℕ) → Contains (flat_map target_names begun.config.sources) name → begun.parts name ≡ short_part (part_bytes opened name)
+pub record IsReadFromDisk (entry opened : List State) (begun : RunInput) : Type 0 where
+  pub olds : begun.olds ≡ map (installed_of (installed_now entry)) begun.config.sources
+  pub begins : ReadsPlanned begun (installed_now entry)
+  pub parts : (name : List ℕ) → Contains (flat_map target_names begun.config.sources) name → begun.parts name ≡ resumable_part (part_bytes opened name)
 
 -- ---- whatever it answers
 
 -- A stop finds a run at a moment of its commits, once the journal was open. What it had heard is the mirror's, or faults.
-pub record StopsAtMoment (run : Run) (mirrors : List (Option Mirror)) (entry now : List State) : Type 0 where
+pub record StopsAmongCommits (run : Run) (mirrors : List (Option MirrorMap)) (entry now : List State) : Type 0 where
   pub opened : List State
-  pub opens : HasOpened entry opened
-  pub begun : Begun
-  pub of_run : IsOfRun run begun
-  pub read : IsReadFrom entry opened begun
+  pub opens : HasOpenedJournal entry opened
+  pub begun : RunInput
+  pub of_run : IsConfiguredBy run begun
+  pub read : IsReadFromDisk entry opened begun
   pub commits : List (List Group)
   pub acknowledged : ℕ
   pub started : ℕ
-  pub moment : Moment (commits_of commits) acknowledged started opened now
-  pub has : HasBegun run.together begun (lists_now entry) commits
+  pub moment : CommitProgress (commits_of commits) acknowledged started opened now
+  pub has : MayBeStopped run.together begun (installed_now entry) commits
   pub answers : ForMirror mirrors (λ mirror. Agrees mirror begun.parts begun.config.sources has.heard)
 
 -- before that a crash leaves what it left at entry
-abbrev pub StopsWhole : Run → List (Option Mirror) → List State → List State → Type 0
-StopsWhole run mirrors entry now = Since entry now (From Recovers entry) ⊎ StopsAtMoment run mirrors entry now
+abbrev pub StopsWithWholeSets : Run → List (Option MirrorMap) → List State → List State → Type 0
+StopsWithWholeSets run mirrors entry now = Since entry now (From Recovers entry) ⊎ StopsAmongCommits run mirrors entry now
 
 -- Over a disk that tells and was settled, a stop leaves whole commits, and the disk is settled again.
-pub record StaysSafe (run : Run) (before after : Engine) : Type 0 where
-  pub stops : ToldAs IsSettled before.trace → StopsWhole run before.mirrors before.trace after.trace
-  pub settled : ToldAs IsSettled before.trace → Stands IsSettled after.trace
+pub record SurvivesCrash (run : Run) (before after : Engine) : Type 0 where
+  pub stops : ToldAs IsSynced before.trace → StopsWithWholeSets run before.mirrors before.trace after.trace
+  pub settled : ToldAs IsSynced before.trace → IsNow IsSynced after.trace
 
 -- no damage is told where there is none, and this one, or a fault or want of memory, where there is
 abbrev pub FindsDamage : Option ℕ → Result RunLog RunError → Type 0
@@ -141,7 +141,7 @@ FindsDamage (Some at) result = (result ≡ Err (BadJournal at)) ⊎ ((result ≡
 -- ---- where it answers a log
 
 -- The log is that of a board to which the run's calls led, and which is finished, but for what the clean-up removed.
-pub record TellsBoard (begun : Begun) (heard : List Note) (log : RunLog) : Type 0 where
+pub record IsLogOfBoard (begun : RunInput) (heard : List Note) (log : RunLog) : Type 0 where
   pub board : Board
   pub reached : Reached begun.config begun.olds heard board
   pub finished : is_finished board ≡ true
@@ -151,23 +151,23 @@ pub record TellsBoard (begun : Begun) (heard : List Note) (log : RunLog) : Type 
   pub kept : cleans_up begun.config.settings log.verdicts ≡ false → log.removed ≡ []
 
 -- All commits of the run are made since the journal was open, and the disk is at rest with the lists after them.
-pub record HasFinished (run : Run) (begun : Begun) (heard : List Note) (entry now : List State) (log : RunLog) : Type 0 where
+pub record HasFinished (run : Run) (begun : RunInput) (heard : List Note) (entry now : List State) (log : RunLog) : Type 0 where
   pub opened : List State
-  pub opens : HasOpened entry opened
-  pub read : IsReadFrom entry opened begun
+  pub opens : HasOpenedJournal entry opened
+  pub read : IsReadFromDisk entry opened begun
   pub commits : List (List Group)
-  pub ran : HasRun run.together begun (lists_now entry) log commits
+  pub ran : HasRun run.together begun (installed_now entry) log commits
   pub same : ran.heard ≡ heard
-  pub made : Made (commits_of commits) opened now
-  pub rests : Stands (IsAtRest (after_all (commits_of commits) (lists_now entry))) now
+  pub made : CommitsMade (commits_of commits) opened now
+  pub rests : IsNow (IsAtRest (after_all (commits_of commits) (installed_now entry))) now
 
 -- The log tells what the run heard, and each answer is the mirror's or a fault. Over a disk that tells and was settled, the
 -- run's commits are all made.
-pub record Logged (run : Run) (before after : Engine) (log : RunLog) : Type 0 where
-  pub begun : Begun
-  pub of_run : IsOfRun run begun
+pub record LogIsTrue (run : Run) (before after : Engine) (log : RunLog) : Type 0 where
+  pub begun : RunInput
+  pub of_run : IsConfiguredBy run begun
   pub heard : List Note
-  pub tells : TellsBoard begun heard log
+  pub tells : IsLogOfBoard begun heard log
   pub answers : IsTold after.trace → ForMirror before.mirrors (λ mirror. Agrees mirror begun.parts begun.config.sources heard)
   pub faults : FaultsRise before.faults after.faults log.asks
-  pub commits : ToldAs IsSettled before.trace → HasFinished run begun heard before.trace after.trace log
+  pub commits : ToldAs IsSynced before.trace → HasFinished run begun heard before.trace after.trace log

@@ -1,32 +1,32 @@
 -- A run between two of its steps, with the commits that it has made.
 use Rattle.std.specs.Prelude.{◌≡◌, ◌<◌, ◌&&◌, ℕ, Bool, true, false, not, if◌then◌else◌, List, [], ◌∷◌, ◌++◌, filter, map, slice_get, Option, Some, None, IfSome}
 use Rattle.std.specs.List.{AllByRecursion as Each, list_all}
-use Rattle.acq_base.specs.Mirror.{World as Mirror}
+use Rattle.acq_base.specs.Mirror.{MirrorMap}
 use Rattle.acq_base.specs.declared.plan.Source.{Source}
 use Rattle.acq_outside.specs.Crash.{State}
 use Rattle.acq_outside.specs.Disk.{Files}
-use Rattle.acq_outside.specs.Moments.{IsTold, Stands, ToldAs}
+use Rattle.acq_outside.specs.States.{IsTold, IsNow, ToldAs}
 use Rattle.board_model.specs.Agreeing.{Agrees}
 use Rattle.board_model.specs.Boards.{Board, first_ready, settled_as, settled_of}
 use Rattle.board_model.specs.Jobs.{NoneAsks}
 use Rattle.board_model.specs.Runs.{Note}
 use Rattle.commit_journal.specs.Changes.{Filled}
-use Rattle.commit_journal.specs.Runs.{Moment}
+use Rattle.commit_journal.specs.Runs.{CommitProgress}
 use Rattle.commit_journal.specs.declared.changing.Change.{Change}
-use Rattle.journal_model.specs.Reopen.{lists_now}
-use Rattle.journal_model.specs.Rest.{IsAtRest, IsIdle, IsSettled, part_bytes}
+use Rattle.journal_model.specs.Reopen.{installed_now}
+use Rattle.journal_model.specs.Rest.{IsAtRest, IsIdle, IsSynced, part_bytes}
 use Rattle.list_commits.specs.Changes.{changes_for}
 use Rattle.list_commits.specs.Loose.{removed_names}
-use Rattle.list_commits.specs.Made.{Made}
-use Rattle.list_commits.specs.RecordLaws.{Lasts, names_of_group}
+use Rattle.list_commits.specs.Made.{CommitsMade}
+use Rattle.list_commits.specs.RecordLaws.{IsSyncedPart, names_of_group}
 use Rattle.list_commits.specs.SetLaws.{HasPutNames, HaveSums, OwnsChanges}
 use Rattle.run_jobs.specs.Counting.{CountsUp}
-use Rattle.run_jobs.specs.Running.{Begun as Start, IsSoundBegun, IsUnderWay}
-use Rattle.run_model.specs.Begun.{Begun}
-use Rattle.update_engine.specs.Run.{IsOfRun, IsReadFrom, Run, TellsBoard}
-use Rattle.run_model.specs.Groups.{Group, OfSource, AreGroups, IsSettledAs, all_groups, commits_of, sources_in}
-use Rattle.run_model.specs.Begun.{BeginsOver}
-use Rattle.run_model.specs.Runs.{AreRising, HasBegun, HasRun, is_installed, is_kept, is_told_installed}
+use Rattle.run_jobs.specs.Running.{RunStart, IsSoundBegun, IsUnderWay}
+use Rattle.run_model.specs.Begun.{RunInput}
+use Rattle.update_engine.specs.Run.{IsConfiguredBy, IsReadFromDisk, Run, IsLogOfBoard}
+use Rattle.run_model.specs.Groups.{Group, SetOf, AreGroups, CameToOnBoard, all_groups, commits_of, sources_in}
+use Rattle.run_model.specs.Begun.{ReadsPlanned}
+use Rattle.run_model.specs.Runs.{AreRising, MayBeStopped, HasRun, is_installed, is_kept, is_told_installed}
 use Rattle.update_model.specs.declared.log.RunLog.{RunLog}
 use Rattle.update_model.specs.declared.settled.Held.{Held}
 use Rattle.update_model.specs.declared.settled.Settled.{Settled}
@@ -34,7 +34,7 @@ use Rattle.update_model.specs.declared.settled.Verdict2.{Verdict2}
 use Rattle.update_model.specs.declared.settled.Verdict2.TheVariants.{Installed}
 
 -- with what a run begins, whatever its mirror
-abbrev pub begun_of : Start → Begun
+abbrev pub begun_of : RunStart → RunInput
 begun_of start = record { config = start.config; olds = start.olds; parts = start.parts }
 
 -- the sources that a board tells as installed, in the order in which they were settled
@@ -44,41 +44,41 @@ installed_in b = filter (λ n. is_told_installed (slice_get b.verdicts n)) b.set
 -- ---- the commits so far
 
 -- a commit of one source's set
-pub record IsOneSet (groups : List Group) : Type 0 where
+pub record CommitsOneSource (groups : List Group) : Type 0 where
   pub n : ℕ
   pub changes : List Filled
-  pub is : groups ≡ OfSource n changes ∷ []
+  pub is : groups ≡ SetOf n changes ∷ []
 
 -- The sets of the sources that were settled as installed are committed, one by one and in that order.
-pub record HasCommittedSets (begun : Begun) (heard : List Note) (opened now : List State) (b : Board) : Type 0 where
+pub record HasCommittedSets (begun : RunInput) (heard : List Note) (opened now : List State) (b : Board) : Type 0 where
   pub told : IsTold now
   pub commits : List (List Group)
-  pub made : Made (commits_of commits) opened now
-  pub each : Each IsOneSet commits
+  pub made : CommitsMade (commits_of commits) opened now
+  pub each : Each CommitsOneSource commits
   pub groups : AreGroups begun heard (all_groups commits)
   pub order : sources_in (all_groups commits) ≡ installed_in b
 
 -- The commits of a run over these lists are made one after another since the journal was open: so many are acknowledged and
 -- so many begun. Where the disk was at rest then, it is settled.
-pub record IsAtMoment (start : Start) (together : Bool) (lists : Files) (opened now : List State) : Type 0 where
+pub record HasProgress (start : RunStart) (together : Bool) (lists : Files) (opened now : List State) : Type 0 where
   pub commits : List (List Group)
   pub acknowledged : ℕ
   pub started : ℕ
-  pub moment : Moment (commits_of commits) acknowledged started opened now
-  pub has : HasBegun together (begun_of start) lists commits
+  pub moment : CommitProgress (commits_of commits) acknowledged started opened now
+  pub has : MayBeStopped together (begun_of start) lists commits
   pub agrees : IsTold now → IfSome start.mirror (λ mirror. Agrees mirror start.parts start.config.sources has.heard)
-  pub settled : Stands (IsAtRest lists) opened → Stands IsSettled now
+  pub settled : IsNow (IsAtRest lists) opened → IsNow IsSynced now
 
 -- ---- between two jobs
 
 -- a run that is under way over a sound plan, where a commit may be prepared
-pub record IsStanding (b : Board) (now : List State) : Type 0 where
-  pub start : Start
+pub record MayCommit (b : Board) (now : List State) : Type 0 where
+  pub start : RunStart
   pub notes : List Note
   pub count : ℕ
   pub sound : IsSoundBegun start
   pub under_way : IsUnderWay start notes count b now
-  pub idle : Stands IsIdle now
+  pub idle : IsNow IsIdle now
 
 -- a source was settled
 pub record HasSettled (n : ℕ) (before after : Board) : Type 0 where
@@ -92,80 +92,80 @@ pub record OnlySettles (before after : Board) : Type 0 where
   pub quiet : NoneAsks before → NoneAsks after
 
 -- A run that is under way still is where nothing was heard, and so is its having committed its sets.
-pub record GoesAside (before after : Board) (old now : List State) : Type 0 where
-  pub under_way : (start : Start) (notes : List Note) (count : ℕ) → IsSoundBegun start → IsUnderWay start notes count before old → IsUnderWay start notes count after now
-  pub sets : (start : Start) (notes : List Note) (count : ℕ) (opened : List State) → IsSoundBegun start → IsUnderWay start notes count before old
+pub record KeepsRunGoing (before after : Board) (old now : List State) : Type 0 where
+  pub under_way : (start : RunStart) (notes : List Note) (count : ℕ) → IsSoundBegun start → IsUnderWay start notes count before old → IsUnderWay start notes count after now
+  pub sets : (start : RunStart) (notes : List Note) (count : ℕ) (opened : List State) → IsSoundBegun start → IsUnderWay start notes count before old
       → HasCommittedSets (begun_of start) notes opened old before → HasCommittedSets (begun_of start) notes opened now after
 
 -- and where it stops, it is at a moment of its commits
-abbrev pub StopsAside : Board → List State → List State → Type 0
-StopsAside before old now =
-    (start : Start) (notes : List Note) (count : ℕ) (lists : Files) (opened : List State) → IsSoundBegun start → IsUnderWay start notes count before old
-    → HasCommittedSets (begun_of start) notes opened old before → IsAtMoment start false lists opened now
+abbrev pub StopsBetweenAsks : Board → List State → List State → Type 0
+StopsBetweenAsks before old now =
+    (start : RunStart) (notes : List Note) (count : ℕ) (lists : Files) (opened : List State) → IsSoundBegun start → IsUnderWay start notes count before old
+    → HasCommittedSets (begun_of start) notes opened old before → HasProgress start false lists opened now
 
 -- ---- over jobs
 
 -- a run that goes on has heard more, and has committed its sets where it had before
-pub record GoesFarWith (start : Start) (notes : List Note) (later : ℕ) (before after : Board) (old now : List State) : Type 0 where
+pub record RunGoesOnWith (start : RunStart) (notes : List Note) (later : ℕ) (before after : Board) (old now : List State) : Type 0 where
   pub more : List Note
   pub under_way : IsUnderWay start (notes ++ more) later after now
   pub sets : (opened : List State) → HasCommittedSets (begun_of start) notes opened old before → HasCommittedSets (begun_of start) (notes ++ more) opened now after
 
 -- so does each run that is under way over this mirror
-abbrev pub GoesFar : Option Mirror → ℕ → ℕ → Board → Board → List State → List State → Type 0
-GoesFar mirror count later before after old now =
-    (start : Start) (notes : List Note) → IsSoundBegun start → start.mirror ≡ mirror → IsUnderWay start notes count before old → GoesFarWith start notes later before after old now
+abbrev pub RunGoesOn : Option MirrorMap → ℕ → ℕ → Board → Board → List State → List State → Type 0
+RunGoesOn mirror count later before after old now =
+    (start : RunStart) (notes : List Note) → IsSoundBegun start → start.mirror ≡ mirror → IsUnderWay start notes count before old → RunGoesOnWith start notes later before after old now
 
 -- and where it stops, it is at a moment of its commits
-abbrev pub StopsFar : Option Mirror → ℕ → Board → List State → List State → Type 0
-StopsFar mirror count before old now =
-    (start : Start) (notes : List Note) (lists : Files) (opened : List State) → IsSoundBegun start → start.mirror ≡ mirror → IsUnderWay start notes count before old
-    → HasCommittedSets (begun_of start) notes opened old before → IsAtMoment start false lists opened now
+abbrev pub StopsWhileAsking : Option MirrorMap → ℕ → Board → List State → List State → Type 0
+StopsWhileAsking mirror count before old now =
+    (start : RunStart) (notes : List Note) (lists : Files) (opened : List State) → IsSoundBegun start → start.mirror ≡ mirror → IsUnderWay start notes count before old
+    → HasCommittedSets (begun_of start) notes opened old before → HasProgress start false lists opened now
 
 -- ---- all together
 
 -- a source that came to a new set, and what it came to
-pub record Pick : Type 0 where
+pub record NewSource : Type 0 where
   pub n : ℕ
   pub source : Source
   pub settled : Settled
 
 -- It came to it on a board to which the run's calls led. Its changes are its own, and what is put from its way is there, of
 -- its sum, and lasts.
-pub record IsPick (start : Start) (notes : List Note) (now : List State) (p : Pick) : Type 0 where
+pub record IsNewSource (start : RunStart) (notes : List Note) (now : List State) (p : NewSource) : Type 0 where
   pub source_is : slice_get start.config.sources p.n ≡ Some p.source
-  pub settles : IsSettledAs (begun_of start) notes p.n p.settled
+  pub settles : CameToOnBoard (begun_of start) notes p.n p.settled
   pub held : Held
   pub installs : p.settled.verdict ≡ Installed held
   pub put : HasPutNames p.source
   pub own : OwnsChanges p.source p.settled
-  pub lasts : Stands (λ s. Each (λ put. Lasts s put.0 put.1) p.settled.puts) now
+  pub lasts : IsNow (λ s. Each (λ put. IsSyncedPart s put.0 put.1) p.settled.puts) now
   pub sums : IsTold now → HaveSums (part_bytes now) p.settled
 
-abbrev pub numbers_of : List Pick → List ℕ
+abbrev pub numbers_of : List NewSource → List ℕ
 numbers_of picks = map (λ p. p.n) picks
 
-abbrev pub groups_for : List Pick → List (List Change)
+abbrev pub groups_for : List NewSource → List (List Change)
 groups_for picks = map (λ p. changes_for p.source p.settled) picks
 
 -- Sources were settled, and these of them came to new sets, in plan order; the next that is ready is behind them.
-pub record HasGathered (start : Start) (notes : List Note) (count : ℕ) (now : List State) (before after : Board) (groups : List (List Change)) : Type 0 where
+pub record HasGatheredChanges (start : RunStart) (notes : List Note) (count : ℕ) (now : List State) (before after : Board) (groups : List (List Change)) : Type 0 where
   pub under_way : IsUnderWay start notes count after now
-  pub picks : List Pick
+  pub picks : List NewSource
   pub are : groups ≡ groups_for picks
-  pub each : Each (IsPick start notes now) picks
+  pub each : Each (IsNewSource start notes now) picks
   pub order : installed_in after ≡ installed_in before ++ numbers_of picks
   pub in_turn : AreRising (numbers_of picks)
   pub next : (m : ℕ) → first_ready after.slots ≡ Some m → Each (λ n. n < m) (numbers_of picks)
 
 -- so they are of each run that is under way
-abbrev pub Gathers : Board → Board → List (List Change) → Type 0
-Gathers before after groups =
-    (start : Start) (notes : List Note) (count : ℕ) (now : List State) → IsSoundBegun start → IsUnderWay start notes count before now
-    → HasGathered start notes count now before after groups
+abbrev pub GathersChanges : Board → Board → List (List Change) → Type 0
+GathersChanges before after groups =
+    (start : RunStart) (notes : List Note) (count : ℕ) (now : List State) → IsSoundBegun start → IsUnderWay start notes count before now
+    → HasGatheredChanges start notes count now before after groups
 
 -- one source was settled, and its changes are one more group where it came to a new set
-pub record GathersOne (n : ℕ) (before after : Board) (groups later : List (List Change)) : Type 0 where
+pub record GathersChangesOf (n : ℕ) (before after : Board) (groups later : List (List Change)) : Type 0 where
   pub settled : Settled
   pub comes : settled_of before n ≡ Some settled
   pub board : after ≡ settled_as before n settled.verdict
@@ -183,8 +183,8 @@ some_names [] = None
 some_names (name ∷ names) = Some (name ∷ names)
 
 -- the names that the clean-up takes, where there are any and it is to be
-abbrev pub names_to_go : Bool → List Verdict2 → List (List ℕ) → Option (List (List ℕ))
-names_to_go cleanup verdicts loose = if cleans cleanup verdicts then some_names loose else None
+abbrev pub names_to_remove : Bool → List Verdict2 → List (List ℕ) → Option (List (List ℕ))
+names_to_remove cleanup verdicts loose = if cleans cleanup verdicts then some_names loose else None
 
 -- what a log tells with the clean-up
 abbrev pub with_removed : RunLog → Option (List (List ℕ)) → RunLog
@@ -193,84 +193,84 @@ with_removed log names = record log { removed = removed_names (names_of_group na
 -- ---- the end
 
 -- The sets of all sources that are told as installed are committed but those of these: one by one all are, together none.
-pub record HasAllBut (together : Bool) (start : Start) (notes : List Note) (opened now : List State) (b : Board) (picks : List Pick) : Type 0 where
+pub record HasCommittedAllBut (together : Bool) (start : RunStart) (notes : List Note) (opened now : List State) (b : Board) (picks : List NewSource) : Type 0 where
   pub told : IsTold now
   pub commits : List (List Group)
-  pub made : Made (commits_of commits) opened now
-  pub each : Each IsOneSet commits
+  pub made : CommitsMade (commits_of commits) opened now
+  pub each : Each CommitsOneSource commits
   pub groups : AreGroups (begun_of start) notes (all_groups commits)
   pub order : installed_in b ≡ sources_in (all_groups commits) ++ numbers_of picks
   pub first : together ≡ true → commits ≡ []
   pub alone : together ≡ false → picks ≡ []
 
 -- what is left to be committed of a run that is under way: the changes of these sources
-pub record HasLast (together : Bool) (start : Start) (notes : List Note) (count : ℕ) (before : Board) (old now : List State) (b : Board) (groups : List (List Change)) : Type 0 where
+pub record HasUncommitted (together : Bool) (start : RunStart) (notes : List Note) (count : ℕ) (before : Board) (old now : List State) (b : Board) (groups : List (List Change)) : Type 0 where
   pub under_way : IsUnderWay start notes count b now
-  pub picks : List Pick
+  pub picks : List NewSource
   pub are : groups ≡ groups_for picks
-  pub each : Each (IsPick start notes now) picks
+  pub each : Each (IsNewSource start notes now) picks
   pub in_turn : AreRising (numbers_of picks)
-  pub sets : (opened : List State) → (together ≡ true → before.settled ≡ []) → HasCommittedSets (begun_of start) notes opened old before → HasAllBut together start notes opened now b picks
+  pub sets : (opened : List State) → (together ≡ true → before.settled ≡ []) → HasCommittedSets (begun_of start) notes opened old before → HasCommittedAllBut together start notes opened now b picks
 
 -- so is it of each run that is under way
-abbrev pub LeavesLast : Bool → Board → Board → List State → List State → List (List Change) → Type 0
-LeavesLast together before after old now groups =
-    (start : Start) (notes : List Note) (count : ℕ) → IsSoundBegun start → IsUnderWay start notes count before old → HasLast together start notes count before old now after groups
+abbrev pub LeavesUncommitted : Bool → Board → Board → List State → List State → List (List Change) → Type 0
+LeavesUncommitted together before after old now groups =
+    (start : RunStart) (notes : List Note) (count : ℕ) → IsSoundBegun start → IsUnderWay start notes count before old → HasUncommitted together start notes count before old now after groups
 
 -- A run that is under way began over these lists, at rest when the journal was open, and has committed its sets; together it
 -- has settled nothing.
-pub record HasBegunOver (together : Bool) (start : Start) (notes : List Note) (count : ℕ) (lists : Files) (opened now : List State) (b : Board) : Type 0 where
+pub record RunsOverLists (together : Bool) (start : RunStart) (notes : List Note) (count : ℕ) (lists : Files) (opened now : List State) (b : Board) : Type 0 where
   pub sound : IsSoundBegun start
   pub under_way : IsUnderWay start notes count b now
   pub first : together ≡ true → b.settled ≡ []
   pub sets : HasCommittedSets (begun_of start) notes opened now b
-  pub rest : Stands (IsAtRest lists) opened
-  pub over : BeginsOver (begun_of start) lists
+  pub rest : IsNow (IsAtRest lists) opened
+  pub over : ReadsPlanned (begun_of start) lists
 
 -- where each such run stops at its end, it is at a moment of its commits
-abbrev pub StopsLast : Bool → Bool → Board → List State → List State → Type 0
-StopsLast together cleanup b old now =
-    (start : Start) (notes : List Note) (count : ℕ) (lists : Files) (opened : List State) → start.config.settings.cleanup ≡ cleanup
-    → HasBegunOver together start notes count lists opened old b → IsAtMoment start together lists opened now
+abbrev pub StopsWhileEnding : Bool → Bool → Board → List State → List State → Type 0
+StopsWhileEnding together cleanup b old now =
+    (start : RunStart) (notes : List Note) (count : ℕ) (lists : Files) (opened : List State) → start.config.settings.cleanup ≡ cleanup
+    → RunsOverLists together start notes count lists opened old b → HasProgress start together lists opened now
 
 -- all commits of a run over these lists are made, and this is its log
-pub record HasEnded (together : Bool) (start : Start) (notes : List Note) (lists : Files) (opened now : List State) (log : RunLog) : Type 0 where
+pub record HasCommittedAll (together : Bool) (start : RunStart) (notes : List Note) (lists : Files) (opened now : List State) (log : RunLog) : Type 0 where
   pub commits : List (List Group)
   pub ran : HasRun together (begun_of start) lists log commits
   pub same : ran.heard ≡ notes
-  pub made : Made (commits_of commits) opened now
+  pub made : CommitsMade (commits_of commits) opened now
 
 -- so are those of each such run
-abbrev pub EndsLast : Bool → Bool → Board → List State → List State → RunLog → Type 0
-EndsLast together cleanup b old now log =
-    (start : Start) (notes : List Note) (count : ℕ) (lists : Files) (opened : List State) → start.config.settings.cleanup ≡ cleanup
-    → HasBegunOver together start notes count lists opened old b → HasEnded together start notes lists opened now log
+abbrev pub CommitsAll : Bool → Bool → Board → List State → List State → RunLog → Type 0
+CommitsAll together cleanup b old now log =
+    (start : RunStart) (notes : List Note) (count : ℕ) (lists : Files) (opened : List State) → start.config.settings.cleanup ≡ cleanup
+    → RunsOverLists together start notes count lists opened old b → HasCommittedAll together start notes lists opened now log
 
 -- The log is that of the run's board, which is finished, with what the clean-up removed. Faults are those that the method
 -- counted, and all answers are those of the first method.
-pub record IsEnd (start : Start) (notes : List Note) (count : ℕ) (log : RunLog) : Type 0 where
-  pub tells : TellsBoard (begun_of start) notes log
+pub record IsLogOfRun (start : RunStart) (notes : List Note) (count : ℕ) (log : RunLog) : Type 0 where
+  pub tells : IsLogOfBoard (begun_of start) notes log
   pub counts : CountsUp start.count count log.asks
   pub lanes : Each (λ asked. asked.lane ≡ 0) log.asks
 
 -- so it is of each run that is under way
-abbrev pub Ends : Bool → Board → List State → RunLog → Type 0
-Ends cleanup b old log =
-    (start : Start) (notes : List Note) (count : ℕ) → IsSoundBegun start → start.config.settings.cleanup ≡ cleanup → IsUnderWay start notes count b old → IsEnd start notes count log
+abbrev pub EndsWithLog : Bool → Board → List State → RunLog → Type 0
+EndsWithLog cleanup b old log =
+    (start : RunStart) (notes : List Note) (count : ℕ) → IsSoundBegun start → start.config.settings.cleanup ≡ cleanup → IsUnderWay start notes count b old → IsLogOfRun start notes count log
 
 -- ---- the beginning
 
 -- A run over this mirror and count begins: its board is new, and over a disk that is at rest it begins with what was read.
-pub record HasStarted (run : Run) (mirror : Option Mirror) (count : ℕ) (now : List State) (b : Board) : Type 0 where
-  pub start : Start
+pub record IsNewRun (run : Run) (mirror : Option MirrorMap) (count : ℕ) (now : List State) (b : Board) : Type 0 where
+  pub start : RunStart
   pub from : start.mirror ≡ mirror
   pub at : start.count ≡ count
   pub sound : IsSoundBegun start
-  pub of_run : IsOfRun run (begun_of start)
+  pub of_run : IsConfiguredBy run (begun_of start)
   pub under_way : IsUnderWay start [] count b now
   pub none : b.settled ≡ []
-  pub read : (entry : List State) → ToldAs (IsAtRest (lists_now entry)) now → IsReadFrom entry now (begun_of start)
+  pub read : (entry : List State) → ToldAs (IsAtRest (installed_now entry)) now → IsReadFromDisk entry now (begun_of start)
 
 -- so does each run
-abbrev pub Starts : Run → List State → Board → Type 0
-Starts run now b = (mirror : Option Mirror) (count : ℕ) → HasStarted run mirror count now b
+abbrev pub StartsRun : Run → List State → Board → Type 0
+StartsRun run now b = (mirror : Option MirrorMap) (count : ℕ) → IsNewRun run mirror count now b

@@ -2,9 +2,9 @@
 ghost use Rattle.std.specs.Prelude.{Bool, IfOk};
 ghost use Rattle.acq_base.specs.Plan.{IsSound};
 ghost use Rattle.acq_outside.specs.Stays.{ReadsCounting};
-ghost use Rattle.update_core.specs.Standing.{board_of};
+ghost use Rattle.update_core.specs.BoardRefinement.{board_of};
 ghost use Rattle.update_engine.specs.Run.{run_of};
-ghost use Rattle.update_engine.specs.Session.{Starts};
+ghost use Rattle.update_engine.specs.Session.{StartsRun};
 
 use crate::known::beginnings_are_known;
 use crate::reading::{read_installed, read_sizes};
@@ -18,7 +18,7 @@ use update_core::Board;
 ///
 /// The plan is sound; `now` is the moment of the run in seconds since 1970-01-01 00:00:00 UTC. `Fault` only where the disk's
 /// count of faults rose.
-pub fn begin<D: Disk>(
+pub fn begin_run<D: Disk>(
     alloc: Global,
     disk: &mut D,
     plan: Plan,
@@ -28,7 +28,7 @@ pub fn begin<D: Disk>(
 ) -> Result<Board, OutError>
     requires { IsSound plan }
     ensures frame { ReadsCounting OutError.Fault D.Disk disk.old disk.new result }
-    ensures starts { (together : Bool) → IfOk result (λ board. Starts (run_of plan settings change now together) (D.trace disk.old) (board_of board)) }
+    ensures starts { (together : Bool) → IfOk result (λ board. StartsRun (run_of plan settings change now together) (D.trace disk.old) (board_of board)) }
 {
     beginnings_are_known();
     sources_are_planned();

@@ -1,19 +1,19 @@
 //! The end of a run: what is left to be committed, and the clean-up.
 ghost use Rattle.std.specs.Prelude.{◌≡◌, ◌≢◌, ◌++◌, [], ℕ, Bool, Err, IfOk, None, OnErr, OnOk, not, true, false};
 ghost use Rattle.std.specs.List.{list_all};
-ghost use Rattle.acq_outside.specs.Moments.{Stands};
+ghost use Rattle.acq_outside.specs.States.{IsNow};
 ghost use Rattle.acq_outside.specs.Stays.{StaysCounting};
 ghost use Rattle.board_model.specs.Boards.{first_ready, is_finished, log_of};
 ghost use Rattle.board_model.specs.Jobs.{NoneAsks};
 ghost use Rattle.commit_journal.specs.Changes.{AreAllStaged, CanRecord, filled_all};
-ghost use Rattle.commit_journal.specs.Commits.{KeepsUnnamed};
+ghost use Rattle.commit_journal.specs.Commits.{KeepsUnchangedFiles};
 ghost use Rattle.commit_journal.specs.Runs.{HasCommitted};
-ghost use Rattle.journal_model.specs.Rest.{IsIdle, IsSettled, part_bytes};
-ghost use Rattle.list_commits.specs.Made.{IsStopped};
+ghost use Rattle.journal_model.specs.Rest.{IsIdle, IsSynced, part_bytes};
+ghost use Rattle.list_commits.specs.Made.{IsCommitStopped};
 ghost use Rattle.list_commits.specs.RecordLaws.{group_of};
 ghost use Rattle.run_model.specs.Runs.{is_kept};
-ghost use Rattle.update_core.specs.Standing.{board_of};
-ghost use Rattle.update_engine.specs.Session.{Ends, EndsLast, IsStanding, LeavesLast, OnlySettles, StopsLast, names_to_go, with_removed};
+ghost use Rattle.update_core.specs.BoardRefinement.{board_of};
+ghost use Rattle.update_engine.specs.Session.{EndsWithLog, CommitsAll, MayCommit, LeavesUncommitted, OnlySettles, StopsWhileEnding, names_to_remove, with_removed};
 
 use crate::gathering::gather;
 use crate::known::{commits_are_known, ends_are_known};
@@ -37,7 +37,7 @@ pub fn settle_last<D: Disk>(
     journal: &mut Journal,
     board: &mut Board,
 ) -> Result<Row<Row<Change>>, RunError>
-    requires { IsStanding (board_of board.old) (D.trace disk.old) }
+    requires { MayCommit (board_of board.old) (D.trace disk.old) }
 
     ensures frame { StaysCounting RunError.DiskFault D.Disk disk.old disk.new result }
     ensures undamaged { (at : ℕ) → result ≢ Err (RunError.BadJournal at) }
@@ -46,9 +46,9 @@ pub fn settle_last<D: Disk>(
     ensures only { OnOk result (OnlySettles (board_of board.old) (board_of board.new)) }
 
     ensures bare { together ≡ true → D.trace disk.new ≡ D.trace disk.old }
-    ensures leaves { IfOk result (LeavesLast together (board_of board.old) (board_of board.new) (D.trace disk.old) (D.trace disk.new)) }
-    ensures idle { OnOk result (Stands IsIdle (D.trace disk.new)) }
-    ensures stops { (cleanup : Bool) → OnErr result (StopsLast together cleanup (board_of board.old) (D.trace disk.old) (D.trace disk.new)) }
+    ensures leaves { IfOk result (LeavesUncommitted together (board_of board.old) (board_of board.new) (D.trace disk.old) (D.trace disk.new)) }
+    ensures idle { OnOk result (IsNow IsIdle (D.trace disk.new)) }
+    ensures stops { (cleanup : Bool) → OnErr result (StopsWhileEnding together cleanup (board_of board.old) (D.trace disk.old) (D.trace disk.new)) }
 {
     commits_are_known();
     if together {
@@ -61,7 +61,7 @@ pub fn settle_last<D: Disk>(
 
 /// The log of a board on which nothing is asked and no source is ready.
 pub fn end_board<D: Disk>(board: Board, disk: &D) -> RunLog
-    requires stands { IsStanding (board_of board) (D.trace disk.now) }
+    requires stands { MayCommit (board_of board) (D.trace disk.now) }
     requires quiet { NoneAsks (board_of board) }
     requires none { first_ready (board_of board).slots ≡ None }
     ensures finished { is_finished (board_of board) ≡ true }
@@ -99,8 +99,8 @@ pub fn add_clean_up(
     groups: &mut Row<Row<Change>>,
 ) -> Result<(), NoMemory>
     requires { log.old.removed ≡ [] }
-    ensures groups { OnOk result (groups.new ≡ groups.old ++ group_of (names_to_go cleanup log.old.verdicts loose)) }
-    ensures log { OnOk result (log.new ≡ with_removed log.old (names_to_go cleanup log.old.verdicts loose)) }
+    ensures groups { OnOk result (groups.new ≡ groups.old ++ group_of (names_to_remove cleanup log.old.verdicts loose)) }
+    ensures log { OnOk result (log.new ≡ with_removed log.old (names_to_remove cleanup log.old.verdicts loose)) }
 {
     if !cleanup || !none_is_kept(log.verdicts.as_slice()) || loose.is_empty() {
         return Ok(());
@@ -121,20 +121,20 @@ pub fn commit_last<D: Disk>(
     groups: Row<Row<Change>>,
 ) -> Result<(), RunError>
     requires changes { CanRecord groups }
-    requires staged { Stands (AreAllStaged groups) (D.trace disk.old) }
-    requires idle { Stands IsIdle (D.trace disk.old) }
+    requires staged { IsNow (AreAllStaged groups) (D.trace disk.old) }
+    requires idle { IsNow IsIdle (D.trace disk.old) }
 
     ensures frame { StaysCounting RunError.DiskFault D.Disk disk.old disk.new result }
     ensures undamaged { (at : ℕ) → result ≢ Err (RunError.BadJournal at) }
 
     ensures some { OnErr result (groups ≢ []) }
 
-    ensures settled { Stands IsSettled (D.trace disk.old) → Stands IsSettled (D.trace disk.new) }
-    ensures idle { OnOk result (Stands IsIdle (D.trace disk.new)) }
+    ensures settled { IsNow IsSynced (D.trace disk.old) → IsNow IsSynced (D.trace disk.new) }
+    ensures idle { OnOk result (IsNow IsIdle (D.trace disk.new)) }
     ensures none { groups ≡ [] → D.trace disk.new ≡ D.trace disk.old }
-    ensures others { groups ≢ [] → KeepsUnnamed groups (D.trace disk.old) (D.trace disk.new) }
+    ensures others { groups ≢ [] → KeepsUnchangedFiles groups (D.trace disk.old) (D.trace disk.new) }
     ensures done { groups ≢ [] → OnOk result (HasCommitted (filled_all (part_bytes (D.trace disk.old)) groups) (D.trace disk.old) (D.trace disk.new)) }
-    ensures stopped { OnErr result (IsStopped (filled_all (part_bytes (D.trace disk.old)) groups) (D.trace disk.old) (D.trace disk.new)) }
+    ensures stopped { OnErr result (IsCommitStopped (filled_all (part_bytes (D.trace disk.old)) groups) (D.trace disk.old) (D.trace disk.new)) }
 {
     if groups.is_empty() {
         return Ok(());
@@ -146,7 +146,7 @@ pub fn commit_last<D: Disk>(
 /// The end of a run on whose board no item asks: what is ready is settled and committed, then the clean-up.
 ///
 /// `DiskFault` only where the disk's count of faults rose, and never `BadJournal`.
-pub fn finish<D: Disk>(
+pub fn end_run<D: Disk>(
     alloc: Global,
     together: bool,
     cleanup: bool,
@@ -154,16 +154,16 @@ pub fn finish<D: Disk>(
     journal: &mut Journal,
     board: Board,
 ) -> Result<RunLog, RunError>
-    requires stands { IsStanding (board_of board) (D.trace disk.old) }
+    requires stands { MayCommit (board_of board) (D.trace disk.old) }
     requires quiet { NoneAsks (board_of board) }
 
     ensures frame { StaysCounting RunError.DiskFault D.Disk disk.old disk.new result }
     ensures undamaged { (at : ℕ) → result ≢ Err (RunError.BadJournal at) }
 
-    ensures idle { OnOk result (Stands IsIdle (D.trace disk.new)) }
-    ensures ends { IfOk result (Ends cleanup (board_of board) (D.trace disk.old)) }
-    ensures stops { OnErr result (StopsLast together cleanup (board_of board) (D.trace disk.old) (D.trace disk.new)) }
-    ensures ended { IfOk result (EndsLast together cleanup (board_of board) (D.trace disk.old) (D.trace disk.new)) }
+    ensures idle { OnOk result (IsNow IsIdle (D.trace disk.new)) }
+    ensures ends { IfOk result (EndsWithLog cleanup (board_of board) (D.trace disk.old)) }
+    ensures stops { OnErr result (StopsWhileEnding together cleanup (board_of board) (D.trace disk.old) (D.trace disk.new)) }
+    ensures ended { IfOk result (CommitsAll together cleanup (board_of board) (D.trace disk.old) (D.trace disk.new)) }
 {
     commits_are_known();
     let mut board = board;

@@ -1,8 +1,8 @@
 //! The changes of all sources that are ready, for one commit.
 ghost use Rattle.std.specs.Prelude.{◌≡◌, None, IfOk, OnOk, Some};
 ghost use Rattle.board_model.specs.Boards.{first_ready};
-ghost use Rattle.update_core.specs.Standing.{board_of};
-ghost use Rattle.update_engine.specs.Session.{Gathers, GathersOne, HasSettled, OnlySettles};
+ghost use Rattle.update_core.specs.BoardRefinement.{board_of};
+ghost use Rattle.update_engine.specs.Session.{GathersChanges, GathersChangesOf, HasSettled, OnlySettles};
 
 use crate::known::commits_are_known;
 use crate::settling::{changes_from, is_new};
@@ -16,7 +16,7 @@ use update_core::Board;
 pub fn gather(alloc: Global, board: &mut Board) -> Result<Row<Row<Change>>, NoMemory>
     ensures none { OnOk result (first_ready (board_of board.new).slots ≡ None) }
     ensures only { OnOk result (OnlySettles (board_of board.old) (board_of board.new)) }
-    ensures goes { IfOk result (Gathers (board_of board.old) (board_of board.new)) }
+    ensures goes { IfOk result (GathersChanges (board_of board.old) (board_of board.new)) }
 {
     commits_are_known();
     let mut groups = Row::new(alloc);
@@ -35,7 +35,7 @@ fn gather_ready(
 ) -> Result<(), NoMemory>
     requires { first_ready (board_of board.old).slots ≡ Some place }
     ensures settled { OnOk result (HasSettled place (board_of board.old) (board_of board.new)) }
-    ensures goes { OnOk result (GathersOne place (board_of board.old) (board_of board.new) groups.old groups.new) }
+    ensures goes { OnOk result (GathersChangesOf place (board_of board.old) (board_of board.new) groups.old groups.new) }
 {
     let settled = board.settle(alloc, place)?;
     if !is_new(&settled.verdict) {

@@ -1,13 +1,13 @@
 //! The loop of a run over one method.
 ghost use Rattle.std.specs.Prelude.{◌≡◌, ◌≢◌, ℕ, true, Err, OnErr, OnOk};
 ghost use Rattle.acq_outside.specs.Fetches.{Fetches};
-ghost use Rattle.acq_outside.specs.Moments.{Since, Stands};
+ghost use Rattle.acq_outside.specs.States.{Since, IsNow};
 ghost use Rattle.acq_outside.specs.Stays.{StaysCounting};
 ghost use Rattle.board_model.specs.Jobs.{NoneAsks};
-ghost use Rattle.journal_model.specs.Rest.{IsIdle, KeepsRest};
-ghost use Rattle.update_core.specs.Standing.{board_of};
-ghost use Rattle.run_jobs.specs.Running.{IsReady};
-ghost use Rattle.update_engine.specs.Session.{GoesAside, GoesFar, IsStanding, OnlySettles, StopsAside, StopsFar};
+ghost use Rattle.journal_model.specs.Rest.{IsIdle, KeptAtRestSince};
+ghost use Rattle.update_core.specs.BoardRefinement.{board_of};
+ghost use Rattle.run_jobs.specs.Running.{MayAsk};
+ghost use Rattle.update_engine.specs.Session.{KeepsRunGoing, RunGoesOn, MayCommit, OnlySettles, StopsBetweenAsks, StopsWhileAsking};
 
 use crate::known::commits_are_known;
 use crate::settling::install_all;
@@ -24,7 +24,7 @@ use update_core::Board;
 ///
 /// `DiskFault` only where the disk's count of faults rose, and never `BadJournal`.
 #[tactic(auto, using(crate::proofs::Stepping::far_nowhere))]
-pub fn run_items<D: Disk, M: Method>(
+pub fn ask_until_done<D: Disk, M: Method>(
     alloc: Global,
     judge: &Judge,
     together: bool,
@@ -33,7 +33,7 @@ pub fn run_items<D: Disk, M: Method>(
     method: &mut M,
     board: &mut Board,
 ) -> Result<(), RunError>
-    requires ready { IsReady (M.world method.old) (M.faults method.old) (board_of board.old) (D.trace disk.old) }
+    requires ready { MayAsk (M.world method.old) (M.faults method.old) (board_of board.old) (D.trace disk.old) }
     requires change { judge.now.change ≡ (board_of board.old).config.change }
 
     ensures frame { StaysCounting RunError.DiskFault D.Disk disk.old disk.new result }
@@ -44,10 +44,10 @@ pub fn run_items<D: Disk, M: Method>(
     ensures none { OnOk result (NoneAsks (board_of board.new)) }
     ensures config { OnOk result ((board_of board.new).config ≡ (board_of board.old).config) }
 
-    ensures bare { together ≡ true → Since (D.trace disk.old) (D.trace disk.new) (KeepsRest (D.trace disk.old)) }
-    ensures idle { OnOk result (Stands IsIdle (D.trace disk.new)) }
-    ensures stops { OnErr result (StopsFar (M.world method.old) (M.faults method.old) (board_of board.old) (D.trace disk.old) (D.trace disk.new)) }
-    ensures goes { OnOk result (GoesFar (M.world method.old) (M.faults method.old) (M.faults method.new)
+    ensures bare { together ≡ true → Since (D.trace disk.old) (D.trace disk.new) (KeptAtRestSince (D.trace disk.old)) }
+    ensures idle { OnOk result (IsNow IsIdle (D.trace disk.new)) }
+    ensures stops { OnErr result (StopsWhileAsking (M.world method.old) (M.faults method.old) (board_of board.old) (D.trace disk.old) (D.trace disk.new)) }
+    ensures goes { OnOk result (RunGoesOn (M.world method.old) (M.faults method.old) (M.faults method.new)
         (board_of board.old) (board_of board.new) (D.trace disk.old) (D.trace disk.new)) }
 {
     logs_are_short();
@@ -68,7 +68,7 @@ fn install_between<D: Disk>(
     journal: &mut Journal,
     board: &mut Board,
 ) -> Result<(), RunError>
-    requires { IsStanding (board_of board.old) (D.trace disk.old) }
+    requires { MayCommit (board_of board.old) (D.trace disk.old) }
 
     ensures frame { StaysCounting RunError.DiskFault D.Disk disk.old disk.new result }
     ensures undamaged { (at : ℕ) → result ≢ Err (RunError.BadJournal at) }
@@ -77,9 +77,9 @@ fn install_between<D: Disk>(
     ensures only { OnOk result (OnlySettles (board_of board.old) (board_of board.new)) }
 
     ensures bare { together ≡ true → D.trace disk.new ≡ D.trace disk.old }
-    ensures idle { OnOk result (Stands IsIdle (D.trace disk.new)) }
-    ensures goes { OnOk result (GoesAside (board_of board.old) (board_of board.new) (D.trace disk.old) (D.trace disk.new)) }
-    ensures stops { OnErr result (StopsAside (board_of board.old) (D.trace disk.old) (D.trace disk.new)) }
+    ensures idle { OnOk result (IsNow IsIdle (D.trace disk.new)) }
+    ensures goes { OnOk result (KeepsRunGoing (board_of board.old) (board_of board.new) (D.trace disk.old) (D.trace disk.new)) }
+    ensures stops { OnErr result (StopsBetweenAsks (board_of board.old) (D.trace disk.old) (D.trace disk.new)) }
 {
     if together {
         return Ok(());

@@ -1,7 +1,7 @@
 //! What a run reads before it asks: what is installed, and from where lists on their way may be resumed.
 ghost use Rattle.std.specs.Prelude.{◌≡◌, ◌++◌, ◌∷◌, [], All, IfOk, IsTrue, OnOk, length, map};
 ghost use Rattle.acq_base.specs.Plan.{IsPlanned};
-ghost use Rattle.acq_outside.specs.Moments.{IsTold};
+ghost use Rattle.acq_outside.specs.States.{IsTold};
 ghost use Rattle.acq_outside.specs.Stays.{ReadsCounting};
 ghost use Rattle.journal_model.specs.Names.{IsPutName};
 ghost use Rattle.lists_dir.specs.Installed.{installed_of};

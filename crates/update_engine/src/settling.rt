@@ -1,14 +1,14 @@
 //! Sources that are ready are settled, and their new sets committed.
 ghost use Rattle.std.specs.Prelude.{◌≡◌, ◌≢◌, ◌∷◌, [], ℕ, Err, IfOk, IsSome, None, OnErr, OnOk, Some, slice_get};
 ghost use Rattle.acq_base.specs.declared.plan.Source.{Source as AnySource};
-ghost use Rattle.acq_outside.specs.Moments.{Stands};
+ghost use Rattle.acq_outside.specs.States.{IsNow};
 ghost use Rattle.acq_outside.specs.Stays.{StaysCounting};
 ghost use Rattle.board_model.specs.Boards.{first_ready};
 ghost use Rattle.journal_model.specs.Rest.{IsIdle};
 ghost use Rattle.list_commits.specs.Changes.{changes_for};
 ghost use Rattle.run_model.specs.Runs.{is_installed};
-ghost use Rattle.update_core.specs.Standing.{board_of};
-ghost use Rattle.update_engine.specs.Session.{GoesAside, HasSettled, IsStanding, OnlySettles, StopsAside};
+ghost use Rattle.update_core.specs.BoardRefinement.{board_of};
+ghost use Rattle.update_engine.specs.Session.{KeepsRunGoing, HasSettled, MayCommit, OnlySettles, StopsBetweenAsks};
 
 use crate::known::commits_are_known;
 use acq_base::{NoMemory, Row};
@@ -67,16 +67,16 @@ pub fn install_ready<D: Disk>(
     place: u32,
 ) -> Result<(), RunError>
     requires ready { first_ready (board_of board.old).slots ≡ Some place }
-    requires stands { IsStanding (board_of board.old) (D.trace disk.old) }
+    requires stands { MayCommit (board_of board.old) (D.trace disk.old) }
 
     ensures frame { StaysCounting RunError.DiskFault D.Disk disk.old disk.new result }
     ensures undamaged { (at : ℕ) → result ≢ Err (RunError.BadJournal at) }
 
     ensures settled { OnOk result (HasSettled place (board_of board.old) (board_of board.new)) }
 
-    ensures idle { OnOk result (Stands IsIdle (D.trace disk.new)) }
-    ensures goes { OnOk result (GoesAside (board_of board.old) (board_of board.new) (D.trace disk.old) (D.trace disk.new)) }
-    ensures stops { OnErr result (StopsAside (board_of board.old) (D.trace disk.old) (D.trace disk.new)) }
+    ensures idle { OnOk result (IsNow IsIdle (D.trace disk.new)) }
+    ensures goes { OnOk result (KeepsRunGoing (board_of board.old) (board_of board.new) (D.trace disk.old) (D.trace disk.new)) }
+    ensures stops { OnErr result (StopsBetweenAsks (board_of board.old) (D.trace disk.old) (D.trace disk.new)) }
 {
     commits_are_known();
     let settled = board.settle(alloc, place)?;
@@ -100,7 +100,7 @@ pub fn install_all<D: Disk>(
     journal: &mut Journal,
     board: &mut Board,
 ) -> Result<(), RunError>
-    requires { IsStanding (board_of board.old) (D.trace disk.old) }
+    requires { MayCommit (board_of board.old) (D.trace disk.old) }
 
     ensures frame { StaysCounting RunError.DiskFault D.Disk disk.old disk.new result }
     ensures undamaged { (at : ℕ) → result ≢ Err (RunError.BadJournal at) }
@@ -108,9 +108,9 @@ pub fn install_all<D: Disk>(
     ensures none { OnOk result (first_ready (board_of board.new).slots ≡ None) }
     ensures only { OnOk result (OnlySettles (board_of board.old) (board_of board.new)) }
 
-    ensures idle { OnOk result (Stands IsIdle (D.trace disk.new)) }
-    ensures goes { OnOk result (GoesAside (board_of board.old) (board_of board.new) (D.trace disk.old) (D.trace disk.new)) }
-    ensures stops { OnErr result (StopsAside (board_of board.old) (D.trace disk.old) (D.trace disk.new)) }
+    ensures idle { OnOk result (IsNow IsIdle (D.trace disk.new)) }
+    ensures goes { OnOk result (KeepsRunGoing (board_of board.old) (board_of board.new) (D.trace disk.old) (D.trace disk.new)) }
+    ensures stops { OnErr result (StopsBetweenAsks (board_of board.old) (D.trace disk.old) (D.trace disk.new)) }
 {
     'ready: while let Some(place) = board.ready() {
         install_ready(alloc, disk, journal, board, place)?;

@@ -4,12 +4,12 @@ ghost use Rattle.acq_base.specs.Plan.{IsSound};
 ghost use Rattle.acq_outside.specs.Fetches.{Fetches};
 ghost use Rattle.acq_outside.specs.Stays.{StaysCounting};
 ghost use Rattle.commit_journal.specs.Opening.{damage_of};
-ghost use Rattle.update_engine.specs.Run.{FindsDamage, KeepsMethods, Logged, StaysSafe, engine, run_of};
+ghost use Rattle.update_engine.specs.Run.{FindsDamage, KeepsMethods, LogIsTrue, SurvivesCrash, engine, run_of};
 
-use crate::beginning::begin;
-use crate::ending::finish;
+use crate::beginning::begin_run;
+use crate::ending::end_run;
 use crate::known::commits_are_known;
-use crate::looping::run_items;
+use crate::looping::ask_until_done;
 use acq_base::{Plan, Settings};
 use acq_outside::{Disk, Method};
 use commit_journal::open_journal;
@@ -43,10 +43,10 @@ pub fn run_update<D: Disk, M: Method>(
 
     ensures damage { IsTrue (D.tells disk.old) → FindsDamage (damage_of (D.files disk.old)) result }
     ensures verdicts { IfOk result (λ log. length log.verdicts ≡ length plan.sources) }
-    ensures log { IfOk result (Logged (run_of plan settings judge.now.change now together)
+    ensures log { IfOk result (LogIsTrue (run_of plan settings judge.now.change now together)
         (engine D.Disk M.Method disk.old methods.old.items) (engine D.Disk M.Method disk.new methods.new.items)) }
 
-    ensures crash { StaysSafe (run_of plan settings judge.now.change now together)
+    ensures crash { SurvivesCrash (run_of plan settings judge.now.change now together)
         (engine D.Disk M.Method disk.old methods.old.items) (engine D.Disk M.Method disk.new methods.new.items) }
 {
     let method = &mut methods.as_mut_slice()[0];
@@ -72,17 +72,17 @@ fn run_over<D: Disk, M: Method>(
 
     ensures damage { IsTrue (D.tells disk.old) → FindsDamage (damage_of (D.files disk.old)) result }
     ensures verdicts { IfOk result (λ log. length log.verdicts ≡ length plan.sources) }
-    ensures log { (others : List M) → IfOk result (Logged (run_of plan settings judge.now.change now together)
+    ensures log { (others : List M) → IfOk result (LogIsTrue (run_of plan settings judge.now.change now together)
         (engine D.Disk M.Method disk.old (method.old ∷ others)) (engine D.Disk M.Method disk.new (method.new ∷ others))) }
 
-    ensures crash { (others : List M) → StaysSafe (run_of plan settings judge.now.change now together)
+    ensures crash { (others : List M) → SurvivesCrash (run_of plan settings judge.now.change now together)
         (engine D.Disk M.Method disk.old (method.old ∷ others)) (engine D.Disk M.Method disk.new (method.new ∷ others)) }
 {
     commits_are_known();
     let cleanup = settings.cleanup;
     let mut journal = open_journal(alloc, disk)?;
-    let mut board = begin(alloc, disk, plan, settings, judge.change, now)?;
-    run_items(
+    let mut board = begin_run(alloc, disk, plan, settings, judge.change, now)?;
+    ask_until_done(
         alloc,
         judge,
         together,
@@ -91,6 +91,6 @@ fn run_over<D: Disk, M: Method>(
         method,
         &mut board,
     )?;
-    let log = finish(alloc, together, cleanup, disk, &mut journal, board)?;
+    let log = end_run(alloc, together, cleanup, disk, &mut journal, board)?;
     Ok(log)
 }

@@ -13,8 +13,8 @@ use Rattle.acq_base.specs.declared.plan.Target.{Target}
 use Rattle.release_file.specs.Release.{listed_sum}
 use Rattle.release_file.specs.declared.release.Release.{Release}
 use Rattle.update_model.specs.Carried.{StaysBeside, Carried, sources_of, all_names, DeedsLeadToNext}
-use Rattle.update_model.specs.Next.{Holds, Keeps, Leaves, Deed, Installs, deed_of, holds, clean_up, cleans, is_settled_well}
-use Rattle.update_model.specs.Outcomes.{Admitted, Outcome, Directory, new_set}
+use Rattle.update_model.specs.Next.{HasWholeSet, Keeps, OutcomeLeaves, Deed, Installs, deed_of, has_whole_set, clean_up, cleans, lets_clean_up}
+use Rattle.update_model.specs.Outcomes.{AdmittedRelease, Outcome, Directory, new_set}
 use Rattle.update_model.proofs.Nexts.{sets-found, tests-hold}
 
 -- ---- lists
@@ -53,14 +53,14 @@ listed-moved : (a b : Directory) (release : Release) (targets : List Target) →
 listed-moved a b release [] same h = tt
 listed-moved a b release (t ∷ targets) same h = (ap (option_map sum_of) same.0 ∙ h.0, listed-moved a b release targets same.1 h.1)
 
-holds-moved : (a b : Directory) (source : Source) (set : Admitted) → Keeps source a b → Holds a source set → Holds b source set
+holds-moved : (a b : Directory) (source : Source) (set : AdmittedRelease) → Keeps source a b → HasWholeSet a source set → HasWholeSet b source set
 holds-moved a b source set same h = record { release_file = same.0 ∙ h.release_file; lists = listed-moved a b set.release source.targets same.1 h.lists }
 
 keeps-both : (names : List (List ℕ)) (a b c : Directory) → Each (λ name. b name ≡ a name) names → Each (λ name. c name ≡ b name) names → Each (λ name. c name ≡ a name) names
 keeps-both [] a b c h k = tt
 keeps-both (name ∷ names) a b c h k = (k.0 ∙ h.0, keeps-both names a b c h.1 k.1)
 
-leaves-moved : (o : Outcome) (source : Source) (dir a b : Directory) → Keeps source a b → Leaves o source dir a → Leaves o source dir b
+leaves-moved : (o : Outcome) (source : Source) (dir a b : Directory) → Keeps source a b → OutcomeLeaves o source dir a → OutcomeLeaves o source dir b
 leaves-moved (Ok set) source dir a b same h = holds-moved a b source set same h
 leaves-moved (Err why) source dir a b same h = keeps-both (names_of source) dir a b h same
 
@@ -78,7 +78,7 @@ others-keep dir before between (t ∷ order) same kept = (
 )
 
 abbrev IsSettledIn : Directory → Directory → Source × Outcome → Type 0
-IsSettledIn dir after s = Leaves s.1 s.0 dir after
+IsSettledIn dir after s = OutcomeLeaves s.1 s.0 dir after
 
 abbrev source_deeds : Directory → List (Source × Outcome) → List Deed
 source_deeds dir order = filter_map (deed_of dir) order
@@ -93,7 +93,7 @@ one-more : (dir : Directory) (source : Source) (o : Outcome) (order : List (Sour
     → ((name : List ℕ) → Contains (names_of source) name → Contains (all_names (sources_of order)) name → ⊥)
     → Keeps source dir before → Each (λ t. Keeps t.0 dir before) order
     → Carried (cons_option (deed_of dir (source, o)) (source_deeds dir order)) before after → Rest dir order after
-    → (Leaves o source dir after × Each (IsSettledIn dir after) order) × StaysBeside (names_of source ++ all_names (sources_of order)) before after
+    → (OutcomeLeaves o source dir after × Each (IsSettledIn dir after) order) × StaysBeside (names_of source ++ all_names (sources_of order)) before after
 one-more dir source o order before after far here kept carried more = at o carried
   where
     rest : List (List ℕ)
@@ -106,23 +106,23 @@ one-more dir source o order before after far here kept carried more = at o carri
     both between first second = λ name none.
         second name (λ c. none (Contains-append_right (names_of source) rest name c)) ∙ first name (λ c. none (Contains-append_left (names_of source) rest name c))
 
-    unchanged : (o : Outcome) → Leaves o source dir before → Carried (source_deeds dir order) before after
-        → (Leaves o source dir after × Each (IsSettledIn dir after) order) × StaysBeside (names_of source ++ rest) before after
+    unchanged : (o : Outcome) → OutcomeLeaves o source dir before → Carried (source_deeds dir order) before after
+        → (OutcomeLeaves o source dir after × Each (IsSettledIn dir after) order) × StaysBeside (names_of source ++ rest) before after
     unchanged o left c =
         let m = more before kept c in
         ((leaves-moved o source dir before after (stays before m.1) left, m.0), both before (λ name none. refl) m.1)
 
-    look : (set : Admitted) (b : Bool) → holds dir source set ≡ b → Carried (cons_option (if b then None else Some (Installs source set)) (source_deeds dir order)) before after
-        → (Holds after source set × Each (IsSettledIn dir after) order) × StaysBeside (names_of source ++ rest) before after
+    look : (set : AdmittedRelease) (b : Bool) → has_whole_set dir source set ≡ b → Carried (cons_option (if b then None else Some (Installs source set)) (source_deeds dir order)) before after
+        → (HasWholeSet after source set × Each (IsSettledIn dir after) order) × StaysBeside (names_of source ++ rest) before after
     look set true e c = unchanged (Ok set) (holds-moved dir before source set here ((sets-found dir source set).0 e)) c
     look set false e c =
         let m = more c.0 (others-keep dir before c.0 order (λ name there. c.1.1 name (λ mine. far name mine there)) kept) c.2 in
         ((holds-moved c.0 after source set (stays c.0 m.1) c.1.0, m.0), both c.0 c.1.1 m.1)
 
     at : (o : Outcome) → Carried (cons_option (deed_of dir (source, o)) (source_deeds dir order)) before after
-        → (Leaves o source dir after × Each (IsSettledIn dir after) order) × StaysBeside (names_of source ++ rest) before after
+        → (OutcomeLeaves o source dir after × Each (IsSettledIn dir after) order) × StaysBeside (names_of source ++ rest) before after
     at (Err why) c = unchanged (Err why) here c
-    at (Ok set) c = look set (holds dir source set) refl c
+    at (Ok set) c = look set (has_whole_set dir source set) refl c
 
 installs : (dir : Directory) (order : List (Source × Outcome)) (before after : Directory)
     → AllPairs (λ a b. a ≢ b) (all_names (sources_of order))
@@ -220,37 +220,37 @@ is-loose (n ∷ ns) name =
 pub deeds-lead : DeedsLeadToNext
 deeds-lead world dir parts plan settings change now order loose after settled ok carried =
     let set_of : Source → Outcome = λ source. new_set world dir parts source settings change now in
-    let well : Outcome → Type 0 = λ o. is_settled_well o ≡ true in
+    let well : Outcome → Type 0 = λ o. lets_clean_up o ≡ true in
     let s = carried-split (source_deeds dir order) (clean_up (cleans settings (map (λ (x : Source × Outcome). x.1) order)) loose) dir after carried in
     let m : Directory = s.0 in
     let kept : Each (λ (x : Source × Outcome). Keeps x.0 dir dir) order = each-from (λ (x : Source × Outcome). Keeps x.0 dir dir) order (λ x c. each-from (λ name. dir name ≡ dir name) (names_of x.0) (λ name d. refl)) in
     let i = installs dir order dir m settled.distinct kept s.1 in
     let c = cleans-so (cleans settings (map (λ (x : Source × Outcome). x.1) order)) loose m after s.2 in
-    let left : Each (λ source. Leaves (set_of source) source dir m) (sources_of order) =
-    each-mapped (λ (x : Source × Outcome). x.0) (λ source. Leaves (set_of source) source dir m) order (by-mirror set_of (λ o source. Leaves o source dir m) order settled.outcomes i.0) in
-    let wells : list_all is_settled_well (map (λ (x : Source × Outcome). x.1) order) ≡ list_all is_settled_well (map set_of plan.sources) =
+    let left : Each (λ source. OutcomeLeaves (set_of source) source dir m) (sources_of order) =
+    each-mapped (λ (x : Source × Outcome). x.0) (λ source. OutcomeLeaves (set_of source) source dir m) order (by-mirror set_of (λ o source. OutcomeLeaves o source dir m) order settled.outcomes i.0) in
+    let wells : list_all lets_clean_up (map (λ (x : Source × Outcome). x.1) order) ≡ list_all lets_clean_up (map set_of plan.sources) =
     same-bools _ _
     (λ h.
-    let one : Each well (map (λ (x : Source × Outcome). x.1) order) = (tests-hold is_settled_well well (λ o. ((λ x. x), (λ x. x))) (map (λ (x : Source × Outcome). x.1) order)).0 h in
+    let one : Each well (map (λ (x : Source × Outcome). x.1) order) = (tests-hold lets_clean_up well (λ o. ((λ x. x), (λ x. x))) (map (λ (x : Source × Outcome). x.1) order)).0 h in
     let two : Each (λ (x : Source × Outcome). well (set_of x.0)) order = by-mirror set_of (λ o source. well o) order settled.outcomes (each-unmapped (λ (x : Source × Outcome). x.1) well order one) in
     let three : Each (λ source. well (set_of source)) (sources_of order) = each-mapped (λ (x : Source × Outcome). x.0) (λ source. well (set_of source)) order two in
     let four : Each (λ source. well (set_of source)) plan.sources = each-from (λ source. well (set_of source)) plan.sources (λ source d. each-at (λ x. well (set_of x)) (sources_of order) source three ((settled.sources source).0 d)) in
-    (tests-hold is_settled_well well (λ o. ((λ x. x), (λ x. x))) (map set_of plan.sources)).1 (each-mapped set_of well plan.sources four))
+    (tests-hold lets_clean_up well (λ o. ((λ x. x), (λ x. x))) (map set_of plan.sources)).1 (each-mapped set_of well plan.sources four))
     (λ h.
     let four : Each (λ source. well (set_of source)) plan.sources =
-    each-unmapped set_of well plan.sources ((tests-hold is_settled_well well (λ o. ((λ x. x), (λ x. x))) (map set_of plan.sources)).0 h) in
+    each-unmapped set_of well plan.sources ((tests-hold lets_clean_up well (λ o. ((λ x. x), (λ x. x))) (map set_of plan.sources)).0 h) in
     let three : Each (λ source. well (set_of source)) (sources_of order) =
     each-from (λ source. well (set_of source)) (sources_of order) (λ source d. each-at (λ x. well (set_of x)) plan.sources source four ((settled.sources source).1 d)) in
     let two : Each (λ (x : Source × Outcome). well (set_of x.0)) order = each-unmapped (λ (x : Source × Outcome). x.0) (λ source. well (set_of source)) order three in
     let one : Each (λ (x : Source × Outcome). well x.1) order = from-mirror set_of (λ o source. well o) order settled.outcomes two in
-    (tests-hold is_settled_well well (λ o. ((λ x. x), (λ x. x))) (map (λ (x : Source × Outcome). x.1) order)).1 (each-mapped (λ (x : Source × Outcome). x.1) well order one))
+    (tests-hold lets_clean_up well (λ o. ((λ x. x), (λ x. x))) (map (λ (x : Source × Outcome). x.1) order)).1 (each-mapped (λ (x : Source × Outcome). x.1) well order one))
     in
     let tests : cleans settings (map (λ (x : Source × Outcome). x.1) order) ≡ cleans settings (map set_of plan.sources) = ap (λ b. settings.cleanup && b) wells in
     record {
-      sources = each-from (λ source. Leaves (set_of source) source dir after) plan.sources (λ source d.
+      sources = each-from (λ source. OutcomeLeaves (set_of source) source dir after) plan.sources (λ source d.
           leaves-moved (set_of source) source dir m after
           (each-from (λ name. after name ≡ m name) (names_of source) (λ name n. c.stay name (λ l. ok.apart name l (names-in plan.sources source name d n))))
-          (each-at (λ x. Leaves (set_of x) x dir m) (sources_of order) source left ((settled.sources source).0 d)));
+          (each-at (λ x. OutcomeLeaves (set_of x) x dir m) (sources_of order) source left ((settled.sources source).0 d)));
       others = λ name none.
           let former : m name ≡ dir name =
           i.1 name (λ d. let at = source-with (sources_of order) name d in none (names-in plan.sources at.0 name ((settled.sources at.0).1 at.1) at.2)) in

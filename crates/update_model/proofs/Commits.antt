@@ -8,7 +8,7 @@ use Rattle.acq_base.specs.declared.plan.Source.{Source}
 use Rattle.acq_base.specs.declared.settings.Settings.{Settings}
 use Rattle.acq_base.proofs.Lists.{first-or-rest}
 use Rattle.update_model.specs.Carried.{Does, Carried, Committed, all_deeds, CommitsDoTheSame, TogetherIsOneCommit, CommitsLeadToNext}
-use Rattle.update_model.specs.Next.{Deed, Installs, CleansUp, deed_of, clean_up, cleans, deeds, commits, one_commit, is_settled_well}
+use Rattle.update_model.specs.Next.{Deed, Installs, CleansUp, deed_of, clean_up, cleans, deeds, commits, one_commit, lets_clean_up}
 use Rattle.update_model.specs.Outcomes.{Outcome, Directory}
 use Rattle.update_model.proofs.Carried.{each-from, each-at, each-mapped, each-unmapped, same-bools, deeds-lead}
 use Rattle.update_model.proofs.Nexts.{tests-hold}
@@ -59,16 +59,16 @@ abbrev outcomes : List (Source × Outcome) → List Outcome
 outcomes order = map (λ (s : Source × Outcome). s.1) order
 
 abbrev IsWell : Outcome → Type 0
-IsWell o = is_settled_well o ≡ true
+IsWell o = lets_clean_up o ≡ true
 
 still-well : (xs ys : List (Source × Outcome)) → ((s : Source × Outcome) → Contains ys s → Contains xs s)
-    → list_all is_settled_well (outcomes xs) ≡ true → list_all is_settled_well (outcomes ys) ≡ true
+    → list_all lets_clean_up (outcomes xs) ≡ true → list_all lets_clean_up (outcomes ys) ≡ true
 still-well xs ys among h =
-    let one : Each IsWell (outcomes xs) = (tests-hold is_settled_well IsWell (λ o. ((λ x. x), (λ x. x))) (outcomes xs)).0 h in
+    let one : Each IsWell (outcomes xs) = (tests-hold lets_clean_up IsWell (λ o. ((λ x. x), (λ x. x))) (outcomes xs)).0 h in
     let two : Each (λ (s : Source × Outcome). IsWell s.1) xs = each-unmapped (λ (s : Source × Outcome). s.1) IsWell xs one in
     let three : Each (λ (s : Source × Outcome). IsWell s.1) ys =
     each-from (λ (s : Source × Outcome). IsWell s.1) ys (λ s c. each-at (λ (t : Source × Outcome). IsWell t.1) xs s two (among s c)) in
-    (tests-hold is_settled_well IsWell (λ o. ((λ x. x), (λ x. x))) (outcomes ys)).1 (each-mapped (λ (s : Source × Outcome). s.1) IsWell ys three)
+    (tests-hold lets_clean_up IsWell (λ o. ((λ x. x), (λ x. x))) (outcomes ys)).1 (each-mapped (λ (s : Source × Outcome). s.1) IsWell ys three)
 
 same-deeds : (dir : Directory) (settings : Settings) (loose : List (List ℕ)) (xs ys : List (Source × Outcome))
     → ((s : Source × Outcome) → Contains xs s → Contains ys s) → cleans settings (outcomes xs) ≡ cleans settings (outcomes ys)

@@ -19,10 +19,10 @@ use Rattle.update_model.proofs.Routes.{no_moves}
 use Rattle.update_model.specs.Files.{fitting, served}
 use Rattle.update_model.specs.Laws.{ListRoute, ListsAskLittle, ReleasesAskLittle, SourcesAskLittle, links_in, links_of_lists, lists_entries}
 use Rattle.update_model.specs.Obtained.{first_uri, list_cause}
-use Rattle.update_model.specs.Points.{step}
+use Rattle.update_model.specs.Points.{point_after}
 use Rattle.update_model.specs.Reach.{On, Stop, Way, way}
 use Rattle.update_model.specs.Releases.{release_end, release_limit}
-use Rattle.update_model.specs.Trails.{Along, IsPosition, IsTrail, Leads, Position, Told, Trail, entries, heard_of, less}
+use Rattle.update_model.specs.Trails.{Along, IsPosition, IsTrail, Leads, Position, LaneAnswer, Trail, entries, heard_of, less}
 use Rattle.update_model.specs.Walks.{Finish, IsRoute, Try, Walk, after_in_release, candidates_walk, fitting_body, got_else, index_walk, list_ask, on_some, patches_walk, plain_walk, release_walk, resume_walk, target_walk, whole_ask}
 use Rattle.update_model.specs.Wanted.{chain, edited_by, patch_uri}
 use Rattle.std.specs.List.{AllByRecursion as Each}
@@ -32,7 +32,7 @@ rounds zero k = k
 rounds (suc n) k = k + rounds n k
 
 -- at one URI there are at most `retries + 1` answers
-position-few : (retries left : ℕ) (uri : Uri) (told : List Told) (P : Way → Type 0) → IsPosition retries left uri told P → length told ≤ retries + 1
+position-few : (retries left : ℕ) (uri : Uri) (told : List LaneAnswer) (P : Way → Type 0) → IsPosition retries left uri told P → length told ≤ retries + 1
 position-few retries left uri [] P h = omega arith
 position-few retries left uri (t ∷ ts) P h = one t.closed retries h (λ n x. position-few n left uri ts P x)
   where
@@ -50,7 +50,7 @@ position-few retries left uri (t ∷ ts) P h = one t.closed retries h (λ n x. p
     one (Garbled at) n h again = let e = last n h.0 in omega arith
 
 -- and they lead some way, which isn't on where no move is left
-position-leads : (retries left : ℕ) (uri : Uri) (told : List Told) (P : Way → Type 0) → IsPosition retries left uri told P
+position-leads : (retries left : ℕ) (uri : Uri) (told : List LaneAnswer) (P : Way → Type 0) → IsPosition retries left uri told P
     → (w : Way) × ((left ≡ 0 → (to : Uri) → w ≢ On to) × P w)
 position-leads retries left uri [] P h = absurd h
 position-leads retries left uri (t ∷ ts) P h = one t.closed retries h (λ n x. position-leads n left uri ts P x)
@@ -81,7 +81,7 @@ trail-few : (source from : ℕ) (path : List ℕ) (retries left : ℕ) (uri : Ur
 trail-few source from path retries left uri [] end t = absurd t
 trail-few source from path retries left uri (p ∷ ps) end t =
     let P : Way → Type 0 = λ w. Along w (λ to. IsTrail retries (less left) to ps end) (λ e. (ps ≡ []) × (end ≡ e)) in
-    let here : List Asked = map (λ (told : Told). record { source = source; path = path; uri = p.uri; from = from; lane = told.lane; heard = heard_of told.closed }) p.told in
+    let here : List Asked = map (λ (told : LaneAnswer). record { source = source; path = path; uri = p.uri; from = from; lane = told.lane; heard = heard_of told.closed }) p.told in
     let a : length p.told ≤ retries + 1 = position-few retries left uri p.told P t.1 in
     let b : length here ≡ length p.told = length-mapped _ p.told in
     let c : length (here ++ entries_at source path from ps) ≡ length here + length (entries_at source path from ps) = length-append here (entries_at source path from ps) in
@@ -146,20 +146,20 @@ resume-within w part =
 
 abbrev and_more : List Step → ℕ → ℕ
 and_more [] n = n
-and_more (step ∷ steps) n = suc (and_more steps n)
+and_more (point_after ∷ steps) n = suc (and_more steps n)
 
 and-more : (steps : List Step) (n : ℕ) → and_more steps n ≡ length steps + n
 and-more [] n = omega arith
-and-more (step ∷ steps) n = let e = and-more steps n in omega arith
+and-more (point_after ∷ steps) n = let e = and-more steps n in omega arith
 
 many : (w : Walk) (steps : List Step) (n : ℕ) → IsWithin w n → IsWithin w (and_more steps n)
 many w [] n i = i
-many w (step ∷ steps) n i = more w (and_more steps n) (many w steps n i)
+many w (point_after ∷ steps) n i = more w (and_more steps n) (many w steps n i)
 
 patches-within : (w : Wanted) (other : Walk) (n : ℕ) → IsWithin other n → (steps : List Step) (file : List ℕ) → IsWithin (patches_walk w other steps file) (and_more steps n)
 patches-within w other n i [] file = some-within (fitting w.sum (Some file)) (λ bytes. Finish _) other n (λ bytes. tt) i
-patches-within w other n i (step ∷ steps) file =
-    λ e. some-within (option_and_then (edited_by file) (fitting step.sum (served e))) (λ next. patches_walk w other steps next) other (and_more steps n)
+patches-within w other n i (point_after ∷ steps) file =
+    λ e. some-within (option_and_then (edited_by file) (fitting point_after.sum (served e))) (λ next. patches_walk w other steps next) other (and_more steps n)
     (λ next. patches-within w other n i steps next) (many other steps n i)
 
 abbrev links_of : Option (List Step) → List Step

@@ -6,7 +6,7 @@ use Rattle.std.proofs.lemmas.Bool.{cases_Bool}
 use Rattle.std.proofs.lemmas.List.{get_or_append_left}
 use Rattle.std.proofs.lemmas.List.Elements.{Contains-append_left, Contains-append_right}
 use Rattle.std.proofs.lemmas.Slice.Eq.{bytes_eq-Decides}
-use Rattle.acq_base.specs.Mirror.{World}
+use Rattle.acq_base.specs.Mirror.{MirrorMap}
 use Rattle.acq_base.specs.Plan.{names_of}
 use Rattle.acq_base.specs.Sum.{sum_of}
 use Rattle.acq_base.specs.declared.plan.Source.{Source}
@@ -17,8 +17,8 @@ use Rattle.release_file.specs.Release.{listed_sum}
 use Rattle.release_file.specs.declared.release.Release.{Release}
 use Rattle.update_model.specs.Carried.{all_names, NextIsThere}
 use Rattle.update_model.specs.Laws.{file_of, IsFileOf}
-use Rattle.update_model.specs.Next.{Holds, Leaves, cleans}
-use Rattle.update_model.specs.Outcomes.{Admitted, Outcome, Directory, Parts, obtained, new_set}
+use Rattle.update_model.specs.Next.{HasWholeSet, OutcomeLeaves, cleans}
+use Rattle.update_model.specs.Outcomes.{AdmittedRelease, Outcome, Directory, PartFiles, obtained, new_set}
 use Rattle.update_model.specs.Wanted.{want}
 use Rattle.update_model.specs.declared.wanted.Wanted.{Wanted}
 use Rattle.update_model.proofs.Carried.{each-from, apart, behind-distinct, names-in}
@@ -125,11 +125,11 @@ file-sum : (sum : Sum) (o : Option (List ℕ)) → IsFileOf sum o → option_map
 file-sum sum None h = absurd h
 file-sum sum (Some bytes) h = ap (λ x. Some x) h
 
-abbrev file_for : World → Directory → Parts → Source → Release → Settings → Target → Option (List ℕ)
+abbrev file_for : MirrorMap → Directory → PartFiles → Source → Release → Settings → Target → Option (List ℕ)
 file_for world dir parts source release settings t =
     option_and_then (λ sum. file_of (dir t.name.0) (obtained world dir parts (want source release settings t sum))) (listed_sum release t.path)
 
-each-listed : (world : World) (dir : Directory) (parts : Parts) (source : Source) (release : Release) (settings : Settings) (targets : List Target)
+each-listed : (world : MirrorMap) (dir : Directory) (parts : PartFiles) (source : Source) (release : Release) (settings : Settings) (targets : List Target)
     → Each (λ w. IsFileOf w.sum (file_of (dir w.name.0) (obtained world dir parts w))) (filter_map (λ t. option_map (want source release settings t) (listed_sum release t.path)) targets)
     → Each (λ t. option_map sum_of (file_for world dir parts source release settings t) ≡ listed_sum release t.path) targets
 each-listed world dir parts source release settings [] h = tt
@@ -147,7 +147,7 @@ each-listed world dir parts source release settings (t ∷ ts) h = at (listed_su
 
 -- ---- the whole directory
 
-abbrev value_of : World → Directory → Parts → Settings → Outcome → Source → Directory
+abbrev value_of : MirrorMap → Directory → PartFiles → Settings → Outcome → Source → Directory
 value_of world dir parts settings (Ok set) source = set_at (file_for world dir parts source set.release settings) source set.bytes
 value_of world dir parts settings (Err why) source = dir
 
@@ -179,10 +179,10 @@ is-other value others (s ∷ sources) name none =
     rw away (is-other value others sources name (λ c. none (Contains-append_right (names_of s) (all_names sources) name c)))
 
 -- files under a source's names make its set
-makes-set : (after : Directory) (source : Source) (set : Admitted) (file : Target → Option (List ℕ))
+makes-set : (after : Directory) (source : Source) (set : AdmittedRelease) (file : Target → Option (List ℕ))
     → AllPairs (λ a b. a ≢ b) (names_of source)
     → ((name : List ℕ) → Contains (names_of source) name → after name ≡ set_at file source set.bytes name)
-    → Each (λ t. option_map sum_of (file t) ≡ listed_sum set.release t.path) source.targets → Holds after source set
+    → Each (λ t. option_map sum_of (file t) ≡ listed_sum set.release t.path) source.targets → HasWholeSet after source set
 makes-set after source set file distinct is sums =
     let made = set-is file source set.bytes distinct in record {
       release_file = is source.release_name.0 (0, omega arith, refl) ∙ made.0;
@@ -202,7 +202,7 @@ next-there world dir parts plan settings change now sound =
     let after : Directory = after_of value others plan.sources in (
       after,
       record {
-        sources = each-from (λ source. Leaves (set_of source) source dir after) plan.sources (λ source c.
+        sources = each-from (λ source. OutcomeLeaves (set_of source) source dir after) plan.sources (λ source c.
             left source (set_of source) refl (names-distinct plan.sources source sound.distinct c) after (λ name n. is-value value others plan.sources source name sound.distinct c n));
         others = λ name none. is-other value others plan.sources name none;
       },
@@ -210,7 +210,7 @@ next-there world dir parts plan settings change now sound =
   where
     left : (source : Source) (o : Outcome) → new_set world dir parts source settings change now ≡ o → AllPairs (λ a b. a ≢ b) (names_of source) → (after : Directory)
         → ((name : List ℕ) → Contains (names_of source) name → after name ≡ value_of world dir parts settings o source name)
-        → Leaves o source dir after
+        → OutcomeLeaves o source dir after
     left source (Err why) e distinct after is = each-from (λ name. after name ≡ dir name) (names_of source) is
     left source (Ok set) e distinct after is =
         makes-set after source set (file_for world dir parts source set.release settings) distinct is

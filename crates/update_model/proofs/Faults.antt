@@ -1,7 +1,7 @@
 -- Routes that agree with a mirror, in which methods may have failed.
 use Rattle.std.proofs.Common.{◌≡◌, ◌⊎◌, inl, inr, ℕ, zero, suc, true, false, List, [], ◌∷◌, length, Option, Some, None, refl, sym, ap, ◌∙◌, subst, option_and_then, codes, if◌then◌else◌}
 use Rattle.std.specs.List.{AllByRecursion as Each}
-use Rattle.acq_base.specs.Mirror.{World, answer_at}
+use Rattle.acq_base.specs.Mirror.{MirrorMap, answer_at}
 use Rattle.acq_base.specs.declared.sum.Sum.{Sum}
 use Rattle.acq_base.specs.declared.uri.Uri.{Uri}
 use Rattle.pdiff_index.specs.declared.index.Step.{Step}
@@ -12,7 +12,7 @@ use Rattle.update_model.specs.Mirrored.{over, seen, trails_over}
 use Rattle.update_model.specs.Obtained.{first_uri, is_resumed, list_cause}
 use Rattle.update_model.specs.Reach.{On, Stop, Way, followed, reach, reach_by, way, within}
 use Rattle.update_model.specs.Releases.{in_release_uri, release_end, release_limit}
-use Rattle.update_model.specs.Trails.{Agrees, Along, IsPosition, IsTrail, Leads, Position, Says, Told, Trail, answered, less}
+use Rattle.update_model.specs.Trails.{Agrees, Along, IsPosition, IsTrail, Leads, Position, IsFaultOr, LaneAnswer, Trail, answered, less}
 use Rattle.update_model.specs.Walks.{Finish, IsRoute, Try, Walk, after_in_release, candidates_walk, fitting_body, got_else, index_walk, list_ask, on_some, patches_walk, plain_walk, release_walk, resume_walk, whole_ask}
 use Rattle.update_model.specs.Wanted.{chain, edited_by, patch_uri}
 use Rattle.update_model.specs.declared.ask.Ask.{Ask}
@@ -40,15 +40,15 @@ IsDead endings.Lost = ⊥
 IsDead (endings.Garbled at) = ⊥
 
 -- the answers at a URI lead where the mirror's does, or there is none
-position-led : (retries left : ℕ) (uri : Uri) (told : List Told) (P : Way → Type 0) (said : Closed) (Q : Type 0)
-    → IsPosition retries left uri told P → Each (λ t. Says t.closed said) told
+position-led : (retries left : ℕ) (uri : Uri) (told : List LaneAnswer) (P : Way → Type 0) (said : Closed) (Q : Type 0)
+    → IsPosition retries left uri told P → Each (λ t. IsFaultOr t.closed said) told
     → (P (way left uri said) → Q) → ((e : Ending) → IsDead e → P (Stop e) → Q) → Q
 position-led retries left uri [] P said Q h a live dead = absurd h
 position-led retries left uri (t ∷ ts) P said Q h a live dead = one retries t.closed h a.0 (λ n x. position-led n left uri ts P said Q x a.1 live dead)
   where
     one : (n : ℕ) (closed : Closed)
         → Leads left uri t.lane closed n (λ m. IsPosition m left uri ts P) (λ w. (ts ≡ []) × P w)
-        → Says closed said → ((n : ℕ) → IsPosition n left uri ts P → Q) → Q
+        → IsFaultOr closed said → ((n : ℕ) → IsPosition n left uri ts P → Q) → Q
     one zero (Fault from to) h s again = dead (endings.Dead t.lane from to) tt h.1
     one (suc n) (Fault from to) h s again = again n h
     one n (Served body) h s again = live (subst (λ c. P (way left uri c)) s h.1)
@@ -58,10 +58,10 @@ position-led retries left uri (t ∷ ts) P said Q h a live dead = one retries t.
     one n (Garbled at) h s again = live (subst (λ c. P (way left uri c)) s h.1)
 
 -- a trail ends with what is reached, or was never answered
-abbrev IsReached : World → List ℕ → Ask → ℕ → Uri → Ending → Type 0
+abbrev IsReached : MirrorMap → List ℕ → Ask → ℕ → Uri → Ending → Type 0
 IsReached world part ask left uri end = (end ≡ seen part ask (reach_by left world uri ask.max)) ⊎ IsDead end
 
-goes-led : (world : World) (part : List ℕ) (ask : Ask) (retries left : ℕ) (uri : Uri) (ps : List Position) (end : Ending) (w : Way)
+goes-led : (world : MirrorMap) (part : List ℕ) (ask : Ask) (retries left : ℕ) (uri : Uri) (ps : List Position) (end : Ending) (w : Way)
     → w ≡ way left uri (within ask.max (answer_at world uri))
     → ((left : ℕ) (uri : Uri) → IsTrail retries left uri ps end → IsReached world part ask left uri end)
     → Along (seen_way part ask w) (λ to. IsTrail retries (less left) to ps end) (λ e. (ps ≡ []) × (end ≡ e))
@@ -75,13 +75,13 @@ goes-led world part ask retries (suc left) uri ps end (On to) e rest t = there (
     there (inr dead) = inr dead
 goes-led world part ask retries (suc left) uri ps end (Stop ending) e rest t = inl (t.1 ∙ ap (λ w. seen part ask (followed w (λ to. reach_by left world to ask.max))) e)
 
-trail-led : (world : World) (part : List ℕ) (ask : Ask) (retries left : ℕ) (uri : Uri) (ps : List Position) (end : Ending)
+trail-led : (world : MirrorMap) (part : List ℕ) (ask : Ask) (retries left : ℕ) (uri : Uri) (ps : List Position) (end : Ending)
     → IsTrail retries left uri ps end → AgreesAt world part ask ps → IsReached world part ask left uri end
 trail-led world part ask retries left uri [] end t a = absurd t
 trail-led world part ask retries left uri (p ∷ ps) end t a =
     let P : Way → Type 0 = λ w. Along w (λ to. IsTrail retries (less left) to ps end) (λ e. (ps ≡ []) × (end ≡ e)) in
     position-led retries left uri p.told P (answered part ask (answer_at world uri)) (IsReached world part ask left uri end) t.1
-    (subst (λ u. Each (λ t. Says t.closed (answered part ask (answer_at world u))) p.told) t.0 a.0)
+    (subst (λ u. Each (λ t. IsFaultOr t.closed (answered part ask (answer_at world u))) p.told) t.0 a.0)
     (λ led. goes-led world part ask retries left uri ps end (way left uri (within ask.max (answer_at world uri))) refl
     (λ left uri x. trail-led world part ask retries left uri ps end x a.1)
     (subst P (way-answered part ask left uri (answer_at world uri)) led))
@@ -90,11 +90,11 @@ trail-led world part ask retries left uri (p ∷ ps) end t a =
 -- ---- one route
 
 -- R holds of each end that has a file and of what the walk comes to over the mirror
-abbrev Comes : World → List ℕ → ℕ → (End → End → Type 0) → Walk → Type 0
+abbrev Comes : MirrorMap → List ℕ → ℕ → (End → End → Type 0) → Walk → Type 0
 Comes world part retries R walk =
     (trails : List Trail) (end : End) → IsRoute retries walk trails end → Agrees world part trails → IsHad end → R end (over world part walk)
 
-try-comes : (world : World) (part : List ℕ) (retries : ℕ) (R : End → End → Type 0) (ask : Ask) (next : Ending → Walk)
+try-comes : (world : MirrorMap) (part : List ℕ) (retries : ℕ) (R : End → End → Type 0) (ask : Ask) (next : Ending → Walk)
     → ((e : Ending) → Comes world part retries R (next e))
     → ((e : Ending) → IsDead e → (trails : List Trail) (end : End) → IsRoute retries (next e) trails end → Agrees world part trails → IsHad end → R end (over world part (Try ask next)))
     → Comes world part retries R (Try ask next)
@@ -108,18 +108,18 @@ try-comes world part retries R ask next live lost (t ∷ trails) end r a had =
 -- ---- of a list
 
 -- where a route ends with a file, so does the walk over the mirror
-abbrev Sees : World → List ℕ → ℕ → Walk → Type 0
+abbrev Sees : MirrorMap → List ℕ → ℕ → Walk → Type 0
 Sees world part retries = Comes world part retries (λ end last. IsHad last)
 
-finish-sees : (world : World) (part : List ℕ) (retries : ℕ) (last : End) → Sees world part retries (Finish last)
+finish-sees : (world : MirrorMap) (part : List ℕ) (retries : ℕ) (last : End) → Sees world part retries (Finish last)
 finish-sees world part retries last trails end r a had = subst IsHad r.1 had
 
-some-sees : {A : Type 0} (world : World) (part : List ℕ) (retries : ℕ) (o : Option A) (goes : A → Walk) (other : Walk)
+some-sees : {A : Type 0} (world : MirrorMap) (part : List ℕ) (retries : ℕ) (o : Option A) (goes : A → Walk) (other : Walk)
     → ((x : A) → Sees world part retries (goes x)) → Sees world part retries other → Sees world part retries (on_some o goes other)
 some-sees world part retries None goes other h k = k
 some-sees world part retries (Some x) goes other h k = h x
 
-some-had : {A : Type 0} (world : World) (part : List ℕ) (o : Option A) (goes : A → Walk) (other : Walk)
+some-had : {A : Type 0} (world : MirrorMap) (part : List ℕ) (o : Option A) (goes : A → Walk) (other : Walk)
     → ((x : A) → IsHad (over world part (goes x))) → IsHad (over world part other) → IsHad (over world part (on_some o goes other))
 some-had world part None goes other h k = k
 some-had world part (Some x) goes other h k = h x
@@ -133,7 +133,7 @@ dead-none f h endings.Lost dead = absurd dead
 dead-none f h (endings.Garbled at) dead = absurd dead
 
 -- an ask whose trail, where it is dead, leads to another walk that is asked anyway where the file doesn't come
-ask-sees : {A : Type 0} (world : World) (part : List ℕ) (retries : ℕ) (ask : Ask) (f : Ending → Option A) (goes : A → Walk) (other : Walk)
+ask-sees : {A : Type 0} (world : MirrorMap) (part : List ℕ) (retries : ℕ) (ask : Ask) (f : Ending → Option A) (goes : A → Walk) (other : Walk)
     → ((lane from to : ℕ) → f (endings.Dead lane from to) ≡ None)
     → ((x : A) → Sees world part retries (goes x)) → ((x : A) → IsHad (over world part other) → IsHad (over world part (goes x)))
     → Sees world part retries other → Sees world part retries (Try ask (λ e. on_some (f e) goes other))
@@ -143,13 +143,13 @@ ask-sees world part retries ask f goes other none h keep k =
     let there : IsHad (over world part other) = k trails end (subst (λ o. IsRoute retries (on_some o goes other) trails end) (dead-none f none e dead) r) a had in
     some-had world part (f (seen part ask (reach world ask.uri ask.max))) goes other (λ x. keep x there) there)
 
-got-sees : (world : World) (part : List ℕ) (retries : ℕ) (w : Wanted) (ask : Ask) (other : Walk) → Sees world part retries other
+got-sees : (world : MirrorMap) (part : List ℕ) (retries : ℕ) (w : Wanted) (ask : Ask) (other : Walk) → Sees world part retries other
     → Sees world part retries (Try ask (λ e. got_else w e other))
 got-sees world part retries w ask other k =
     ask-sees world part retries ask (fitting_body w.sum) (λ body. Finish (Got body)) other (λ lane from to. refl)
     (λ body. finish-sees world part retries (Got body)) (λ body h. tt) k
 
-plain-sees : (world : World) (part : List ℕ) (retries : ℕ) (w : Wanted) → Sees world part retries (plain_walk w)
+plain-sees : (world : MirrorMap) (part : List ℕ) (retries : ℕ) (w : Wanted) → Sees world part retries (plain_walk w)
 plain-sees world part retries w =
     try-comes world part retries (λ end last. IsHad last) (list_ask w.uri w 0) (λ e. got_else w e (Finish (Ended (list_cause w e))))
     (λ e. some-sees world part retries (fitting_body w.sum e) (λ body. Finish (Got body)) (Finish (Ended (list_cause w e)))
@@ -159,11 +159,11 @@ plain-sees world part retries w =
     subst (λ o. IsRoute retries (on_some o (λ body. Finish (Got body)) (Finish (Ended (list_cause w e)))) trails end) (dead-none (fitting_body w.sum) (λ lane from to. refl) e dead) r in
     absurd (subst IsHad ended.1 had))
 
-candidates-see : (world : World) (part : List ℕ) (retries : ℕ) (w : Wanted) (o : Option Uri) → Sees world part retries (candidates_walk w o)
+candidates-see : (world : MirrorMap) (part : List ℕ) (retries : ℕ) (w : Wanted) (o : Option Uri) → Sees world part retries (candidates_walk w o)
 candidates-see world part retries w None = plain-sees world part retries w
 candidates-see world part retries w (Some uri) = got-sees world part retries w (list_ask uri w 0) (plain_walk w) (plain-sees world part retries w)
 
-resume-sees : (world : World) (part : List ℕ) (retries : ℕ) (w : Wanted) (n : ℕ) → Sees world part retries (resume_walk w n)
+resume-sees : (world : MirrorMap) (part : List ℕ) (retries : ℕ) (w : Wanted) (n : ℕ) → Sees world part retries (resume_walk w n)
 resume-sees world part retries w n =
     elim (is_resumed n w) as (λ b.
     Sees world part retries (if b then Try (list_ask (first_uri w w.hashed) w n) (λ e. got_else w e (candidates_walk w w.hashed)) else candidates_walk w w.hashed)) [
@@ -172,7 +172,7 @@ resume-sees world part retries w n =
     ]
 
 -- patches only help
-patches-had : (world : World) (part : List ℕ) (w : Wanted) (other : Walk) (steps : List Step) (file : List ℕ)
+patches-had : (world : MirrorMap) (part : List ℕ) (w : Wanted) (other : Walk) (steps : List Step) (file : List ℕ)
     → IsHad (over world part other) → IsHad (over world part (patches_walk w other steps file))
 patches-had world part w other [] file h = some-had world part (fitting w.sum (Some file)) (λ bytes. Finish (Got (Bytes bytes))) other (λ bytes. tt) h
 patches-had world part w other (step ∷ steps) file h =
@@ -180,7 +180,7 @@ patches-had world part w other (step ∷ steps) file h =
     (option_and_then (edited_by file) (fitting step.sum (served (seen part (whole_ask (patch_uri w step.name) step.sum.size) (reach world (patch_uri w step.name) step.sum.size)))))
     (λ next. patches_walk w other steps next) other (λ next. patches-had world part w other steps next h) h
 
-patches-see : (world : World) (part : List ℕ) (retries : ℕ) (w : Wanted) (other : Walk) (steps : List Step) (file : List ℕ) → Sees world part retries other
+patches-see : (world : MirrorMap) (part : List ℕ) (retries : ℕ) (w : Wanted) (other : Walk) (steps : List Step) (file : List ℕ) → Sees world part retries other
     → Sees world part retries (patches_walk w other steps file)
 patches-see world part retries w other [] file k =
     some-sees world part retries (fitting w.sum (Some file)) (λ bytes. Finish (Got (Bytes bytes))) other (λ bytes. finish-sees world part retries (Got (Bytes bytes))) k
@@ -189,14 +189,14 @@ patches-see world part retries w other (step ∷ steps) file k =
     (λ next. patches_walk w other steps next) other (λ lane from to. refl)
     (λ next. patches-see world part retries w other steps next k) (λ next h. patches-had world part w other steps next h) k
 
-index-sees : (world : World) (part : List ℕ) (retries : ℕ) (w : Wanted) (other : Walk) (file : List ℕ) (sum : Sum) → Sees world part retries other
+index-sees : (world : MirrorMap) (part : List ℕ) (retries : ℕ) (w : Wanted) (other : Walk) (file : List ℕ) (sum : Sum) → Sees world part retries other
     → Sees world part retries (index_walk w other file sum)
 index-sees world part retries w other file sum k =
     ask-sees world part retries (whole_ask (patch_uri w (codes "Index")) sum.size) (λ e. option_and_then (chain w file) (fitting sum (served e)))
     (λ steps. patches_walk w other steps file) other (λ lane from to. refl)
     (λ steps. patches-see world part retries w other steps file k) (λ steps h. patches-had world part w other steps file h) k
 
-asked-sees : (world : World) (part : List ℕ) (retries : ℕ) (installed : Option (List ℕ)) (n : ℕ) (w : Wanted) → Sees world part retries (asked_walk installed n w)
+asked-sees : (world : MirrorMap) (part : List ℕ) (retries : ℕ) (installed : Option (List ℕ)) (n : ℕ) (w : Wanted) → Sees world part retries (asked_walk installed n w)
 asked-sees world part retries installed n w =
     let rest : Sees world part retries (resume_walk w n) = resume-sees world part retries w n in
     some-sees world part retries installed (λ file. on_some w.index (λ sum. index_walk w (resume_walk w n) file sum) (resume_walk w n)) (resume_walk w n)

@@ -1,10 +1,10 @@
 -- What a source comes to where methods may have failed.
 use Rattle.std.proofs.Common.{◌≡◌, ℕ, List, [], ◌∷◌, map, Ok, refl, sym, ap, ap₂, ◌∙◌}
 use Rattle.std.specs.List.{AllByRecursion as Each}
-use Rattle.acq_base.specs.Mirror.{World}
+use Rattle.acq_base.specs.Mirror.{MirrorMap}
 use Rattle.update_model.specs.Faults.{IsListed, AreRoutes, AreAgreeing, SetsAreAsListed, SetsMadeAreNew}
 use Rattle.update_model.specs.Laws.{by_sum, IsHad, ListEnd}
-use Rattle.update_model.specs.Outcomes.{Directory, Parts, all_had, admitted, bytes_of, obtained, wanted_by}
+use Rattle.update_model.specs.Outcomes.{Directory, PartFiles, all_had, admitted, bytes_of, obtained, wanted_by}
 use Rattle.update_model.specs.Releases.{obtain_release}
 use Rattle.update_model.specs.declared.end.End.{End}
 use Rattle.update_model.specs.declared.end.End.TheVariants.{Got, Stands, Ended}
@@ -20,7 +20,7 @@ bytes-had (Got body) bytes h = tt
 bytes-had Stands bytes h = tt
 bytes-had (Ended cause) bytes h = absurd (cc)
 
-each-listed : (dir : Directory) (parts : Parts) (retries : ℕ) (lists : List ListEnd) → AreRoutes dir parts retries lists → Each IsHad (map (λ l. l.end) lists)
+each-listed : (dir : Directory) (parts : PartFiles) (retries : ℕ) (lists : List ListEnd) → AreRoutes dir parts retries lists → Each IsHad (map (λ l. l.end) lists)
     → Each (λ l. IsListed l.wanted.sum (dir l.wanted.name.0) l.end) lists
 each-listed dir parts retries [] routes had = tt
 each-listed dir parts retries (l ∷ lists) routes had =
@@ -41,7 +41,7 @@ sets-listed judges dir parts source settings change now retries r lists set name
 
 -- ---- over a mirror
 
-ends-had : (world : World) (dir : Directory) (parts : Parts) (retries : ℕ) (lists : List ListEnd) → AreAgreeing world dir parts retries lists → Each IsHad (map (λ l. l.end) lists)
+ends-had : (world : MirrorMap) (dir : Directory) (parts : PartFiles) (retries : ℕ) (lists : List ListEnd) → AreAgreeing world dir parts retries lists → Each IsHad (map (λ l. l.end) lists)
     → map by_sum (map (λ l. l.end) lists) ≡ map by_sum (map (obtained world dir parts) (map (λ l. l.wanted) lists))
 ends-had world dir parts retries [] routes had = refl
 ends-had world dir parts retries (l ∷ lists) routes had =

@@ -12,12 +12,12 @@ use Rattle.update_model.specs.declared.log.Asked.{Asked}
 use Rattle.update_model.proofs.Mirrors.{mirrors-give}
 use Rattle.update_model.specs.Laws.{RunsStandInRoutes}
 use Rattle.update_model.specs.Mirrored.{over, trails_over}
-use Rattle.update_model.specs.Points.{AsksFirst, At, Over, Point, entry, entry_at, lead, ran, run, start, step}
+use Rattle.update_model.specs.Points.{AsksFirst, At, Over, Point, entry, entry_at, lead, ran, run, start, point_after}
 use Rattle.update_model.specs.Reach.{On, Stop, Way, way}
-use Rattle.update_model.specs.Trails.{Along, IsPosition, IsTrail, Leads, Position, Told, Trail, entries, heard_of, less}
+use Rattle.update_model.specs.Trails.{Along, IsPosition, IsTrail, Leads, Position, LaneAnswer, Trail, entries, heard_of, less}
 use Rattle.update_model.specs.Walks.{Finish, IsRoute, Try, Walk}
 
-abbrev entries_of : ℕ → List ℕ → ℕ → Uri → List Told → List Asked
+abbrev entries_of : ℕ → List ℕ → ℕ → Uri → List LaneAnswer → List Asked
 entries_of source path from uri = map (λ t. record { source = source; path = path; uri = uri; from = from; lane = t.lane; heard = heard_of t.closed })
 
 abbrev positions_entries : ℕ → List ℕ → ℕ → List Position → List Asked
@@ -30,7 +30,7 @@ Goes retries left ps e w = Along w (λ to. IsTrail retries (less left) to ps e) 
 abbrev Completes : ℕ → ℕ → List ℕ → Point → List Asked → End → Type 0
 Completes retries source path (Over last) rest end = (rest ≡ []) × (end ≡ last)
 Completes retries source path (At ask left faults next) rest end =
-    (ts : List Told) × (ps : List Position) × (e : Ending) × (h : List Trail)
+    (ts : List LaneAnswer) × (ps : List Position) × (e : Ending) × (h : List Trail)
     × IsPosition faults left ask.uri ts (Goes retries left ps e)
     × IsRoute retries (next e) h end
     × (rest ≡ entries_of source path ask.from ask.uri ts ++ (positions_entries source path ask.from ps ++ entries source path h))
@@ -46,7 +46,7 @@ to-route retries source path (Try ask next) rest end c = (
 )
 
 -- an answer that leads on, in front
-answer : (retries source : ℕ) (path : List ℕ) (ask : Ask) (left faults : ℕ) (next : Ending → Walk) (t : Told) (rest : List Asked) (end : End) (w : Way)
+answer : (retries source : ℕ) (path : List ℕ) (ask : Ask) (left faults : ℕ) (next : Ending → Walk) (t : LaneAnswer) (rest : List Asked) (end : End) (w : Way)
     → ((ps : List Position) (e : Ending) → Goes retries left ps e w → IsPosition faults left ask.uri (t ∷ []) (Goes retries left ps e))
     → Completes retries source path (lead retries ask left next w) rest end
     → Completes retries source path (At ask left faults next) (entry source path ask t ∷ rest) end
@@ -82,24 +82,24 @@ in-front-at retries source path ask left next lane TooBig faults rest end c =
 in-front-at retries source path ask left next lane (Garbled at) faults rest end c =
     answer retries source path ask left faults next (record { lane = lane; closed = Garbled at }) rest end (way left ask.uri (Garbled at)) (λ ps e g. (refl, g)) c
 
-in-front : (retries source : ℕ) (path : List ℕ) (p : Point) (t : Told) (rest : List Asked) (end : End)
-    → Completes retries source path (step retries p t) rest end → Completes retries source path p (entry_at source path p t ++ rest) end
+in-front : (retries source : ℕ) (path : List ℕ) (p : Point) (t : LaneAnswer) (rest : List Asked) (end : End)
+    → Completes retries source path (point_after retries p t) rest end → Completes retries source path p (entry_at source path p t ++ rest) end
 in-front retries source path (Over last) t rest end c = c
 in-front retries source path (At ask left faults next) t rest end c = in-front-at retries source path ask left next t.lane t.closed faults rest end c
 
-all-in-front : (retries source : ℕ) (path : List ℕ) (p : Point) (ts : List Told) (rest : List Asked) (end : End)
+all-in-front : (retries source : ℕ) (path : List ℕ) (p : Point) (ts : List LaneAnswer) (rest : List Asked) (end : End)
     → Completes retries source path (run retries p ts) rest end → Completes retries source path p (ran retries source path p ts ++ rest) end
 all-in-front retries source path p [] rest end c = c
 all-in-front retries source path p (t ∷ ts) rest end c =
-    subst (λ r. Completes retries source path p r end) (sym (append_assoc (entry_at source path p t) (ran retries source path (step retries p t) ts) rest))
-    (in-front retries source path p t (ran retries source path (step retries p t) ts ++ rest) end (all-in-front retries source path (step retries p t) ts rest end c))
+    subst (λ r. Completes retries source path p r end) (sym (append_assoc (entry_at source path p t) (ran retries source path (point_after retries p t) ts) rest))
+    (in-front retries source path p t (ran retries source path (point_after retries p t) ts ++ rest) end (all-in-front retries source path (point_after retries p t) ts rest end c))
 
 -- ---- each point can be completed: nothing is there
 
 completed : (retries source : ℕ) (path : List ℕ) (p : Point) → (rest : List Asked) × (end : End) × Completes retries source path p rest end × AsksFirst p rest end
 completed retries source path (Over last) = ([], last, (refl, refl), (refl, refl))
 completed retries source path (At ask left faults next) =
-    let t : Told = record { lane = 0; closed = Absent 404 } in
+    let t : LaneAnswer = record { lane = 0; closed = Absent 404 } in
     let w : Walk = next (endings.Absent 404) in
     let h : List Trail = trails_over [] [] w in (
       entry source path ask t ∷ entries source path h,

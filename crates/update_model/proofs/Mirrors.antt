@@ -12,10 +12,10 @@ use Rattle.update_model.proofs.Routes.{no_moves, seen_way, way-answered}
 use Rattle.update_model.specs.Laws.{MirrorsGiveRoutes}
 use Rattle.update_model.specs.Mirrored.{behind, positions_by, seen}
 use Rattle.update_model.specs.Reach.{On, Stop, Way, followed, reach, reach_by, way, within}
-use Rattle.update_model.specs.Trails.{Along, HasAnswer, IsPosition, IsTrail, Position, Says, Told, answered, body_for}
+use Rattle.update_model.specs.Trails.{Along, HasAnswer, IsPosition, IsTrail, Position, IsFaultOr, LaneAnswer, answered, body_for}
 use Rattle.update_model.specs.Walks.{Finish, Try}
 use Rattle.std.specs.List.{AllByRecursion as Each}
-use Rattle.acq_base.specs.Mirror.{World, answer_at}
+use Rattle.acq_base.specs.Mirror.{MirrorMap, answer_at}
 
 -- an answer that is no fault
 abbrev NoFault : Closed → Type 0
@@ -41,7 +41,7 @@ one-answer retries left uri (Absent status) P n p = (refl, p)
 one-answer retries left uri TooBig P n p = (refl, p)
 one-answer retries left uri (Garbled at) P n p = (refl, p)
 
-says-itself : (closed : Closed) → Says closed closed
+says-itself : (closed : Closed) → IsFaultOr closed closed
 says-itself (Fault from to) = tt
 says-itself (Served body) = refl
 says-itself (Moved place) = refl
@@ -70,7 +70,7 @@ last : (part : List ℕ) (ask : Ask) (uri : Uri) (closed : Closed) (there : Uri 
 last part ask uri closed there (On to) e T = absurd (no_moves uri to closed e)
 last part ask uri closed there (Stop ending) e T = (refl, refl)
 
-trail-by : (world : World) (part : List ℕ) (ask : Ask) (retries left : ℕ) (uri : Uri)
+trail-by : (world : MirrorMap) (part : List ℕ) (ask : Ask) (retries left : ℕ) (uri : Uri)
     → IsTrail retries left uri (positions_by left world part ask uri) (seen part ask (reach_by left world uri ask.max))
 trail-by world part ask retries zero uri =
     let end : Ending = seen part ask (reach_by zero world uri ask.max) in
@@ -91,21 +91,21 @@ trail-by world part ask retries (suc left) uri =
           (λ to. trail-by world part ask retries left to))),
     )
 
-agrees-here : (world : World) (part : List ℕ) (ask : Ask) (uri : Uri) → Each (λ (t : Told). Says t.closed (answered part ask (answer_at world uri))) (record { lane = 0; closed = answered part ask (answer_at world uri) } ∷ [])
+agrees-here : (world : MirrorMap) (part : List ℕ) (ask : Ask) (uri : Uri) → Each (λ (t : LaneAnswer). IsFaultOr t.closed (answered part ask (answer_at world uri))) (record { lane = 0; closed = answered part ask (answer_at world uri) } ∷ [])
 agrees-here world part ask uri = (says-itself (answered part ask (answer_at world uri)), tt)
 
-positions-agree : (world : World) (part : List ℕ) (ask : Ask) (left : ℕ) (uri : Uri)
-    → Each (λ p. Each (λ t. Says t.closed (answered part ask (answer_at world p.uri))) p.told) (positions_by left world part ask uri)
+positions-agree : (world : MirrorMap) (part : List ℕ) (ask : Ask) (left : ℕ) (uri : Uri)
+    → Each (λ p. Each (λ t. IsFaultOr t.closed (answered part ask (answer_at world p.uri))) p.told) (positions_by left world part ask uri)
 positions-agree world part ask zero uri = (agrees-here world part ask uri, tt)
 positions-agree world part ask (suc left) uri =
     (agrees-here world part ask uri, more (way (suc left) uri (answered part ask (answer_at world uri))) (λ to. positions-agree world part ask left to))
   where
-    more : (w : Way) → ((to : Uri) → Each (λ p. Each (λ t. Says t.closed (answered part ask (answer_at world p.uri))) p.told) (positions_by left world part ask to))
-        → Each (λ p. Each (λ t. Says t.closed (answered part ask (answer_at world p.uri))) p.told) (behind w (λ to. positions_by left world part ask to))
+    more : (w : Way) → ((to : Uri) → Each (λ p. Each (λ t. IsFaultOr t.closed (answered part ask (answer_at world p.uri))) p.told) (positions_by left world part ask to))
+        → Each (λ p. Each (λ t. IsFaultOr t.closed (answered part ask (answer_at world p.uri))) p.told) (behind w (λ to. positions_by left world part ask to))
     more (On to) h = h to
     more (Stop e) h = tt
 
-positions-live : (world : World) (part : List ℕ) (ask : Ask) (left : ℕ) (uri : Uri) → Each (λ p. HasAnswer p.told) (positions_by left world part ask uri)
+positions-live : (world : MirrorMap) (part : List ℕ) (ask : Ask) (left : ℕ) (uri : Uri) → Each (λ p. HasAnswer p.told) (positions_by left world part ask uri)
 positions-live world part ask zero uri = (is-alive (answered part ask (answer_at world uri)) (no-fault part ask (answer_at world uri)), tt)
 positions-live world part ask (suc left) uri =
     (is-alive (answered part ask (answer_at world uri)) (no-fault part ask (answer_at world uri)), more (way (suc left) uri (answered part ask (answer_at world uri))) (λ to. positions-live world part ask left to))

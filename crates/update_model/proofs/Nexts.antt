@@ -13,7 +13,7 @@ use Rattle.acq_base.proofs.SameSums.{same_sum-true, same_sum-refl}
 use Rattle.release_file.specs.Release.{listed_sum, same_sum}
 use Rattle.release_file.specs.declared.release.Release.{Release}
 use Rattle.update_model.specs.Laws.{NextsAreAlike, NextsAreClean, NextsKeep, HeldSetsAreFound}
-use Rattle.update_model.specs.Next.{Leaves, cleans, is_settled_well, same_bytes, same_sums}
+use Rattle.update_model.specs.Next.{OutcomeLeaves, cleans, lets_clean_up, same_bytes, same_sums}
 use Rattle.update_model.specs.Outcomes.{Directory, Outcome, new_set}
 
 -- a source's names in two directories
@@ -33,12 +33,12 @@ kept-alike : (dir a b : Directory) (targets : List Target)
 kept-alike dir a b [] h k = tt
 kept-alike dir a b (target ∷ targets) h k = (ap (option_map sum_of) (h.0 ∙ sym k.0), kept-alike dir a b targets h.1 k.1)
 
-source-alike : (o : Outcome) (source : Source) (dir a b : Directory) → Leaves o source dir a → Leaves o source dir b → AlikeAt source a b
+source-alike : (o : Outcome) (source : Source) (dir a b : Directory) → OutcomeLeaves o source dir a → OutcomeLeaves o source dir b → AlikeAt source a b
 source-alike (Ok set) source dir a b h k = (h.release_file ∙ sym k.release_file, listed-alike a b set.release source.targets h.lists k.lists)
 source-alike (Err why) source dir a b h k = (h.0 ∙ sym k.0, kept-alike dir a b source.targets h.1 k.1)
 
 all-alike : (outcome_of : Source → Outcome) (dir a b : Directory) (sources : List Source)
-    → Each (λ source. Leaves (outcome_of source) source dir a) sources → Each (λ source. Leaves (outcome_of source) source dir b) sources
+    → Each (λ source. OutcomeLeaves (outcome_of source) source dir a) sources → Each (λ source. OutcomeLeaves (outcome_of source) source dir b) sources
     → Each (λ source. AlikeAt source a b) sources
 all-alike outcome_of dir a b [] h k = tt
 all-alike outcome_of dir a b (source ∷ sources) h k = (source-alike (outcome_of source) source dir a b h.0 k.0, all-alike outcome_of dir a b sources h.1 k.1)
@@ -74,17 +74,17 @@ each-mapped f P (x ∷ xs) h = (h.0, each-mapped f P xs h.1)
 pub nexts-clean : NextsAreClean
 nexts-clean world dir parts plan settings change now after next on well name loose =
     let outcomes : List Outcome = map (λ source. new_set world dir parts source settings change now) plan.sources in
-    let all : list_all is_settled_well outcomes ≡ true =
-    all-well is_settled_well outcomes (each-mapped (λ source. new_set world dir parts source settings change now) (λ o. is_settled_well o ≡ true) plan.sources well) in
-    let goes : cleans settings outcomes ≡ true = ap (λ b. b && list_all is_settled_well outcomes) on ∙ all in
+    let all : list_all lets_clean_up outcomes ≡ true =
+    all-well lets_clean_up outcomes (each-mapped (λ source. new_set world dir parts source settings change now) (λ o. lets_clean_up o ≡ true) plan.sources well) in
+    let goes : cleans settings outcomes ≡ true = ap (λ b. b && list_all lets_clean_up outcomes) on ∙ all in
     next.others name loose ∙ ap (λ b. if b then None else dir name) goes
 
 pub nexts-keep : NextsKeep
 nexts-keep world dir parts plan settings change now after next source why there is =
-    let P : Source → Type 0 = λ s. Leaves (new_set world dir parts s settings change now) s dir after in
+    let P : Source → Type 0 = λ s. OutcomeLeaves (new_set world dir parts s settings change now) s dir after in
     let at : P (slice_index_or plan.sources there.0 source) = All-from_recursion P plan.sources next.sources there.0 source there.1 in
     let here : P source = subst P there.2 at in
-    subst (λ o. Leaves o source dir after) is here
+    subst (λ o. OutcomeLeaves o source dir after) is here
 
 -- ---- sets that are there already
 

@@ -1,7 +1,7 @@
 -- What is obtained fits, and patches and partial files only help.
 use Rattle.std.proofs.Common.{◌≡◌, ◌↔◌, ℕ, zero, suc, List, [], ◌∷◌, Any, Option, Some, None, refl, sym, ap, ◌∙◌, subst, inl, inr, ◌⊎◌, ◌<◌, length, arith}
 use Rattle.std.specs.List.{slice_index_or}
-use Rattle.acq_base.specs.Mirror.{World}
+use Rattle.acq_base.specs.Mirror.{MirrorMap}
 use Rattle.acq_base.specs.Sum.{Fits}
 use Rattle.acq_base.specs.declared.sum.Sum.{Sum}
 use Rattle.update_model.specs.Files.{fitting}
@@ -99,12 +99,12 @@ files-obtained world installed part w =
 
 -- ---- patches and partial files
 
-abbrev by_patches : World → Option (List ℕ) → List ℕ → Wanted → Option (List ℕ) → End
+abbrev by_patches : MirrorMap → Option (List ℕ) → List ℕ → Wanted → Option (List ℕ) → End
 by_patches world installed part w o =
     stands_or (fitting w.sum installed)
     (got_or (or_else o (first_fitting w.sum (resumed world part w ∷ reached_files world w))) (Ended (list_cause w (reach world w.uri w.sum.size))))
 
-unpatched : (world : World) (installed : Option (List ℕ)) (w : Wanted) → fitting w.sum (patched world installed (record w { index = None })) ≡ None
+unpatched : (world : MirrorMap) (installed : Option (List ℕ)) (w : Wanted) → fitting w.sum (patched world installed (record w { index = None })) ≡ None
 unpatched world None w = refl
 unpatched world (Some file) w = refl
 

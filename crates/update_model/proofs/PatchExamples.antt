@@ -1,6 +1,6 @@
 -- Worked examples of patches, computed by the definitions. What the texts of an Index and of scripts say is a premise.
 use Rattle.std.proofs.Common.{◌≡◌, ℕ, List, [], ◌∷◌, ◌++◌, Bool, true, false, Some, None, refl, codes, Ok, Err}
-use Rattle.acq_base.specs.Mirror.{World}
+use Rattle.acq_base.specs.Mirror.{MirrorMap}
 use Rattle.acq_base.specs.Sum.{sum_of}
 use Rattle.acq_base.specs.declared.fetch.Answer.TheVariants as answers
 use Rattle.acq_base.specs.declared.sum.Sum.{Sum}
@@ -92,7 +92,7 @@ p1_text = codes "7654321"
 abbrev p2_text : List ℕ
 p2_text = codes "12345654321"
 
-abbrev mirror : World
+abbrev mirror : MirrorMap
 mirror =
     (patch_at (codes "Index"), answers.Served index_text)
     ∷ (patch_at (codes "p1"), answers.Served p1_text)

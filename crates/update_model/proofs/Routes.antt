@@ -23,14 +23,14 @@ use Rattle.update_model.specs.Files.{fitting, served}
 use Rattle.update_model.specs.Laws.{ListsEndAsObtained, ReleasesEndAsObtained, by_sum}
 use Rattle.update_model.specs.Mirrored.{over, seen}
 use Rattle.update_model.specs.Obtained.{◌>>=◌, edited_along, fetched, first_fitting, first_uri, got_or, list_cause, obtain, or_else, resumed, stands_or, with_rest}
-use Rattle.update_model.specs.Points.{step}
+use Rattle.update_model.specs.Points.{point_after}
 use Rattle.update_model.specs.Reach.{On, Stop, Way, followed, may_move, reach, reach_by, way, within}
 use Rattle.update_model.specs.Releases.{in_release_uri, obtain_release, release_end, release_limit, served_or}
-use Rattle.update_model.specs.Trails.{Agrees, Along, HasAnswer, IsPosition, IsTrail, Leads, Lives, Position, Says, Told, Trail, answered, answers_or, body_for, less}
+use Rattle.update_model.specs.Trails.{Agrees, Along, HasAnswer, IsPosition, IsTrail, Leads, Lives, Position, IsFaultOr, LaneAnswer, Trail, answered, answers_or, body_for, less}
 use Rattle.update_model.specs.Walks.{Finish, IsRoute, Try, Walk, after_in_release, candidates_walk, got_else, index_walk, list_ask, on_some, patches_walk, plain_walk, release_walk, resume_walk, target_walk, whole_ask}
 use Rattle.update_model.specs.Wanted.{chain, edited_by, patch_uri, uris}
 use Rattle.std.specs.List.{AllByRecursion as Each}
-use Rattle.acq_base.specs.Mirror.{World, answer_at}
+use Rattle.acq_base.specs.Mirror.{MirrorMap, answer_at}
 
 -- ---- one trail
 
@@ -56,14 +56,14 @@ way-answered part ask left uri (answers.Served bytes) =
     ]
 
 -- what the answers at a URI lead to is what the mirror's answer leads to
-position-way : (retries left : ℕ) (uri : Uri) (told : List Told) (P : Way → Type 0) (said : Closed)
-    → IsPosition retries left uri told P → Each (λ t. Says t.closed said) told → HasAnswer told → P (way left uri said)
+position-way : (retries left : ℕ) (uri : Uri) (told : List LaneAnswer) (P : Way → Type 0) (said : Closed)
+    → IsPosition retries left uri told P → Each (λ t. IsFaultOr t.closed said) told → HasAnswer told → P (way left uri said)
 position-way retries left uri [] P said h a l = absurd h
 position-way retries left uri (t ∷ ts) P said h a l = one retries t.closed h a.0 l (λ n x m. position-way n left uri ts P said x a.1 m)
   where
     one : (n : ℕ) (closed : Closed)
         → Leads left uri t.lane closed n (λ m. IsPosition m left uri ts P) (λ w. (ts ≡ []) × P w)
-        → Says closed said → answers_or closed (HasAnswer ts)
+        → IsFaultOr closed said → answers_or closed (HasAnswer ts)
         → ((n : ℕ) → IsPosition n left uri ts P → HasAnswer ts → P (way left uri said)) → P (way left uri said)
     one zero (Fault from to) h s l again = absurd (subst HasAnswer h.0 l)
     one (suc n) (Fault from to) h s l again = again n h l
@@ -82,13 +82,13 @@ no_moves uri to TooBig e = cc
 no_moves uri to (Garbled at) e = cc
 no_moves uri to (Fault from until) e = cc
 
-abbrev pub AgreesAt : World → List ℕ → Ask → List Position → Type 0
-AgreesAt world part ask = Each (λ p. Each (λ t. Says t.closed (answered part ask (answer_at world p.uri))) p.told)
+abbrev pub AgreesAt : MirrorMap → List ℕ → Ask → List Position → Type 0
+AgreesAt world part ask = Each (λ p. Each (λ t. IsFaultOr t.closed (answered part ask (answer_at world p.uri))) p.told)
 
 abbrev AllLive : List Position → Type 0
 AllLive = Each (λ p. HasAnswer p.told)
 
-goes-on : (world : World) (part : List ℕ) (ask : Ask) (retries left : ℕ) (uri : Uri) (ps : List Position) (end : Ending) (w : Way)
+goes-on : (world : MirrorMap) (part : List ℕ) (ask : Ask) (retries left : ℕ) (uri : Uri) (ps : List Position) (end : Ending) (w : Way)
     → w ≡ way left uri (within ask.max (answer_at world uri))
     → ((left : ℕ) (uri : Uri) → IsTrail retries left uri ps end → end ≡ seen part ask (reach_by left world uri ask.max))
     → Along (seen_way part ask w) (λ to. IsTrail retries (less left) to ps end) (λ e. (ps ≡ []) × (end ≡ e))
@@ -98,21 +98,21 @@ goes-on world part ask retries zero uri ps end (Stop ending) e rest t = t.1 ∙ 
 goes-on world part ask retries (suc left) uri ps end (On to) e rest t = rest left to t ∙ ap (λ w. seen part ask (followed w (λ to. reach_by left world to ask.max))) e
 goes-on world part ask retries (suc left) uri ps end (Stop ending) e rest t = t.1 ∙ ap (λ w. seen part ask (followed w (λ to. reach_by left world to ask.max))) e
 
-trail-reach : (world : World) (part : List ℕ) (ask : Ask) (retries left : ℕ) (uri : Uri) (ps : List Position) (end : Ending)
+trail-reach : (world : MirrorMap) (part : List ℕ) (ask : Ask) (retries left : ℕ) (uri : Uri) (ps : List Position) (end : Ending)
     → IsTrail retries left uri ps end → AgreesAt world part ask ps → AllLive ps → end ≡ seen part ask (reach_by left world uri ask.max)
 trail-reach world part ask retries left uri [] end t a l = absurd t
 trail-reach world part ask retries left uri (p ∷ ps) end t a l =
     let P : Way → Type 0 = λ w. Along w (λ to. IsTrail retries (less left) to ps end) (λ e. (ps ≡ []) × (end ≡ e)) in
     let led : P (way left uri (answered part ask (answer_at world uri))) =
     position-way retries left uri p.told P (answered part ask (answer_at world uri)) t.1
-    (subst (λ u. Each (λ t. Says t.closed (answered part ask (answer_at world u))) p.told) t.0 a.0) l.0 in
+    (subst (λ u. Each (λ t. IsFaultOr t.closed (answered part ask (answer_at world u))) p.told) t.0 a.0) l.0 in
     goes-on world part ask retries left uri ps end (way left uri (within ask.max (answer_at world uri))) refl
     (λ left uri x. trail-reach world part ask retries left uri ps end x a.1 l.1)
     (subst P (way-answered part ask left uri (answer_at world uri)) led)
 
 -- ---- one route
 
-pub route-over : (world : World) (part : List ℕ) (retries : ℕ) (w : Walk) (trails : List Trail) (end : End)
+pub route-over : (world : MirrorMap) (part : List ℕ) (retries : ℕ) (w : Walk) (trails : List Trail) (end : End)
     → IsRoute retries w trails end → Agrees world part trails → Lives trails → end ≡ over world part w
 route-over world part retries (Finish last) trails end r a l = r.1
 route-over world part retries (Try ask next) [] end r a l = absurd r
@@ -147,14 +147,14 @@ followed-plain : (w : Way) (there : Uri → Ending) → PlainWay w → ((to : Ur
 followed-plain (On to) there p h = h to
 followed-plain (Stop e) there p h = p
 
-reach-plain : (left : ℕ) (world : World) (uri : Uri) (max : ℕ) → Plain (reach_by left world uri max)
+reach-plain : (left : ℕ) (world : MirrorMap) (uri : Uri) (max : ℕ) → Plain (reach_by left world uri max)
 reach-plain zero world uri max = followed-plain (way zero uri (within max (answer_at world uri))) (λ to. endings.Lost) (way-plain zero uri max (answer_at world uri)) (λ to. tt)
 reach-plain (suc left) world uri max = followed-plain (way (suc left) uri (within max (answer_at world uri))) (λ to. reach_by left world to max) (way-plain (suc left) uri max (answer_at world uri)) (λ to. reach-plain left world to max)
 
 -- ---- asks of whole lists
 
 -- a list's file, or what comes then
-got-one : (world : World) (part : List ℕ) (w : Wanted) (uri : Uri) (other : Walk) (x : Option (List ℕ)) (y : End) (e : Ending) → Plain e
+got-one : (world : MirrorMap) (part : List ℕ) (w : Wanted) (uri : Uri) (other : Walk) (x : Option (List ℕ)) (y : End) (e : Ending) → Plain e
     → by_sum (over world part other) ≡ by_sum (got_or x y)
     → by_sum (over world part (got_else w (seen part (list_ask uri w 0) e) other)) ≡ by_sum (got_or (or_else (fitting w.sum (served e)) x) y)
 got-one world part w uri other x y (endings.Served (Bytes bytes)) p h =
@@ -177,13 +177,13 @@ cause-seen part w uri endings.Lost p = refl
 cause-seen part w uri (endings.Garbled at) p = refl
 cause-seen part w uri (endings.Dead lane from to) p = refl
 
-abbrev reached : World → Wanted → Uri → Ending
+abbrev reached : MirrorMap → Wanted → Uri → Ending
 reached world w uri = reach world uri w.sum.size
 
-abbrev cause_end : World → Wanted → End
+abbrev cause_end : MirrorMap → Wanted → End
 cause_end world w = Ended (list_cause w (reached world w w.uri))
 
-plain-law : (world : World) (part : List ℕ) (w : Wanted)
+plain-law : (world : MirrorMap) (part : List ℕ) (w : Wanted)
     → by_sum (over world part (plain_walk w)) ≡ by_sum (got_or (first_fitting w.sum (served (reached world w w.uri) ∷ [])) (cause_end world w))
 plain-law world part w =
     let e : Ending = reached world w w.uri in
@@ -191,7 +191,7 @@ plain-law world part w =
     got-one world part w w.uri (Finish (Ended (list_cause w (seen part (list_ask w.uri w 0) e)))) None (cause_end world w) e p
     (ap (λ c. Ended c) (cause-seen part w w.uri e p))
 
-candidates-law : (world : World) (part : List ℕ) (w : Wanted) (o : Option Uri)
+candidates-law : (world : MirrorMap) (part : List ℕ) (w : Wanted) (o : Option Uri)
     → by_sum (over world part (candidates_walk w o))
     ≡ by_sum (got_or (first_fitting w.sum (map (λ uri. served (reached world w uri)) (option_to_list o ++ w.uri ∷ []))) (cause_end world w))
 candidates-law world part w None = plain-law world part w
@@ -208,7 +208,7 @@ order a b = look (nat_le a b) refl
     look true e = let f : nat_lt b a ≡ false = grind (arith, e) in inl (e, f)
     look false e = let f : nat_lt b a ≡ true = grind (arith, e) in inr (e, f)
 
-rest-one : (world : World) (part : List ℕ) (w : Wanted) (uri : Uri) (other : Walk) (x : Option (List ℕ)) (y : End) (e : Ending) → Plain e
+rest-one : (world : MirrorMap) (part : List ℕ) (w : Wanted) (uri : Uri) (other : Walk) (x : Option (List ℕ)) (y : End) (e : Ending) → Plain e
     → nat_lt 0 (length part) ≡ true
     → by_sum (over world part other) ≡ by_sum (got_or x y)
     → by_sum (over world part (got_else w (seen part (list_ask uri w (length part)) e) other)) ≡ by_sum (got_or (or_else (fitting w.sum (option_and_then (with_rest part) (served e))) x) y)
@@ -232,10 +232,10 @@ rest-one world part w uri other x y endings.Lost p n h = h
 rest-one world part w uri other x y (endings.Garbled at) p n h = h
 rest-one world part w uri other x y (endings.Dead lane from to) p n h = h
 
-abbrev rest_files : World → List ℕ → Wanted → List (Option (List ℕ))
+abbrev rest_files : MirrorMap → List ℕ → Wanted → List (Option (List ℕ))
 rest_files world part w = resumed world part w ∷ map (λ uri. served (reached world w uri)) (uris w)
 
-resume-law : (world : World) (part : List ℕ) (w : Wanted)
+resume-law : (world : MirrorMap) (part : List ℕ) (w : Wanted)
     → by_sum (over world part (resume_walk w (length part))) ≡ by_sum (got_or (first_fitting w.sum (rest_files world part w)) (cause_end world w))
 resume-law world part w = at (nat_lt 0 (length part)) (nat_lt (length part) w.sum.size) refl
   where
@@ -272,7 +272,7 @@ served-whole part uri max (endings.Dead lane from to) = refl
 abbrev last_fitting : Wanted → Option (List ℕ) → Option (List ℕ)
 last_fitting w file = fitting w.sum (file >>= (λ last. fitting w.sum (Some last)))
 
-patches-law : (world : World) (part : List ℕ) (w : Wanted) (other : Walk) (x : Option (List ℕ)) (y : End) (steps : List Step) (file : List ℕ)
+patches-law : (world : MirrorMap) (part : List ℕ) (w : Wanted) (other : Walk) (x : Option (List ℕ)) (y : End) (steps : List Step) (file : List ℕ)
     → by_sum (over world part other) ≡ by_sum (got_or x y)
     → by_sum (over world part (patches_walk w other steps file)) ≡ by_sum (got_or (or_else (last_fitting w (edited_along world w steps file)) x) y)
 patches-law world part w other x y [] file h = rw (fit-twice w.sum file) (one (fitting w.sum (Some file)))
@@ -280,10 +280,10 @@ patches-law world part w other x y [] file h = rw (fit-twice w.sum file) (one (f
     one : (o : Option (List ℕ)) → by_sum (over world part (on_some o (λ bytes. Finish (Got (Bytes bytes))) other)) ≡ by_sum (got_or (or_else o x) y)
     one None = h
     one (Some bytes) = refl
-patches-law world part w other x y (step ∷ steps) file h =
-    ap (λ (b : Option (List ℕ)). by_sum (over world part (on_some (option_and_then (edited_by file) (fitting step.sum b)) (λ next. patches_walk w other steps next) other)))
-    (served-whole part (patch_uri w step.name) step.sum.size (reach world (patch_uri w step.name) step.sum.size))
-    ∙ one (fetched world (patch_uri w step.name) step.sum) (λ next. patches-law world part w other x y steps next h)
+patches-law world part w other x y (point_after ∷ steps) file h =
+    ap (λ (b : Option (List ℕ)). by_sum (over world part (on_some (option_and_then (edited_by file) (fitting point_after.sum b)) (λ next. patches_walk w other steps next) other)))
+    (served-whole part (patch_uri w point_after.name) point_after.sum.size (reach world (patch_uri w point_after.name) point_after.sum.size))
+    ∙ one (fetched world (patch_uri w point_after.name) point_after.sum) (λ next. patches-law world part w other x y steps next h)
   where
     two : (o : Option (List ℕ))
         → ((next : List ℕ) → by_sum (over world part (patches_walk w other steps next)) ≡ by_sum (got_or (or_else (last_fitting w (edited_along world w steps next)) x) y))
@@ -299,7 +299,7 @@ patches-law world part w other x y (step ∷ steps) file h =
     one None rest = h
     one (Some patch) rest = two (edited_by file patch) rest
 
-index-law : (world : World) (part : List ℕ) (w : Wanted) (other : Walk) (x : Option (List ℕ)) (y : End) (file : List ℕ) (i : Option Sum)
+index-law : (world : MirrorMap) (part : List ℕ) (w : Wanted) (other : Walk) (x : Option (List ℕ)) (y : End) (file : List ℕ) (i : Option Sum)
     → by_sum (over world part other) ≡ by_sum (got_or x y)
     → by_sum (over world part (on_some i (λ sum. index_walk w other file sum) other))
     ≡ by_sum (got_or (or_else (fitting w.sum (i >>= (λ sum. fetched world (patch_uri w (codes "Index")) sum >>= (λ index. chain w file index >>= (λ steps. edited_along world w steps file >>= (λ last. fitting w.sum (Some last))))))) x) y)
@@ -323,7 +323,7 @@ index-law world part w other x y file (Some sum) h =
 
 -- ---- a list and a Release
 
-pub target-law : (world : World) (installed : Option (List ℕ)) (part : List ℕ) (w : Wanted)
+pub target-law : (world : MirrorMap) (installed : Option (List ℕ)) (part : List ℕ) (w : Wanted)
     → by_sum (over world part (target_walk installed (length part) w)) ≡ by_sum (obtain world installed part w)
 target-law world None part w = resume-law world part w
 target-law world (Some file) part w =
@@ -370,11 +370,11 @@ followed-undead : (w : Way) (there : Uri → Ending) → UndeadWay w → ((to : 
 followed-undead (On to) there p h = h to
 followed-undead (Stop e) there p h = p
 
-reach-undead : (left : ℕ) (world : World) (uri : Uri) (max : ℕ) → Undead (reach_by left world uri max)
+reach-undead : (left : ℕ) (world : MirrorMap) (uri : Uri) (max : ℕ) → Undead (reach_by left world uri max)
 reach-undead zero world uri max = followed-undead (way zero uri (within max (answer_at world uri))) (λ to. endings.Lost) (way-undead zero uri (within max (answer_at world uri))) (λ to. tt)
 reach-undead (suc left) world uri max = followed-undead (way (suc left) uri (within max (answer_at world uri))) (λ to. reach_by left world to max) (way-undead (suc left) uri (within max (answer_at world uri))) (λ to. reach-undead left world to max)
 
-pub release-law : (world : World) (source : Source) → over world [] (release_walk source) ≡ obtain_release world source
+pub release-law : (world : MirrorMap) (source : Source) → over world [] (release_walk source) ≡ obtain_release world source
 release-law world source =
     one (reach world (in_release_uri source) release_limit) (reach-plain 10 world (in_release_uri source) release_limit) (reach-undead 10 world (in_release_uri source) release_limit)
   where

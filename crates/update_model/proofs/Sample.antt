@@ -1,6 +1,6 @@
 -- A source with one list, whose Release lists three bytes for it, and what a mirror may have.
 use Rattle.std.specs.Prelude.{ℕ, pos, List, [], ◌∷◌, codes, map, Bool, true, None}
-use Rattle.acq_base.specs.Mirror.{World}
+use Rattle.acq_base.specs.Mirror.{MirrorMap}
 use Rattle.acq_base.specs.declared.fetch.Answer.TheVariants as answers
 use Rattle.acq_base.specs.declared.plan.ByHash.TheVariants.{Yes}
 use Rattle.acq_base.specs.declared.plan.Kind.TheVariants.{Packages}
@@ -79,11 +79,11 @@ abbrev pub list : Bool → List ℕ → Wanted
 list said digest = want source (release said 3 digest) settings target (sum_as 3 digest)
 
 -- a mirror of the list alone
-abbrev pub serves : List ℕ → World
+abbrev pub serves : List ℕ → MirrorMap
 serves bytes = (list_uri, answers.Served bytes) ∷ []
 
 -- the paths and the beginnings of what a walk asks of a mirror
-abbrev pub asks : World → List ℕ → Walk → List (List ℕ × ℕ)
+abbrev pub asks : MirrorMap → List ℕ → Walk → List (List ℕ × ℕ)
 asks world part walk = map (λ a. (a.uri.path, a.from)) (entries 0 list_path (trails_over world part walk))
 
 -- the list's own path, and the one under a digest of one byte

@@ -13,7 +13,7 @@ use Rattle.release_file.specs.declared.judging.DateError.{DateError}
 use Rattle.release_file.specs.declared.judging.DateError.TheVariants as dates
 use Rattle.release_file.specs.declared.release.Release.{Release}
 use Rattle.update_model.specs.Laws.{IsHad, SetsAreAdmissible}
-use Rattle.update_model.specs.Outcomes.{Admitted, Staying, ◌>>=◌, bytes_of, read, dated, unless_refused, headed, admitted, all_had}
+use Rattle.update_model.specs.Outcomes.{AdmittedRelease, Staying, ◌>>=◌, bytes_of, read, dated, unless_refused, headed, admitted, all_had}
 use Rattle.update_model.specs.Releases.{IsAdmissible, installed_release}
 use Rattle.update_model.specs.declared.end.End.{End}
 use Rattle.update_model.specs.declared.end.End.TheVariants.{Got, Stands, Ended}
@@ -25,10 +25,10 @@ Judges =
     (release : Release) (installed : Option ℤ) (dates : Dates) (now : ℤ)
     → (judged release installed dates now ≡ Ok tt) ↔ HasGoodDates release installed dates now
 
-abbrev done : Admitted → Result Admitted Staying
+abbrev done : AdmittedRelease → Result AdmittedRelease Staying
 done set = Ok set
 
-pub done-same : (a b : Admitted) → done a ≡ done b → a ≡ b
+pub done-same : (a b : AdmittedRelease) → done a ≡ done b → a ≡ b
 done-same a b h = cc
 
 -- a step that was passed
@@ -70,25 +70,25 @@ all-pass (Ended cause ∷ ends) h = absurd h.0
 all-pass (Got body ∷ ends) h = all-pass ends h.1
 all-pass (Stands ∷ ends) h = all-pass ends h.1
 
-abbrev IsAdmitted : End → Option (List ℕ) → Settings → Change → ℤ → Admitted → Type 0
+abbrev IsAdmitted : End → Option (List ℕ) → Settings → Change → ℤ → AdmittedRelease → Type 0
 IsAdmitted r old settings change now set =
     (bytes_of r ≡ Ok set.bytes) × (release_of set.bytes ≡ Ok set.release) × IsAdmissible set.release (installed_release old) settings.dates change now
 
-admitted-is : Judges → (r : End) (old : Option (List ℕ)) (settings : Settings) (change : Change) (now : ℤ) (set : Admitted)
+admitted-is : Judges → (r : End) (old : Option (List ℕ)) (settings : Settings) (change : Change) (now : ℤ) (set : AdmittedRelease)
     → admitted r old settings change now ≡ Ok set → IsAdmitted r old settings change now set
 admitted-is judges r old settings change now set h =
     let a = passed (bytes_of r) _ set h in
     let b = passed (read (release_of a.0)) _ set a.2 in
     let c = passed (dated (judged b.0 (option_map (λ o. o.date) (installed_release old)) settings.dates now)) _ set b.2 in
     let d = passed (headed change (installed_release old) b.0) _ set c.2 in
-    let found : Admitted = record { bytes = a.0; release = b.0 } in
+    let found : AdmittedRelease = record { bytes = a.0; release = b.0 } in
     let same : found ≡ set = done-same found set d.2 in
     let in_time : HasGoodDates b.0 (option_map (λ o. o.date) (installed_release old)) settings.dates now =
     (judges b.0 (option_map (λ o. o.date) (installed_release old)) settings.dates now).0 (dated-ok _ c.0 c.1) in
     subst (IsAdmitted r old settings change now) same
     (a.1, read-ok (release_of a.0) b.0 b.1, record { in_time = in_time; allowed_head = head-ok change (installed_release old) b.0 d.0 d.1 })
 
-is-admitted : Judges → (r : End) (old : Option (List ℕ)) (settings : Settings) (change : Change) (now : ℤ) (set : Admitted)
+is-admitted : Judges → (r : End) (old : Option (List ℕ)) (settings : Settings) (change : Change) (now : ℤ) (set : AdmittedRelease)
     → IsAdmitted r old settings change now set → admitted r old settings change now ≡ Ok set
 is-admitted judges r old settings change now set h =
     let a : bytes_of r ≡ Ok set.bytes = h.0 in

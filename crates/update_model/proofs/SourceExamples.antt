@@ -1,7 +1,7 @@
 -- Worked examples of Releases, outcomes and commits, computed by the definitions. What the text of a Release says is a
 -- premise.
 use Rattle.std.proofs.Common.{◌≡◌, ℕ, ℤ, pos, zero, suc, ◌+◌, nat_le, List, [], ◌∷◌, length, map, true, false, Some, None, refl, codes, Ok, Err}
-use Rattle.acq_base.specs.Mirror.{World}
+use Rattle.acq_base.specs.Mirror.{MirrorMap}
 use Rattle.acq_base.specs.Sum.{sum_of}
 use Rattle.acq_base.specs.declared.fetch.Answer.TheVariants as answers
 use Rattle.acq_base.specs.declared.plan.Source.{Source}
@@ -17,9 +17,9 @@ use Rattle.release_file.specs.declared.changing.HeadField.TheVariants.{Origin}
 use Rattle.release_file.specs.declared.error.ReleaseError.TheVariants.{BadFrame}
 use Rattle.release_file.specs.declared.release.Release.{Release}
 use Rattle.update_model.specs.Next.{commits, Installs, CleansUp}
-use Rattle.update_model.specs.Outcomes.{Admitted, Outcome, Older, Kept, Directory, outcome, new_set}
+use Rattle.update_model.specs.Outcomes.{AdmittedRelease, Outcome, Older, Kept, Directory, outcome, new_set}
 use Rattle.update_model.specs.Releases.{obtain_release}
-use Rattle.update_model.specs.Trails.{Told}
+use Rattle.update_model.specs.Trails.{LaneAnswer}
 use Rattle.update_model.specs.Walks.{IsRoute, release_walk, whole_ask}
 use Rattle.update_model.specs.declared.ask.Body.TheVariants.{Bytes}
 use Rattle.update_model.specs.declared.ask.Closed.{Closed}
@@ -42,11 +42,11 @@ abbrev place : ℕ → Uri
 place n = at ((48 + n) ∷ [])
 
 -- moves from place to place, and a file at the last
-abbrev places : ℕ → ℕ → World
+abbrev places : ℕ → ℕ → MirrorMap
 places zero from = (place from, answers.Served (codes "x")) ∷ []
 places (suc n) from = (place from, answers.Moved (Some (place (from + 1)))) ∷ places n (from + 1)
 
-abbrev moves : ℕ → World
+abbrev moves : ℕ → MirrorMap
 moves n = (source.release, answers.Moved (Some (place 0))) ∷ places n 0
 
 ten_moves : obtain_release (moves 9) source ≡ Got (Bytes (codes "x"))
@@ -96,7 +96,7 @@ framed_set b digest fits is has = rw fits (rw is (rw has refl))
 bad_frame : (b : List ℕ) (line : ℕ) (now : ℤ) → release_of b ≡ Err (BadFrame line) → outcome (Got (Bytes b)) [] None settings no_change now ≡ Err (Kept (causes.BadRelease 33 line))
 bad_frame b line now is = rw is refl
 
-abbrev fault : ℕ → Told
+abbrev fault : ℕ → LaneAnswer
 fault n = record { lane = 0; closed = closed.Fault n (n + 1) }
 
 -- two faults with one retry: no other file may stand in for an answer that never came
@@ -212,10 +212,10 @@ other = record source { suite = codes "t" }
 abbrev nothing : Directory
 nothing = λ name. None
 
-abbrev x_set : Admitted
+abbrev x_set : AdmittedRelease
 x_set = record { bytes = codes "x"; release = plain }
 
-abbrev y_set : Admitted
+abbrev y_set : AdmittedRelease
 y_set = record { bytes = codes "y"; release = plain }
 
 abbrev planned : List (Source × Outcome)

@@ -1,12 +1,12 @@
 -- Routes of a source that agree with a mirror come to its new set.
 use Rattle.std.proofs.Common.{◌≡◌, ℕ, ℤ, List, [], ◌∷◌, map, Result, Ok, refl, sym, ap, ◌∙◌, subst}
 use Rattle.std.specs.List.{AllByRecursion as Each}
-use Rattle.acq_base.specs.Mirror.{World}
+use Rattle.acq_base.specs.Mirror.{MirrorMap}
 use Rattle.acq_base.specs.declared.plan.Source.{Source}
 use Rattle.acq_base.specs.declared.settings.Settings.{Settings}
 use Rattle.release_file.specs.declared.changing.Change.{Change}
 use Rattle.update_model.specs.Laws.{by_sum, IsHad, file_of, IsFileOf, NewSetsFit, ListEnd, AreRoutesOver, RoutesMakeNewSets, RoutesAreEnough}
-use Rattle.update_model.specs.Outcomes.{Admitted, Staying, Directory, Parts, admitted, wanted_by, all_had, outcome, obtained, new_set}
+use Rattle.update_model.specs.Outcomes.{AdmittedRelease, Staying, Directory, PartFiles, admitted, wanted_by, all_had, outcome, obtained, new_set}
 use Rattle.update_model.specs.Releases.{obtain_release}
 use Rattle.update_model.specs.declared.wanted.Wanted.{Wanted}
 use Rattle.update_model.specs.declared.end.End.{End}
@@ -22,7 +22,7 @@ all-by-sum (Ended cause ∷ ends) = refl
 all-by-sum (Got body ∷ ends) = all-by-sum ends
 all-by-sum (Stands ∷ ends) = all-by-sum ends
 
-ends-by-sum : (world : World) (dir : Directory) (parts : Parts) (retries : ℕ) (lists : List ListEnd) → AreRoutesOver world dir parts retries lists
+ends-by-sum : (world : MirrorMap) (dir : Directory) (parts : PartFiles) (retries : ℕ) (lists : List ListEnd) → AreRoutesOver world dir parts retries lists
     → map by_sum (map (λ l. l.end) lists) ≡ map by_sum (map (obtained world dir parts) (map (λ l. l.wanted) lists))
 ends-by-sum world dir parts retries [] h = refl
 ends-by-sum world dir parts retries (l ∷ lists) h =
@@ -32,7 +32,7 @@ ends-by-sum world dir parts retries (l ∷ lists) h =
     ∙ ap (λ xs. by_sum (obtained world dir parts l.wanted) ∷ xs) (ends-by-sum world dir parts retries lists h.1)
 
 -- ends that are the mirror's by sum make what it has
-pub ends-make : (world : World) (dir : Directory) (parts : Parts) (source : Source) (settings : Settings) (change : Change) (now : ℤ) (r : End) (lists : List ListEnd)
+pub ends-make : (world : MirrorMap) (dir : Directory) (parts : PartFiles) (source : Source) (settings : Settings) (change : Change) (now : ℤ) (r : End) (lists : List ListEnd)
     → r ≡ obtain_release world source
     → map (λ l. l.wanted) lists ≡ wanted_by source settings (admitted r (dir source.release_name.0) settings change now)
     → map by_sum (map (λ l. l.end) lists) ≡ map by_sum (map (obtained world dir parts) (map (λ l. l.wanted) lists))
@@ -59,7 +59,7 @@ routes-enough world other dir parts source settings change now retries trails r 
     sym (routes-make world dir parts source settings change now retries trails r lists route agrees lives names each)
     ∙ routes-make other dir parts source settings change now retries trails r lists route other_agrees lives names other_each
 
-each-fit : (world : World) (dir : Directory) (parts : Parts) (ws : List Wanted) → Each IsHad (map (obtained world dir parts) ws)
+each-fit : (world : MirrorMap) (dir : Directory) (parts : PartFiles) (ws : List Wanted) → Each IsHad (map (obtained world dir parts) ws)
     → Each (λ w. IsFileOf w.sum (file_of (dir w.name.0) (obtained world dir parts w))) ws
 each-fit world dir parts [] h = tt
 each-fit world dir parts (w ∷ ws) h = (files-fit world (dir w.name.0) (parts w.name.0) w h.0, each-fit world dir parts ws h.1)
@@ -67,7 +67,7 @@ each-fit world dir parts (w ∷ ws) h = (files-fit world (dir w.name.0) (parts w
 pub sets-fit : NewSetsFit
 sets-fit world dir parts source settings change now set h =
     let r : End = obtain_release world source in
-    let found : Result Admitted Staying = admitted r (dir source.release_name.0) settings change now in
+    let found : Result AdmittedRelease Staying = admitted r (dir source.release_name.0) settings change now in
     let a = passed found _ set h in
     let b = passed (all_had (map (obtained world dir parts) (wanted_by source settings found))) _ set a.2 in
     let is : found ≡ Ok set = a.1 ∙ ap (λ x. Ok x) (done-same a.0 set b.2) in

@@ -1,14 +1,14 @@
 -- What the commits of a run make of the folder of lists, one after another.
 use Rattle.std.specs.Prelude.{◌≡◌, ◌≢◌, ◌↔◌, ◌≤◌, ℕ, ℤ, Bool, true, false, List, [], ◌∷◌, length, map, AllPairs, Contains, None}
 use Rattle.std.specs.List.{flat_map, AllByRecursion as Each}
-use Rattle.acq_base.specs.Mirror.{World}
+use Rattle.acq_base.specs.Mirror.{MirrorMap}
 use Rattle.acq_base.specs.Plan.{IsSound, names_of, plan_names}
 use Rattle.acq_base.specs.declared.plan.Plan.{Plan}
 use Rattle.acq_base.specs.declared.plan.Source.{Source}
 use Rattle.acq_base.specs.declared.settings.Settings.{Settings}
 use Rattle.release_file.specs.declared.changing.Change.{Change}
-use Rattle.update_model.specs.Next.{Holds, Deed, Installs, CleansUp, deeds, commits, IsNext}
-use Rattle.update_model.specs.Outcomes.{Outcome, Directory, Parts, new_set}
+use Rattle.update_model.specs.Next.{HasWholeSet, Deed, Installs, CleansUp, deeds, commits, IsNext}
+use Rattle.update_model.specs.Outcomes.{Outcome, Directory, PartFiles, new_set}
 
 -- nothing changes under other names
 abbrev pub StaysBeside : List (List ℕ) → Directory → Directory → Type 0
@@ -16,7 +16,7 @@ StaysBeside names before after = (name : List ℕ) → (Contains names name → 
 
 -- what one group of changes makes of a directory
 abbrev pub Does : Deed → Directory → Directory → Type 0
-Does (Installs source set) before after = Holds after source set × StaysBeside (names_of source) before after
+Does (Installs source set) before after = HasWholeSet after source set × StaysBeside (names_of source) before after
 Does (CleansUp names) before after = ((name : List ℕ) → Contains names name → after name ≡ None) × StaysBeside names before after
 
 -- and what groups make of it in order
@@ -40,7 +40,7 @@ abbrev pub all_names : List Source → List (List ℕ)
 all_names sources = flat_map names_of sources
 
 -- the plan's sources in some order, each with what the mirror has for it
-pub record AreSettled (world : World) (dir : Directory) (parts : Parts) (plan : Plan) (settings : Settings) (change : Change) (now : ℤ) (order : List (Source × Outcome)) : Type 0 where
+pub record AreSettled (world : MirrorMap) (dir : Directory) (parts : PartFiles) (plan : Plan) (settings : Settings) (change : Change) (now : ℤ) (order : List (Source × Outcome)) : Type 0 where
   pub outcomes : Each (λ s. s.1 ≡ new_set world dir parts s.0 settings change now) order
   pub sources : (source : Source) → Contains plan.sources source ↔ Contains (sources_of order) source
   pub distinct : AllPairs (λ a b. a ≢ b) (all_names (sources_of order))
@@ -53,7 +53,7 @@ pub record AreLoose (dir : Directory) (plan : Plan) (loose : List (List ℕ)) : 
 -- the deeds of a run, carried out in any order of its sources, leave what is next
 abbrev pub DeedsLeadToNext : Type 0
 DeedsLeadToNext =
-    (world : World) (dir : Directory) (parts : Parts) (plan : Plan) (settings : Settings) (change : Change) (now : ℤ)
+    (world : MirrorMap) (dir : Directory) (parts : PartFiles) (plan : Plan) (settings : Settings) (change : Change) (now : ℤ)
     (order : List (Source × Outcome)) (loose : List (List ℕ)) (after : Directory)
     → AreSettled world dir parts plan settings change now order → AreLoose dir plan loose
     → Carried (deeds dir settings loose order) dir after
@@ -77,7 +77,7 @@ TogetherIsOneCommit =
 -- and in either form they leave what is next
 abbrev pub CommitsLeadToNext : Type 0
 CommitsLeadToNext =
-    (together : Bool) (world : World) (dir : Directory) (parts : Parts) (plan : Plan) (settings : Settings) (change : Change) (now : ℤ)
+    (together : Bool) (world : MirrorMap) (dir : Directory) (parts : PartFiles) (plan : Plan) (settings : Settings) (change : Change) (now : ℤ)
     (settled planned : List (Source × Outcome)) (loose : List (List ℕ)) (after : Directory)
     → AreSettled world dir parts plan settings change now settled → AreSettled world dir parts plan settings change now planned
     → AreLoose dir plan loose
@@ -87,5 +87,5 @@ CommitsLeadToNext =
 -- a sound plan has a directory that is next
 abbrev pub NextIsThere : Type 0
 NextIsThere =
-    (world : World) (dir : Directory) (parts : Parts) (plan : Plan) (settings : Settings) (change : Change) (now : ℤ)
+    (world : MirrorMap) (dir : Directory) (parts : PartFiles) (plan : Plan) (settings : Settings) (change : Change) (now : ℤ)
     → IsSound plan → (after : Directory) × IsNext world dir parts plan settings change now after

@@ -2,7 +2,7 @@
 use Rattle.std.specs.Prelude.{◌≡◌, ◌≤◌, ◌+◌, ◌*◌, ◌↔◌, ℕ, ℤ, List, [], ◌∷◌, ◌++◌, Any, Contains, length, map, true, Option, Some, None, option_and_then, Ok, Err, IsTrue, IfSome}
 use Rattle.std.specs.List.{flat_map, sum_by, AllByRecursion as Each}
 use Rattle.std.specs.Option.{option_map_or}
-use Rattle.acq_base.specs.Mirror.{World}
+use Rattle.acq_base.specs.Mirror.{MirrorMap}
 use Rattle.acq_base.specs.Plan.{plan_names}
 use Rattle.acq_base.specs.Sum.{Fits}
 use Rattle.acq_base.specs.Uri.{IsSound, list_name, uri_text}
@@ -15,12 +15,12 @@ use Rattle.release_file.specs.Release.{release_of}
 use Rattle.release_file.specs.declared.changing.Change.{Change}
 use Rattle.update_model.specs.Files.{served, fitting, sum_of_body}
 use Rattle.update_model.specs.Mirrored.{over, trails_over}
-use Rattle.update_model.specs.Next.{IsNext, Alike, Keeps, Holds, holds, is_settled_well}
+use Rattle.update_model.specs.Next.{IsNext, Alike, Keeps, HasWholeSet, has_whole_set, lets_clean_up}
 use Rattle.update_model.specs.Obtained.{patched, resumed, reached_files, obtain}
-use Rattle.update_model.specs.Outcomes.{Admitted, Staying, Directory, Parts, admitted, bytes_of, outcome, wanted_by, obtained, new_set}
+use Rattle.update_model.specs.Outcomes.{AdmittedRelease, Staying, Directory, PartFiles, admitted, bytes_of, outcome, wanted_by, obtained, new_set}
 use Rattle.update_model.specs.Points.{start, run, ran, AsksFirst}
 use Rattle.update_model.specs.Releases.{IsAdmissible, installed_release, obtain_release}
-use Rattle.update_model.specs.Trails.{Told, Trail, Agrees, Lives, entries}
+use Rattle.update_model.specs.Trails.{LaneAnswer, Trail, Agrees, Lives, entries}
 use Rattle.update_model.specs.Walks.{Walk, IsRoute, target_walk, release_walk}
 use Rattle.update_model.specs.Wanted.{chain, patch_uri}
 use Rattle.update_model.specs.declared.wanted.Wanted.{Wanted}
@@ -39,21 +39,21 @@ by_sum other = other
 -- a list's route that agrees with a mirror and holds no dead position ends as the list is obtained
 abbrev pub ListsEndAsObtained : Type 0
 ListsEndAsObtained =
-    (world : World) (installed : Option (List ℕ)) (part : List ℕ) (w : Wanted) (retries : ℕ) (trails : List Trail) (end : End)
+    (world : MirrorMap) (installed : Option (List ℕ)) (part : List ℕ) (w : Wanted) (retries : ℕ) (trails : List Trail) (end : End)
     → IsRoute retries (target_walk installed (length part) w) trails end → Agrees world part trails → Lives trails
     → by_sum end ≡ by_sum (obtain world installed part w)
 
 -- and a Release's route as the Release is
 abbrev pub ReleasesEndAsObtained : Type 0
 ReleasesEndAsObtained =
-    (world : World) (source : Source) (retries : ℕ) (trails : List Trail) (end : End)
+    (world : MirrorMap) (source : Source) (retries : ℕ) (trails : List Trail) (end : End)
     → IsRoute retries (release_walk source) trails end → Agrees world [] trails → Lives trails
     → end ≡ obtain_release world source
 
 -- over each mirror each walk has such a route
 abbrev pub MirrorsGiveRoutes : Type 0
 MirrorsGiveRoutes =
-    (world : World) (part : List ℕ) (walk : Walk) (retries : ℕ)
+    (world : MirrorMap) (part : List ℕ) (walk : Walk) (retries : ℕ)
     → IsRoute retries walk (trails_over world part walk) (over world part walk)
     × Agrees world part (trails_over world part walk)
     × Lives (trails_over world part walk)
@@ -61,7 +61,7 @@ MirrorsGiveRoutes =
 -- Whatever is answered, the entries so far are the front of a route, and what is asked is the next of it.
 abbrev pub RunsStandInRoutes : Type 0
 RunsStandInRoutes =
-    (walk : Walk) (retries source : ℕ) (path : List ℕ) (ts : List Told)
+    (walk : Walk) (retries source : ℕ) (path : List ℕ) (ts : List LaneAnswer)
     → (trails : List Trail) × (end : End) × (rest : List Asked)
     × IsRoute retries walk trails end
     × (entries source path trails ≡ ran retries source path (start retries walk) ts ++ rest)
@@ -151,27 +151,27 @@ IsFileOf sum (Some bytes) = Fits bytes sum
 -- the file that a list comes to is the listed one
 abbrev pub ObtainedFilesFit : Type 0
 ObtainedFilesFit =
-    (world : World) (installed : Option (List ℕ)) (part : List ℕ) (w : Wanted)
+    (world : MirrorMap) (installed : Option (List ℕ)) (part : List ℕ) (w : Wanted)
     → IsHad (obtain world installed part w) → IsFileOf w.sum (file_of installed (obtain world installed part w))
 
 -- a list has a file exactly where the installed, the patched or the resumed file, or one that is reached, is the listed one
 abbrev pub FilesAreObtained : Type 0
 FilesAreObtained =
-    (world : World) (installed : Option (List ℕ)) (part : List ℕ) (w : Wanted)
+    (world : MirrorMap) (installed : Option (List ℕ)) (part : List ℕ) (w : Wanted)
     → IsHad (obtain world installed part w)
     ↔ Any (IsFileOf w.sum) (installed ∷ patched world installed w ∷ resumed world part w ∷ reached_files world w)
 
 -- patches that don't lead to the list change nothing
 abbrev pub PatchesOnlyHelp : Type 0
 PatchesOnlyHelp =
-    (world : World) (installed : Option (List ℕ)) (part : List ℕ) (w : Wanted)
+    (world : MirrorMap) (installed : Option (List ℕ)) (part : List ℕ) (w : Wanted)
     → (IsFileOf w.sum (patched world installed w) → ⊥)
     → obtain world installed part w ≡ obtain world installed part (record w { index = None })
 
 -- nor does a partial file whose rest doesn't make the list
 abbrev pub PartsOnlyHelp : Type 0
 PartsOnlyHelp =
-    (world : World) (installed : Option (List ℕ)) (part : List ℕ) (w : Wanted)
+    (world : MirrorMap) (installed : Option (List ℕ)) (part : List ℕ) (w : Wanted)
     → (IsFileOf w.sum (resumed world part w) → ⊥)
     → obtain world installed part w ≡ obtain world installed [] w
 
@@ -180,7 +180,7 @@ PartsOnlyHelp =
 -- a new set comes exactly from a Release that is admissible, each of whose lists has a file
 abbrev pub SetsAreAdmissible : Type 0
 SetsAreAdmissible =
-    (r : End) (ends : List End) (old : Option (List ℕ)) (settings : Settings) (change : Change) (now : ℤ) (set : Admitted)
+    (r : End) (ends : List End) (old : Option (List ℕ)) (settings : Settings) (change : Change) (now : ℤ) (set : AdmittedRelease)
     → (outcome r ends old settings change now ≡ Ok set)
     ↔ ((bytes_of r ≡ Ok set.bytes) × (release_of set.bytes ≡ Ok set.release)
     × IsAdmissible set.release (installed_release old) settings.dates change now × Each IsHad ends)
@@ -188,7 +188,7 @@ SetsAreAdmissible =
 -- over a mirror, each list that the Release of a new set names has a file of the sum that it lists
 abbrev pub NewSetsFit : Type 0
 NewSetsFit =
-    (world : World) (dir : Directory) (parts : Parts) (source : Source) (settings : Settings) (change : Change) (now : ℤ) (set : Admitted)
+    (world : MirrorMap) (dir : Directory) (parts : PartFiles) (source : Source) (settings : Settings) (change : Change) (now : ℤ) (set : AdmittedRelease)
     → new_set world dir parts source settings change now ≡ Ok set
     → Each (λ w. IsFileOf w.sum (file_of (dir w.name.0) (obtained world dir parts w))) (wanted_by source settings (Ok set))
 
@@ -199,7 +199,7 @@ pub record ListEnd : Type 0 where
   pub end : End
 
 -- these are routes of the lists that a source asks, and they agree with a mirror and hold no dead position
-abbrev pub AreRoutesOver : World → Directory → Parts → ℕ → List ListEnd → Type 0
+abbrev pub AreRoutesOver : MirrorMap → Directory → PartFiles → ℕ → List ListEnd → Type 0
 AreRoutesOver world dir parts retries =
     Each (λ l. IsRoute retries (target_walk (dir l.wanted.name.0) (length (parts l.wanted.name.0)) l.wanted) l.trails l.end
     × Agrees world (parts l.wanted.name.0) l.trails × Lives l.trails)
@@ -207,7 +207,7 @@ AreRoutesOver world dir parts retries =
 -- routes of a source that agree with a mirror and hold no dead position come to its new set, or to why there is none
 abbrev pub RoutesMakeNewSets : Type 0
 RoutesMakeNewSets =
-    (world : World) (dir : Directory) (parts : Parts) (source : Source) (settings : Settings) (change : Change) (now : ℤ) (retries : ℕ)
+    (world : MirrorMap) (dir : Directory) (parts : PartFiles) (source : Source) (settings : Settings) (change : Change) (now : ℤ) (retries : ℕ)
     (trails : List Trail) (r : End) (lists : List ListEnd)
     → IsRoute retries (release_walk source) trails r → Agrees world [] trails → Lives trails
     → map (λ l. l.wanted) lists ≡ wanted_by source settings (admitted r (dir source.release_name.0) settings change now)
@@ -217,7 +217,7 @@ RoutesMakeNewSets =
 -- so two mirrors with which the same routes agree have the same for a source: it depends on the URIs of the routes alone
 abbrev pub RoutesAreEnough : Type 0
 RoutesAreEnough =
-    (world other : World) (dir : Directory) (parts : Parts) (source : Source) (settings : Settings) (change : Change) (now : ℤ) (retries : ℕ)
+    (world other : MirrorMap) (dir : Directory) (parts : PartFiles) (source : Source) (settings : Settings) (change : Change) (now : ℤ) (retries : ℕ)
     (trails : List Trail) (r : End) (lists : List ListEnd)
     → IsRoute retries (release_walk source) trails r → Agrees world [] trails → Agrees other [] trails → Lives trails
     → map (λ l. l.wanted) lists ≡ wanted_by source settings (admitted r (dir source.release_name.0) settings change now)
@@ -229,25 +229,25 @@ RoutesAreEnough =
 -- what a run leaves is determined, bytes of equal sums aside
 abbrev pub NextsAreAlike : Type 0
 NextsAreAlike =
-    (world : World) (dir : Directory) (parts : Parts) (plan : Plan) (settings : Settings) (change : Change) (now : ℤ) (a b : Directory)
+    (world : MirrorMap) (dir : Directory) (parts : PartFiles) (plan : Plan) (settings : Settings) (change : Change) (now : ℤ) (a b : Directory)
     → IsNext world dir parts plan settings change now a → IsNext world dir parts plan settings change now b → Alike plan a b
 
 -- where clean-up is on and each source has a new set or keeps a newer one, no name of no source is left
 abbrev pub NextsAreClean : Type 0
 NextsAreClean =
-    (world : World) (dir : Directory) (parts : Parts) (plan : Plan) (settings : Settings) (change : Change) (now : ℤ) (after : Directory)
+    (world : MirrorMap) (dir : Directory) (parts : PartFiles) (plan : Plan) (settings : Settings) (change : Change) (now : ℤ) (after : Directory)
     → IsNext world dir parts plan settings change now after → settings.cleanup ≡ true
-    → Each (λ source. is_settled_well (new_set world dir parts source settings change now) ≡ true) plan.sources
+    → Each (λ source. lets_clean_up (new_set world dir parts source settings change now) ≡ true) plan.sources
     → (name : List ℕ) → (Contains (plan_names plan) name → ⊥) → after name ≡ None
 
 -- a source without a new set keeps all that lies under its names
 abbrev pub NextsKeep : Type 0
 NextsKeep =
-    (world : World) (dir : Directory) (parts : Parts) (plan : Plan) (settings : Settings) (change : Change) (now : ℤ) (after : Directory)
+    (world : MirrorMap) (dir : Directory) (parts : PartFiles) (plan : Plan) (settings : Settings) (change : Change) (now : ℤ) (after : Directory)
     → IsNext world dir parts plan settings change now after
     → (source : Source) (why : Staying) → Contains plan.sources source → new_set world dir parts source settings change now ≡ Err why
     → Keeps source dir after
 
 -- the test of a set that is there already
 abbrev pub HeldSetsAreFound : Type 0
-HeldSetsAreFound = (dir : Directory) (source : Source) (set : Admitted) → (holds dir source set ≡ true) ↔ Holds dir source set
+HeldSetsAreFound = (dir : Directory) (source : Source) (set : AdmittedRelease) → (has_whole_set dir source set ≡ true) ↔ HasWholeSet dir source set

@@ -1,6 +1,6 @@
 -- The route of a walk over a mirror, without a fault.
 use Rattle.std.specs.Prelude.{ℕ, zero, suc, nat_le, nat_lt, ◌&&◌, if◌then◌else◌, List, [], ◌∷◌, ◌++◌, length, take, drop}
-use Rattle.acq_base.specs.Mirror.{World, answer_at}
+use Rattle.acq_base.specs.Mirror.{MirrorMap, answer_at}
 use Rattle.acq_base.specs.declared.uri.Uri.{Uri}
 use Rattle.update_model.specs.Reach.{Way, On, Stop, way, reach}
 use Rattle.update_model.specs.Trails.{Position, Trail, body_for, answered}
@@ -25,7 +25,7 @@ seen part ask (endings.Garbled at) = endings.Garbled at
 seen part ask (endings.Dead lane before after) = endings.Dead lane before after
 
 -- what a walk comes to over a mirror, beside this partial file
-abbrev pub over : World → List ℕ → Walk → End
+abbrev pub over : MirrorMap → List ℕ → Walk → End
 over world part (Finish end) = end
 over world part (Try ask next) = over world part (next (seen part ask (reach world ask.uri ask.max)))
 
@@ -34,17 +34,17 @@ behind (On to) more = more to
 behind (Stop ending) more = []
 
 -- the position of one answer, by a first lane
-abbrev pub heard_once : World → List ℕ → Ask → Uri → Position
+abbrev pub heard_once : MirrorMap → List ℕ → Ask → Uri → Position
 heard_once world part ask uri = record { uri = uri; told = record { lane = 0; closed = answered part ask (answer_at world uri) } ∷ [] }
 
 -- a mirror's answers from a URI on, where this many moves are left
-abbrev pub positions_by : ℕ → World → List ℕ → Ask → Uri → List Position
+abbrev pub positions_by : ℕ → MirrorMap → List ℕ → Ask → Uri → List Position
 positions_by zero world part ask uri = heard_once world part ask uri ∷ []
 positions_by (suc left) world part ask uri =
     heard_once world part ask uri ∷ behind (way (suc left) uri (answered part ask (answer_at world uri))) (λ to. positions_by left world part ask to)
 
 -- the trails of a walk over a mirror
-abbrev pub trails_over : World → List ℕ → Walk → List Trail
+abbrev pub trails_over : MirrorMap → List ℕ → Walk → List Trail
 trails_over world part (Finish end) = []
 trails_over world part (Try ask next) =
     record { ask = ask; positions = positions_by 10 world part ask ask.uri; ending = seen part ask (reach world ask.uri ask.max) }

@@ -1,6 +1,6 @@
 -- What a list comes to over a mirror.
 use Rattle.std.specs.Prelude.{ℕ, nat_lt, ◌&&◌, Bool, if◌then◌else◌, List, [], ◌∷◌, ◌++◌, length, drop, map, codes, Option, Some, None, option_and_then}
-use Rattle.acq_base.specs.Mirror.{World}
+use Rattle.acq_base.specs.Mirror.{MirrorMap}
 use Rattle.acq_base.specs.declared.sum.Sum.{Sum}
 use Rattle.acq_base.specs.declared.uri.Uri.{Uri}
 use Rattle.hash_gate.specs.Verdict.{verdict}
@@ -26,11 +26,11 @@ None >>= f = None
 -- ---- by patches
 
 -- what is reached within the listed size, where it is the listed file
-abbrev pub fetched : World → Uri → Sum → Option (List ℕ)
+abbrev pub fetched : MirrorMap → Uri → Sum → Option (List ℕ)
 fetched world uri sum = fitting sum (served (reach world uri sum.size))
 
 -- the file after these patches, one after another
-abbrev pub edited_along : World → Wanted → List Step → List ℕ → Option (List ℕ)
+abbrev pub edited_along : MirrorMap → Wanted → List Step → List ℕ → Option (List ℕ)
 edited_along world w [] file = Some file
 edited_along world w (step ∷ steps) file = do
   patch ← fetched world (patch_uri w step.name) step.sum
@@ -38,7 +38,7 @@ edited_along world w (step ∷ steps) file = do
   edited_along world w steps next
 
 -- what patches make of the installed file, where they lead to the wanted one
-abbrev pub patched : World → Option (List ℕ) → Wanted → Option (List ℕ)
+abbrev pub patched : MirrorMap → Option (List ℕ) → Wanted → Option (List ℕ)
 patched world installed w = do
   file ← installed
   sum ← w.index
@@ -62,7 +62,7 @@ first_uri w None = w.uri
 first_uri w (Some uri) = uri
 
 -- the partial file with its rest at the first URI of the list
-abbrev pub resumed : World → List ℕ → Wanted → Option (List ℕ)
+abbrev pub resumed : MirrorMap → List ℕ → Wanted → Option (List ℕ)
 resumed world part w =
     if is_resumed (length part) w
     then option_and_then (with_rest part) (served (reach world (first_uri w w.hashed) w.sum.size))
@@ -80,7 +80,7 @@ first_fitting sum [] = None
 first_fitting sum (file ∷ files) = or_else (fitting sum file) (first_fitting sum files)
 
 -- what is reached at each URI of the list
-abbrev pub reached_files : World → Wanted → List (Option (List ℕ))
+abbrev pub reached_files : MirrorMap → Wanted → List (Option (List ℕ))
 reached_files world w = map (λ uri. served (reach world uri w.sum.size)) (uris w)
 
 -- why there is no list, by what its own URI led to
@@ -102,7 +102,7 @@ got_or None other = other
 
 -- the first that is the wanted file: the installed one, the patched one, the resumed one, what is reached at each URI;
 -- where none is, the cause that the list's own URI shows
-abbrev pub obtain : World → Option (List ℕ) → List ℕ → Wanted → End
+abbrev pub obtain : MirrorMap → Option (List ℕ) → List ℕ → Wanted → End
 obtain world installed part w =
     stands_or (fitting w.sum installed)
     (got_or (first_fitting w.sum (patched world installed w ∷ resumed world part w ∷ reached_files world w))

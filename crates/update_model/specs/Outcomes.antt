@@ -1,6 +1,6 @@
 -- What a source comes to: a new set of lists, or why it keeps the former one.
 use Rattle.std.specs.Prelude.{ℕ, ℤ, List, [], ◌∷◌, map, Option, Some, None, option_map, Result, Ok, Err}
-use Rattle.acq_base.specs.Mirror.{World}
+use Rattle.acq_base.specs.Mirror.{MirrorMap}
 use Rattle.acq_base.specs.declared.plan.Source.{Source}
 use Rattle.acq_base.specs.declared.settings.Settings.{Settings}
 use Rattle.release_file.specs.Dates.{judged}
@@ -25,7 +25,7 @@ use Rattle.update_model.specs.declared.end.End.{End}
 use Rattle.update_model.specs.declared.end.End.TheVariants.{Got, Ended}
 
 -- a Release that may be installed, with its bytes
-pub record Admitted : Type 0 where
+pub record AdmittedRelease : Type 0 where
   pub bytes : List ℕ
   pub release : Release
 
@@ -36,7 +36,7 @@ pub data Staying : Type 0 where
 
 -- the Release of the new set, or why there is none
 abbrev pub Outcome : Type 0
-Outcome = Result Admitted Staying
+Outcome = Result AdmittedRelease Staying
 
 infixl 10 ◌>>=◌
 abbrev pub ◌>>=◌ : {A B : Type 0} → Result A Staying → (A → Result B Staying) → Result B Staying
@@ -71,7 +71,7 @@ headed change None release = Ok tt
 headed change (Some old) release = unless_refused (first_refused change old.head release.head) old.head release.head
 
 -- what a Release's end comes to beside the installed bytes: it may be installed, or the first cause that holds
-abbrev pub admitted : End → Option (List ℕ) → Settings → Change → ℤ → Result Admitted Staying
+abbrev pub admitted : End → Option (List ℕ) → Settings → Change → ℤ → Result AdmittedRelease Staying
 admitted r old settings change now = do
   bytes ← bytes_of r
   release ← read (release_of bytes)
@@ -82,7 +82,7 @@ admitted r old settings change now = do
 -- ---- its lists
 
 -- the lists that are asked: those that a Release that may be installed names
-abbrev pub wanted_by : Source → Settings → Result Admitted Staying → List Wanted
+abbrev pub wanted_by : Source → Settings → Result AdmittedRelease Staying → List Wanted
 wanted_by source settings (Ok found) = wanted_of source found.release settings
 wanted_by source settings (Err why) = []
 
@@ -106,14 +106,14 @@ abbrev pub Directory : Type 0
 Directory = List ℕ → Option (List ℕ)
 
 -- the partial files by list name; one that isn't there has no bytes
-abbrev pub Parts : Type 0
-Parts = List ℕ → List ℕ
+abbrev pub PartFiles : Type 0
+PartFiles = List ℕ → List ℕ
 
-abbrev pub obtained : World → Directory → Parts → Wanted → End
+abbrev pub obtained : MirrorMap → Directory → PartFiles → Wanted → End
 obtained world dir parts w = obtain world (dir w.name.0) (parts w.name.0) w
 
 -- what a mirror has for a source beside what is installed
-abbrev pub new_set : World → Directory → Parts → Source → Settings → Change → ℤ → Outcome
+abbrev pub new_set : MirrorMap → Directory → PartFiles → Source → Settings → Change → ℤ → Outcome
 new_set world dir parts source settings change now =
     outcome (obtain_release world source)
     (map (obtained world dir parts) (wanted_by source settings (admitted (obtain_release world source) (dir source.release_name.0) settings change now)))

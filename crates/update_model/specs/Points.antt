@@ -1,7 +1,7 @@
 -- Where a walk stands after some answers, one at a time.
 use Rattle.std.specs.Prelude.{◌≡◌, ℕ, List, [], ◌∷◌, ◌++◌}
 use Rattle.update_model.specs.Reach.{Way, On, Stop}
-use Rattle.update_model.specs.Trails.{Told, Leads, less, heard_of}
+use Rattle.update_model.specs.Trails.{LaneAnswer, Leads, less, heard_of}
 use Rattle.update_model.specs.Walks.{Walk, Finish, Try}
 use Rattle.update_model.specs.declared.ask.Ask.{Ask}
 use Rattle.update_model.specs.declared.ask.Ending.{Ending}
@@ -23,28 +23,28 @@ lead retries ask left next (On to) = At (record ask { uri = to }) (less left) re
 lead retries ask left next (Stop ending) = start retries (next ending)
 
 -- where one answer leads
-abbrev pub step : ℕ → Point → Told → Point
-step retries (Over end) t = Over end
-step retries (At ask left faults next) t =
+abbrev pub point_after : ℕ → Point → LaneAnswer → Point
+point_after retries (Over end) t = Over end
+point_after retries (At ask left faults next) t =
     Leads left ask.uri t.lane t.closed faults (λ n. At ask left n next) (λ w. lead retries ask left next w)
 
 -- the log's entry of an answer
-abbrev pub entry : ℕ → List ℕ → Ask → Told → Asked
+abbrev pub entry : ℕ → List ℕ → Ask → LaneAnswer → Asked
 entry source path ask t = record { source = source; path = path; uri = ask.uri; from = ask.from; lane = t.lane; heard = heard_of t.closed }
 
-abbrev pub entry_at : ℕ → List ℕ → Point → Told → List Asked
+abbrev pub entry_at : ℕ → List ℕ → Point → LaneAnswer → List Asked
 entry_at source path (Over end) t = []
 entry_at source path (At ask left faults next) t = entry source path ask t ∷ []
 
 -- where answers lead, one after another
-abbrev pub run : ℕ → Point → List Told → Point
+abbrev pub run : ℕ → Point → List LaneAnswer → Point
 run retries p [] = p
-run retries p (t ∷ ts) = run retries (step retries p t) ts
+run retries p (t ∷ ts) = run retries (point_after retries p t) ts
 
 -- the entries of these answers
-abbrev pub ran : ℕ → ℕ → List ℕ → Point → List Told → List Asked
+abbrev pub ran : ℕ → ℕ → List ℕ → Point → List LaneAnswer → List Asked
 ran retries source path p [] = []
-ran retries source path p (t ∷ ts) = entry_at source path p t ++ ran retries source path (step retries p t) ts
+ran retries source path p (t ∷ ts) = entry_at source path p t ++ ran retries source path (point_after retries p t) ts
 
 -- what is still to be heard begins with what the point asks, or is nothing, and this is the end
 abbrev pub AsksFirst : Point → List Asked → End → Type 0

@@ -1,6 +1,6 @@
 -- What a mirror gives in the end, moves followed (RFC 9110, section 15.4).
 use Rattle.std.specs.Prelude.{ℕ, zero, suc, nat_le, Bool, true, false, if◌then◌else◌, length, Some, None}
-use Rattle.acq_base.specs.Mirror.{World, answer_at}
+use Rattle.acq_base.specs.Mirror.{MirrorMap, answer_at}
 use Rattle.acq_base.specs.declared.fetch.Answer.{Answer}
 use Rattle.acq_base.specs.declared.fetch.Answer.TheVariants as answers
 use Rattle.acq_base.specs.declared.uri.Scheme.{Scheme}
@@ -49,10 +49,10 @@ within max (answers.Moved place) = Moved place
 within max (answers.Absent status) = Absent status
 
 -- what is reached from a URI, where this many moves are left
-abbrev pub reach_by : ℕ → World → Uri → ℕ → Ending
+abbrev pub reach_by : ℕ → MirrorMap → Uri → ℕ → Ending
 reach_by zero world uri max = followed (way zero uri (within max (answer_at world uri))) (λ to. endings.Lost)
 reach_by (suc left) world uri max = followed (way (suc left) uri (within max (answer_at world uri))) (λ to. reach_by left world to max)
 
 -- what is reached from a URI within `max` bytes: ten moves are followed
-abbrev pub reach : World → Uri → ℕ → Ending
+abbrev pub reach : MirrorMap → Uri → ℕ → Ending
 reach world uri max = reach_by 10 world uri max

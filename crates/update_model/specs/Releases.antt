@@ -1,7 +1,7 @@
 -- Where a source's Release comes from, and whether it may be installed.
 use Rattle.std.specs.Prelude.{ℕ, ℤ, List, codes, Option, IfSome, option_map, option_and_then}
 use Rattle.std.specs.Result.{result_ok}
-use Rattle.acq_base.specs.Mirror.{World}
+use Rattle.acq_base.specs.Mirror.{MirrorMap}
 use Rattle.acq_base.specs.declared.plan.Source.{Source}
 use Rattle.acq_base.specs.declared.settings.Dates.{Dates}
 use Rattle.acq_base.specs.declared.uri.Uri.{Uri}
@@ -46,7 +46,7 @@ served_or (endings.Served body) other = endings.Served body
 served_or e other = other
 
 -- what InRelease's URI reaches where that is a file, and else what the Release's URI reaches
-abbrev pub obtain_release : World → Source → End
+abbrev pub obtain_release : MirrorMap → Source → End
 obtain_release world source =
     release_end (served_or (reach world (in_release_uri source) release_limit) (reach world source.release release_limit))
 

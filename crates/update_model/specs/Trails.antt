@@ -1,7 +1,7 @@
 -- Histories of asks: what is answered at one place, along moves, and whether a mirror answered so.
 use Rattle.std.specs.Prelude.{◌≡◌, ℕ, zero, suc, nat_le, nat_lt, ◌&&◌, Bool, true, false, if◌then◌else◌, List, [], ◌∷◌, ◌++◌, length, take, drop, map}
 use Rattle.std.specs.List.{flat_map, AllByRecursion as Each}
-use Rattle.acq_base.specs.Mirror.{World, answer_at}
+use Rattle.acq_base.specs.Mirror.{MirrorMap, answer_at}
 use Rattle.acq_base.specs.Sum.{sum_of}
 use Rattle.acq_base.specs.declared.fetch.Answer.{Answer}
 use Rattle.acq_base.specs.declared.fetch.Answer.TheVariants as answers
@@ -20,14 +20,14 @@ use Rattle.update_model.specs.declared.log.Heard.{Heard}
 use Rattle.update_model.specs.declared.log.Heard.TheVariants as heards
 
 -- an answer, and the lane whose method gave it
-pub record Told : Type 0 where
+pub record LaneAnswer : Type 0 where
   pub lane : ℕ
   pub closed : Closed
 
 -- a URI, and all that was answered there in order
 pub record Position : Type 0 where
   pub uri : Uri
-  pub told : List Told
+  pub told : List LaneAnswer
 
 -- the positions to which an ask led, and how they ended
 pub record Trail : Type 0 where
@@ -45,7 +45,7 @@ Leads left uri lane closed retries again goes = goes (way left uri closed)
 
 -- All the answers at a URI: at most `retries` faults and then one that is none, or one fault more. P holds of the way
 -- that they lead.
-abbrev pub IsPosition : ℕ → ℕ → Uri → List Told → (Way → Type 0) → Type 0
+abbrev pub IsPosition : ℕ → ℕ → Uri → List LaneAnswer → (Way → Type 0) → Type 0
 IsPosition retries left uri [] P = ⊥
 IsPosition retries left uri (t ∷ ts) P =
     Leads left uri t.lane t.closed retries (λ n. IsPosition n left uri ts P) (λ w. (ts ≡ []) × P w)
@@ -86,21 +86,21 @@ answered part ask (answers.Moved place) = Moved place
 answered part ask (answers.Absent status) = Absent status
 
 -- an answer is this one, or a fault
-abbrev pub Says : Closed → Closed → Type 0
-Says (Fault before after) said = Unit {0}
-Says closed said = closed ≡ said
+abbrev pub IsFaultOr : Closed → Closed → Type 0
+IsFaultOr (Fault before after) said = Unit {0}
+IsFaultOr closed said = closed ≡ said
 
 -- each answer that is no fault is the mirror's to that ask, beside this partial file
-abbrev pub Agrees : World → List ℕ → List Trail → Type 0
+abbrev pub Agrees : MirrorMap → List ℕ → List Trail → Type 0
 Agrees world part =
-    Each (λ trail. Each (λ position. Each (λ told. Says told.closed (answered part trail.ask (answer_at world position.uri))) position.told) trail.positions)
+    Each (λ trail. Each (λ position. Each (λ told. IsFaultOr told.closed (answered part trail.ask (answer_at world position.uri))) position.told) trail.positions)
 
 abbrev pub answers_or : Closed → Type 0 → Type 0
 answers_or (Fault before after) other = other
 answers_or closed other = Unit {0}
 
 -- some answer is no fault
-abbrev pub HasAnswer : List Told → Type 0
+abbrev pub HasAnswer : List LaneAnswer → Type 0
 HasAnswer [] = ⊥
 HasAnswer (t ∷ ts) = answers_or t.closed (HasAnswer ts)
 

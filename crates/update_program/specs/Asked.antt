@@ -35,7 +35,7 @@ IfGenerate (Some (Update options)) P = Unit {0}
 IfGenerate (Some (Generate number)) P = P number
 
 -- the files of the configuration folder, where they are told, or some files where none are, give this with the options
-pub record Give (told : Option EtcFiles) (options : List (List ℕ)) (answer : Result Configured ConfigurationError) : Type 0 where
+pub record GivesConfiguration (told : Option EtcFiles) (options : List (List ℕ)) (answer : Result Configured ConfigurationError) : Type 0 where
   pub files : EtcFiles
   pub those : IfSome told (λ all. files ≡ all)
   pub give : answer ≡ configured (folder_of files) options
@@ -44,9 +44,9 @@ abbrev pub run_for : Configured → ℤ → Bool → Run
 run_for it now together = run_of it.plan it.settings it.change now together
 
 -- options, files and moment ask for this run
-pub record AskFor (told : Option EtcFiles) (options : Options) (moment : Option ℤ) (run : Run) : Type 0 where
+pub record AsksForRun (told : Option EtcFiles) (options : Options) (moment : Option ℤ) (run : Run) : Type 0 where
   pub it : Configured
-  pub given : Give told options.pairs (Ok it)
+  pub given : GivesConfiguration told options.pairs (Ok it)
   pub time : ℤ
   pub at : moment ≡ Some time
   pub is : run ≡ run_for it time options.together

@@ -7,11 +7,11 @@ use Rattle.configuration.specs.declared.configuring.Configured.{Configured}
 use Rattle.configuration.specs.declared.error.ConfigurationError.{ConfigurationError}
 use Rattle.report_text.specs.Refused.{line_of}
 use Rattle.report_text.specs.declared.fault.FaultLine.TheVariants.{Words, Journal, Disk, Memory, Held, Etc}
-use Rattle.update_engine.specs.Run.{Run, Logged, StaysSafe}
+use Rattle.update_engine.specs.Run.{Run, LogIsTrue, SurvivesCrash}
 use Rattle.update_model.specs.declared.log.RunLog.{RunLog}
-use Rattle.update_program.specs.Asked.{Give, run_for}
+use Rattle.update_program.specs.Asked.{GivesConfiguration, run_for}
 use Rattle.update_program.specs.Objects.{Objects, Span}
-use Rattle.update_program.specs.Said.{Reports, Says, SaysFault}
+use Rattle.update_program.specs.Said.{WritesReportOrMemory, WritesLine, WritesFault}
 use Rattle.update_program.specs.declared.ran.Ran.{Ran}
 
 -- no run was made: there is no log, and the lists folder and the methods are as they were
@@ -25,8 +25,8 @@ pub record IsNoRun (before after : Objects) (log : Option RunLog) : Type 0 where
 -- ---- words that are refused
 
 -- `E words`, or want of memory
-abbrev pub EndsByWords : Span → Ran → Type 0
-EndsByWords seen ran = Says seen.before.out seen.after.out Words ran.status.0 ⊎ Says seen.before.out seen.after.out Memory ran.status.0
+abbrev pub RefusesWords : Span → Ran → Type 0
+RefusesWords seen ran = WritesLine seen.before.out seen.after.out Words ran.status.0 ⊎ WritesLine seen.before.out seen.after.out Memory ran.status.0
 
 abbrev pub MakesNoRun : Span → Ran → Type 0
 MakesNoRun seen ran = IsNoRun seen.before seen.after ran.log
@@ -35,49 +35,49 @@ MakesNoRun seen ran = IsNoRun seen.before seen.after ran.log
 
 -- why it answers no log: the lists folder failed, the journal is damaged at this place and no file was touched, or memory
 -- ran out
-abbrev pub SaysWhy : Objects → Objects → ℕ → Type 0
-SaysWhy before after status =
-    Says before.out after.out Disk status
-    ⊎ (((at : ℕ) × (IsTrue before.tells → damage_of before.files ≡ Some at) × (after.files ≡ before.files) × SaysFault before.out after.out (Journal at) status)
-    ⊎ Says before.out after.out Memory status)
+abbrev pub WritesWhyNoLog : Objects → Objects → ℕ → Type 0
+WritesWhyNoLog before after status =
+    WritesLine before.out after.out Disk status
+    ⊎ (((at : ℕ) × (IsTrue before.tells → damage_of before.files ≡ Some at) × (after.files ≡ before.files) × WritesFault before.out after.out (Journal at) status)
+    ⊎ WritesLine before.out after.out Memory status)
 
 -- A run, whether it answers a log or not: what a stop leaves, what the log tells, and what was written. No run that
 -- answers a log goes on over a damaged journal.
-pub record IsRun (run : Run) (before after : Objects) (answer : Option RunLog) (status : ℕ) : Type 0 where
-  pub crash : StaysSafe run before.engine after.engine
-  pub log : IfSome answer (Logged run before.engine after.engine)
-  pub said : IfSome answer (λ log. Reports before.out after.out run.plan log status)
-  pub why : IfNone answer (SaysWhy before after status)
+pub record MakesRun (run : Run) (before after : Objects) (answer : Option RunLog) (status : ℕ) : Type 0 where
+  pub crash : SurvivesCrash run before.engine after.engine
+  pub log : IfSome answer (LogIsTrue run before.engine after.engine)
+  pub said : IfSome answer (λ log. WritesReportOrMemory before.out after.out run.plan log status)
+  pub why : IfNone answer (WritesWhyNoLog before after status)
   pub undamaged : IsTrue before.tells → IsSome answer → damage_of before.files ≡ None
 
 -- the lists folder failed or was held by another process, or memory ran out
-abbrev pub IsBarred : Objects → Objects → ℕ → Type 0
-IsBarred before after status =
-    Says before.out after.out Disk status ⊎ (Says before.out after.out Held status ⊎ Says before.out after.out Memory status)
+abbrev pub IsBeforeRun : Objects → Objects → ℕ → Type 0
+IsBeforeRun before after status =
+    WritesLine before.out after.out Disk status ⊎ (WritesLine before.out after.out Held status ⊎ WritesLine before.out after.out Memory status)
 
 -- what is configured was run at this moment, or memory ran out before the run
-abbrev pub EndsNow : Configured → Bool → ℤ → Objects → Objects → Option RunLog → ℕ → Type 0
-EndsNow it together now before after log status =
-    IsRun (run_for it now together) before after log status ⊎ (IsNoRun before after log × Says before.out after.out Memory status)
+abbrev pub RunsAt : Configured → Bool → ℤ → Objects → Objects → Option RunLog → ℕ → Type 0
+RunsAt it together now before after log status =
+    MakesRun (run_for it now together) before after log status ⊎ (IsNoRun before after log × WritesLine before.out after.out Memory status)
 
 -- it was run at the moment that the clock gave, or there was no run
-abbrev pub EndsWith : Configured → Bool → Option ℤ → Objects → Objects → Option RunLog → ℕ → Type 0
-EndsWith it together moment before after log status =
-    ((now : ℤ) × (moment ≡ Some now) × IsRun (run_for it now together) before after log status)
-    ⊎ (IsNoRun before after log × IsBarred before after status)
+abbrev pub RunsAtClock : Configured → Bool → Option ℤ → Objects → Objects → Option RunLog → ℕ → Type 0
+RunsAtClock it together moment before after log status =
+    ((now : ℤ) × (moment ≡ Some now) × MakesRun (run_for it now together) before after log status)
+    ⊎ (IsNoRun before after log × IsBeforeRun before after status)
 
 -- ---- an update
 
 -- there is no configuration: it is refused, its folder failed, or memory ran out
-abbrev pub IsUnread : Option EtcFiles → List (List ℕ) → Objects → Objects → ℕ → Type 0
-IsUnread told pairs before after status =
-    ((refusal : ConfigurationError) × Give told pairs (Err refusal) × SaysFault before.out after.out (line_of refusal) status)
-    ⊎ (Says before.out after.out Etc status ⊎ Says before.out after.out Memory status)
+abbrev pub HasNoConfiguration : Option EtcFiles → List (List ℕ) → Objects → Objects → ℕ → Type 0
+HasNoConfiguration told pairs before after status =
+    ((refusal : ConfigurationError) × GivesConfiguration told pairs (Err refusal) × WritesFault before.out after.out (line_of refusal) status)
+    ⊎ (WritesLine before.out after.out Etc status ⊎ WritesLine before.out after.out Memory status)
 
 -- the words ask for an update: what is configured ends it, or there is no configuration and no run
-pub record EndsByOptions (told : Option EtcFiles) (options : Options) (moment : Option ℤ) (before after : Objects) (log : Option RunLog) (status : ℕ) : Type 0 where
-  pub way : ((it : Configured) × Give told options.pairs (Ok it) × EndsWith it options.together moment before after log status)
-      ⊎ (IsNoRun before after log × IsUnread told options.pairs before after status)
+pub record EndsUpdateOf (told : Option EtcFiles) (options : Options) (moment : Option ℤ) (before after : Objects) (log : Option RunLog) (status : ℕ) : Type 0 where
+  pub way : ((it : Configured) × GivesConfiguration told options.pairs (Ok it) × RunsAtClock it options.together moment before after log status)
+      ⊎ (IsNoRun before after log × HasNoConfiguration told options.pairs before after status)
 
 abbrev pub EndsUpdate : Option EtcFiles → Option ℤ → Span → Ran → Options → Type 0
-EndsUpdate told moment seen ran options = EndsByOptions told options moment seen.before seen.after ran.log ran.status.0
+EndsUpdate told moment seen ran options = EndsUpdateOf told options moment seen.before seen.after ran.log ran.status.0

@@ -5,7 +5,7 @@ use Rattle.generated_days.specs.Days.{AreDaysOf}
 use Rattle.generated_days.specs.declared.days.Day.{Day}
 use Rattle.report_text.specs.declared.fault.FaultLine.TheVariants.{Memory}
 use Rattle.update_program.specs.Objects.{Output}
-use Rattle.update_program.specs.Said.{SaidBy, Says}
+use Rattle.update_program.specs.Said.{Writes, WritesLine}
 
 -- the sources that got a new set, the asks, and the bytes of the lists behind them
 abbrev pub day_text : Day → List ℕ
@@ -23,8 +23,8 @@ pub record SaysDays (number : ℕ) (before after : Output) (status : ℕ) : Type
   pub first : Day
   pub second : Day
   pub are : AreDaysOf number first second
-  pub said : SaidBy before after (days_line number first second) (days_status first second) status
+  pub said : Writes before after (days_line number first second) (days_status first second) status
 
 -- or memory ran out
 abbrev pub IsGenerated : ℕ → Output → Output → ℕ → Type 0
-IsGenerated number before after status = SaysDays number before after status ⊎ Says before after Memory status
+IsGenerated number before after status = SaysDays number before after status ⊎ WritesLine before after Memory status

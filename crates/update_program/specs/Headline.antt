@@ -4,10 +4,10 @@ use Rattle.acq_outside.specs.Etc.{EtcFiles}
 use Rattle.command_words.specs.declared.request.Options.{Options}
 use Rattle.commit_journal.specs.Opening.{damage_of}
 use Rattle.configuration.specs.declared.error.ConfigurationError.{ConfigurationError}
-use Rattle.run_promises.specs.Promise.{EndsAsTold, EndsOverMirror, StopsOverMirror, StopsWithSets, WasSettled}
+use Rattle.run_promises.specs.Promise.{ListsMatchLog, EndsOverMirror, StopsOverMirror, StopKeepsSets, WasSynced}
 use Rattle.update_engine.specs.Run.{Run}
 use Rattle.update_model.specs.declared.log.RunLog.{RunLog}
-use Rattle.update_program.specs.Asked.{AskFor, Give}
+use Rattle.update_program.specs.Asked.{AsksForRun, GivesConfiguration}
 use Rattle.update_program.specs.Ending.{IsNoRun}
 use Rattle.update_program.specs.Objects.{Objects, Span}
 use Rattle.update_program.specs.declared.ran.Ran.{Ran}
@@ -15,23 +15,23 @@ use Rattle.update_program.specs.declared.ran.Ran.{Ran}
 -- the configuration is refused, or the journal is damaged
 abbrev pub IsRefused : Option EtcFiles → Options → Objects → Type 0
 IsRefused told options before =
-    ((refusal : ConfigurationError) × Give told options.pairs (Err refusal)) ⊎ ((at : ℕ) × (IsTrue before.tells → damage_of before.files ≡ Some at))
+    ((refusal : ConfigurationError) × GivesConfiguration told options.pairs (Err refusal)) ⊎ ((at : ℕ) × (IsTrue before.tells → damage_of before.files ≡ Some at))
 
 -- A run that is asked for. A stop leaves each source its former set or a new one, whole, which over a mirror is the mirror's.
 -- Where a log is answered, the lists are as it tells, and over a mirror lists and log are what the mirror's answers define.
-pub record RunsWell (told : Option EtcFiles) (options : Options) (moment : Option ℤ) (before after : Objects) (log : Option RunLog) : Type 0 where
+pub record KeepsPromise (told : Option EtcFiles) (options : Options) (moment : Option ℤ) (before after : Objects) (log : Option RunLog) : Type 0 where
   pub run : Run
-  pub asks : AskFor told options moment run
-  pub stops : WasSettled before.engine → StopsWithSets run before.engine after.engine
-  pub stops_as_served : WasSettled before.engine → StopsOverMirror run before.engine after.engine
-  pub tells : IfSome log (λ known. WasSettled before.engine → EndsAsTold run before.engine.trace after.engine.trace known)
+  pub asks : AsksForRun told options moment run
+  pub stops : WasSynced before.engine → StopKeepsSets run before.engine after.engine
+  pub stops_as_served : WasSynced before.engine → StopsOverMirror run before.engine after.engine
+  pub tells : IfSome log (λ known. WasSynced before.engine → ListsMatchLog run before.engine.trace after.engine.trace known)
   pub ends : IfSome log (EndsOverMirror run before.engine after.engine)
 
 -- What an update promises: it makes no run, or one as above; and without a log the status 100 has its cause. The other
 -- statuses without a log have theirs: the lists folder, the configuration folder, the output or memory failed, or another
 -- process held the lists folder.
 pub record Promises (told : Option EtcFiles) (options : Options) (moment : Option ℤ) (before after : Objects) (log : Option RunLog) (status : ℕ) : Type 0 where
-  pub way : IsNoRun before after log ⊎ RunsWell told options moment before after log
+  pub way : IsNoRun before after log ⊎ KeepsPromise told options moment before after log
   pub refused : IfNone log (status ≡ 100 → IsRefused told options before)
 
 abbrev pub Headline : Option EtcFiles → Option ℤ → Span → Ran → Options → Type 0

@@ -14,8 +14,8 @@ use Rattle.update_model.specs.declared.settled.Verdict2.TheVariants.{Installed, 
 use Rattle.update_program.specs.Objects.{Output}
 
 -- the text was written whole and the status is this one, or the output failed within the text and the status is 105
-abbrev pub SaidBy : Output → Output → List ℕ → ℕ → ℕ → Type 0
-SaidBy before after text status result =
+abbrev pub Writes : Output → Output → List ℕ → ℕ → ℕ → Type 0
+Writes before after text status result =
     ((result ≡ status) × Wrote before.written text after.written)
     ⊎ ((result ≡ 105) × Rose before.faults after.faults × WrotePart before.written text after.written)
 
@@ -54,12 +54,12 @@ is_bare Memory = true
 is_bare Held = true
 is_bare Etc = true
 
-abbrev pub Says : Output → Output → FaultLine → ℕ → Type 0
-Says before after fault result = SaidBy before after (fault_text fault) (fault_status fault) result
+abbrev pub WritesLine : Output → Output → FaultLine → ℕ → Type 0
+WritesLine before after fault result = Writes before after (fault_text fault) (fault_status fault) result
 
 -- or memory for the line ran out
-abbrev pub SaysFault : Output → Output → FaultLine → ℕ → Type 0
-SaysFault before after fault result = Says before after fault result ⊎ Says before after Memory result
+abbrev pub WritesFault : Output → Output → FaultLine → ℕ → Type 0
+WritesFault before after fault result = WritesLine before after fault result ⊎ WritesLine before after Memory result
 
 -- ---- reports
 
@@ -73,14 +73,14 @@ is_kept (Kept cause) = true
 abbrev pub status_of_verdicts : List Verdict2 → ℕ
 status_of_verdicts verdicts = if list_any is_kept verdicts then 100 else 0
 
-pub record SaysReport (before after : Output) (plan : Plan) (log : RunLog) (result : ℕ) : Type 0 where
+pub record WritesReport (before after : Output) (plan : Plan) (log : RunLog) (result : ℕ) : Type 0 where
   pub text : List ℕ
   pub is : IsReport plan log text
-  pub said : SaidBy before after text (status_of_verdicts log.verdicts) result
+  pub said : Writes before after text (status_of_verdicts log.verdicts) result
 
 -- or memory for the report ran out
-abbrev pub Reports : Output → Output → Plan → RunLog → ℕ → Type 0
-Reports before after plan log result = SaysReport before after plan log result ⊎ Says before after Memory result
+abbrev pub WritesReportOrMemory : Output → Output → Plan → RunLog → ℕ → Type 0
+WritesReportOrMemory before after plan log result = WritesReport before after plan log result ⊎ WritesLine before after Memory result
 
 -- ---- statuses and moments
 

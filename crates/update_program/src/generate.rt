@@ -8,7 +8,7 @@ ghost use Rattle.update_program.specs.Objects.{output};
 ghost use Rattle.update_program.specs.Said.{BlamesOutput};
 
 use crate::Status;
-use crate::say::{say, say_fixed};
+use crate::say::{write_fixed, write_text};
 use acq_base::{NoMemory, Text};
 use acq_outside::Sink;
 use generated_days::{Day, both_days};
@@ -23,7 +23,7 @@ pub fn generate<S: Sink>(alloc: Global, number: u64, out: &mut S) -> Status
 {
     match both_days(alloc, number) {
         Ok((first, second)) => tell_days(alloc, number, &first, &second, out),
-        Err(NoMemory) => say_fixed(out, &FaultLine::Memory),
+        Err(NoMemory) => write_fixed(out, &FaultLine::Memory),
     }
 }
 
@@ -34,8 +34,8 @@ fn tell_days<S: Sink>(alloc: Global, number: u64, first: &Day, second: &Day, out
     ensures days { IsGenerated number (output S.Sink out.old) (output S.Sink out.new) result.0 }
 {
     match line_of(alloc, number, first, second) {
-        Ok(line) => say(out, line.as_bytes(), status_of(first, second)),
-        Err(NoMemory) => say_fixed(out, &FaultLine::Memory),
+        Ok(line) => write_text(out, line.as_bytes(), status_of(first, second)),
+        Err(NoMemory) => write_fixed(out, &FaultLine::Memory),
     }
 }
 

@@ -3,13 +3,16 @@
 //! `update_call` reads the words, then the configuration, takes the hold on the lists folder, reads the moment, runs the
 //! update and writes the report; the first refusal or fault ends it, by one line in place of the report. It touches nothing
 //! but the objects that it is handed.
+//!
+//! Its [own page](../README.md) has the clauses. The headline follows of what a run is by the four laws of
+//! `run_promises`.
 #![tactic(auto)]
 
 pub use ran::{Ran, Status};
 pub use top::update_call;
 
 mod generate;
-mod held;
+mod holding;
 mod options;
 mod ran;
 mod run;

@@ -4,21 +4,19 @@ ghost use Rattle.std.specs.Prelude.{◌≡◌, ◌≢◌, ◌≤◌, vec_len, Is
 ghost use Rattle.acq_outside.specs.Count.{Rose};
 ghost use Rattle.report_text.specs.Refused.{line_of};
 ghost use Rattle.update_engine.specs.Run.{KeepsMethods, engine};
-ghost use Rattle.update_program.specs.Ending.{EndsByOptions};
+ghost use Rattle.update_program.specs.Ending.{EndsUpdateOf};
 ghost use Rattle.update_program.specs.Headline.{Promises};
 ghost use Rattle.update_program.specs.Objects.{objects, output};
-ghost use Rattle.update_program.specs.Said.{BlamesOutput, ReadsOnce, SaysFault};
+ghost use Rattle.update_program.specs.Said.{BlamesOutput, ReadsOnce, WritesFault};
 
 use crate::Ran;
-use crate::held::run_held;
-use crate::say::{say_fault, say_fixed};
+use crate::holding::run_with_hold;
+use crate::say::{write_fault, write_fixed};
 use acq_outside::{Clock, Disk, Etc, Method, Sink};
 use command_words::Options;
 use configuration::{ConfigurationError, configure};
 use report_text::FaultLine;
-use run_promises::{
-    runs_end_as_served, runs_end_as_told, runs_stop_as_served, runs_stop_with_sets,
-};
+use run_promises::{lists_match_log, lists_match_mirror, runs_stop_as_served, runs_stop_with_sets};
 use std::alloc::Global;
 
 /// Reads the configuration, and runs what it plans.
@@ -42,15 +40,15 @@ pub fn run_options<E: Etc, D: Disk, M: Method, C: Clock, S: Sink>(
     ensures held_fault { result.status.0 ≡ 104 → Rose (D.held disk.old) (D.held disk.new) }
     ensures etc_fault { result.status.0 ≡ 106 → Rose (E.faults etc.old) (E.faults etc.new) }
     ensures quiet_etc { IsSome result.log → E.faults etc.new ≡ E.faults etc.old }
-    ensures ended { EndsByOptions (E.files etc.old) options.now (C.last clock.new)
+    ensures ended { EndsUpdateOf (E.files etc.old) options.now (C.last clock.new)
         (objects D.Disk M.Method S.Sink disk.old methods.old.items out.old)
         (objects D.Disk M.Method S.Sink disk.new methods.new.items out.new) result.log result.status.0 }
     ensures headline { Promises (E.files etc.old) options.now (C.last clock.new)
         (objects D.Disk M.Method S.Sink disk.old methods.old.items out.old)
         (objects D.Disk M.Method S.Sink disk.new methods.new.items out.new) result.log result.status.0 }
 {
-    runs_end_as_served();
-    runs_end_as_told();
+    lists_match_mirror();
+    lists_match_log();
     runs_stop_as_served();
     runs_stop_with_sets();
     run_configured(alloc, options, etc, disk, methods, clock, out)
@@ -78,14 +76,14 @@ fn run_configured<E: Etc, D: Disk, M: Method, C: Clock, S: Sink>(
     ensures held_fault { result.status.0 ≡ 104 → Rose (D.held disk.old) (D.held disk.new) }
     ensures etc_fault { result.status.0 ≡ 106 → Rose (E.faults etc.old) (E.faults etc.new) }
     ensures quiet_etc { IsSome result.log → E.faults etc.new ≡ E.faults etc.old }
-    ensures ended { EndsByOptions (E.files etc.old) options.now (C.last clock.new)
+    ensures ended { EndsUpdateOf (E.files etc.old) options.now (C.last clock.new)
         (objects D.Disk M.Method S.Sink disk.old methods.old.items out.old)
         (objects D.Disk M.Method S.Sink disk.new methods.new.items out.new) result.log result.status.0 }
 {
     match configure(alloc, etc, &options.pairs) {
-        Ok(it) => run_held(alloc, it, options.together, disk, methods, clock, out),
-        Err(ConfigurationError::Fault) => Ran::without_log(say_fixed(out, &FaultLine::Etc)),
-        Err(ConfigurationError::NoMemory) => Ran::without_log(say_fixed(out, &FaultLine::Memory)),
+        Ok(it) => run_with_hold(alloc, it, options.together, disk, methods, clock, out),
+        Err(ConfigurationError::Fault) => Ran::without_log(write_fixed(out, &FaultLine::Etc)),
+        Err(ConfigurationError::NoMemory) => Ran::without_log(write_fixed(out, &FaultLine::Memory)),
         Err(refusal) => refuse(alloc, refusal, out),
     }
 }
@@ -97,7 +95,7 @@ fn refuse<S: Sink>(alloc: Global, refusal: ConfigurationError, out: &mut S) -> R
     ensures not_held { result.status.0 ≢ 104 }
     ensures etc_fault { result.status.0 ≡ 106 → refusal ≡ ConfigurationError.Fault }
     ensures log { result.log ≡ None }
-    ensures said { SaysFault (output S.Sink out.old) (output S.Sink out.new) (line_of refusal) result.status.0 }
+    ensures said { WritesFault (output S.Sink out.old) (output S.Sink out.new) (line_of refusal) result.status.0 }
 {
-    Ran::without_log(say_fault(alloc, out, &FaultLine::from(refusal)))
+    Ran::without_log(write_fault(alloc, out, &FaultLine::from(refusal)))
 }

@@ -4,11 +4,11 @@ ghost use Rattle.std.specs.Prelude.{◌≡◌, ◌≢◌, ◌≤◌, vec_len, Is
 ghost use Rattle.acq_base.specs.Plan.{IsSound};
 ghost use Rattle.acq_outside.specs.Count.{Rose};
 ghost use Rattle.update_engine.specs.Run.{KeepsMethods, engine};
-ghost use Rattle.update_program.specs.Ending.{EndsNow};
+ghost use Rattle.update_program.specs.Ending.{RunsAt};
 ghost use Rattle.update_program.specs.Objects.{objects};
 
 use crate::Ran;
-use crate::say::{say_fault, say_fixed, tell};
+use crate::say::{write_fault, write_fixed, write_report};
 use acq_base::TryCopy;
 use acq_outside::{Disk, Method, Sink};
 use configuration::Configured;
@@ -42,7 +42,7 @@ pub fn run_plan<D: Disk, M: Method, S: Sink>(
     ensures quiet_sink { result.status.0 ≢ 105 → S.faults out.new ≡ S.faults out.old }
     ensures not_held { result.status.0 ≢ 104 }
     ensures no_etc_fault { result.status.0 ≢ 106 }
-    ensures ended { EndsNow it together now (objects D.Disk M.Method S.Sink disk.old methods.old.items out.old)
+    ensures ended { RunsAt it together now (objects D.Disk M.Method S.Sink disk.old methods.old.items out.old)
         (objects D.Disk M.Method S.Sink disk.new methods.new.items out.new) result.log result.status.0 }
 {
     let Configured {
@@ -51,22 +51,22 @@ pub fn run_plan<D: Disk, M: Method, S: Sink>(
         change,
     } = it;
     let Ok(kept) = plan.copy(alloc) else {
-        return Ran::without_log(say_fixed(out, &FaultLine::Memory));
+        return Ran::without_log(write_fixed(out, &FaultLine::Memory));
     };
     let may_follow = move |old: &Head, new: &Head| is_allowed(&change, old, new);
     let Ok(test) = Box::new(alloc, may_follow) else {
-        return Ran::without_log(say_fixed(out, &FaultLine::Memory));
+        return Ran::without_log(write_fixed(out, &FaultLine::Memory));
     };
     let judge = Judge::new(test, change);
     match run_update(alloc, plan, settings, now, together, disk, methods, &judge) {
         Ok(log) => Ran {
-            status: tell(alloc, &kept, &log, out),
+            status: write_report(alloc, &kept, &log, out),
             log: Some(log),
         },
-        Err(RunError::DiskFault) => Ran::without_log(say_fixed(out, &FaultLine::Disk)),
+        Err(RunError::DiskFault) => Ran::without_log(write_fixed(out, &FaultLine::Disk)),
         Err(RunError::BadJournal(at)) => {
-            Ran::without_log(say_fault(alloc, out, &FaultLine::Journal(at)))
+            Ran::without_log(write_fault(alloc, out, &FaultLine::Journal(at)))
         }
-        Err(RunError::NoMemory) => Ran::without_log(say_fixed(out, &FaultLine::Memory)),
+        Err(RunError::NoMemory) => Ran::without_log(write_fixed(out, &FaultLine::Memory)),
     }
 }

@@ -5,7 +5,7 @@ ghost use Rattle.std.specs.Prelude.{◌≡◌, ◌≢◌, true, length};
 ghost use Rattle.std.specs.List.{list_any};
 ghost use Rattle.update_program.specs.Objects.{output};
 ghost use Rattle.update_program.specs.Said as spec;
-ghost use Rattle.update_program.specs.Said.{BlamesOutput, Reports, SaidBy, Says, SaysFault, fault_status, is_bare, status_of_verdicts};
+ghost use Rattle.update_program.specs.Said.{BlamesOutput, WritesReportOrMemory, Writes, WritesLine, WritesFault, fault_status, is_bare, status_of_verdicts};
 
 use crate::Status;
 use acq_base::{NoMemory, Plan};
@@ -15,10 +15,10 @@ use std::alloc::Global;
 use update_model::{RunLog, Verdict2};
 
 /// Writes a text and answers its status, or 105 where the output fails.
-pub fn say<S: Sink>(out: &mut S, text: &[u8], status: u8) -> Status
+pub fn write_text<S: Sink>(out: &mut S, text: &[u8], status: u8) -> Status
     requires { status ≢ 105 }
     ensures frame { BlamesOutput (S.faults out.old) (S.faults out.new) result.0 }
-    ensures said { SaidBy (output S.Sink out.old) (output S.Sink out.new) text.now status result.0 }
+    ensures said { Writes (output S.Sink out.old) (output S.Sink out.new) text.now status result.0 }
 {
     match out.write(text) {
         Ok(()) => Status(status),
@@ -28,25 +28,25 @@ pub fn say<S: Sink>(out: &mut S, text: &[u8], status: u8) -> Status
 
 /// Writes the line of a fault that has nothing to name, and answers its status. It takes no memory.
 #[tactic(auto, using(crate::proofs::Lines::bare_is_fixed))]
-pub fn say_fixed<S: Sink>(out: &mut S, fault: &FaultLine) -> Status
+pub fn write_fixed<S: Sink>(out: &mut S, fault: &FaultLine) -> Status
     requires { is_bare fault.now ≡ true }
     ensures frame { BlamesOutput (S.faults out.old) (S.faults out.new) result.0 }
-    ensures said { Says (output S.Sink out.old) (output S.Sink out.new) fault.now result.0 }
+    ensures said { WritesLine (output S.Sink out.old) (output S.Sink out.new) fault.now result.0 }
 {
     let Some(line) = fault.fixed() else {
         unreachable!()
     };
-    say(out, line, status_of(fault))
+    write_text(out, line, status_of(fault))
 }
 
 /// Writes the line of a fault and answers its status, or `E memory` and 103 where memory for the line ran out.
-pub fn say_fault<S: Sink>(alloc: Global, out: &mut S, fault: &FaultLine) -> Status
+pub fn write_fault<S: Sink>(alloc: Global, out: &mut S, fault: &FaultLine) -> Status
     ensures frame { BlamesOutput (S.faults out.old) (S.faults out.new) result.0 }
-    ensures said { SaysFault (output S.Sink out.old) (output S.Sink out.new) fault.now result.0 }
+    ensures said { WritesFault (output S.Sink out.old) (output S.Sink out.new) fault.now result.0 }
 {
     match fault.text(alloc) {
-        Ok(line) => say(out, line.as_slice(), status_of(fault)),
-        Err(NoMemory) => say_fixed(out, &FaultLine::Memory),
+        Ok(line) => write_text(out, line.as_slice(), status_of(fault)),
+        Err(NoMemory) => write_fixed(out, &FaultLine::Memory),
     }
 }
 
@@ -65,14 +65,14 @@ fn status_of(fault: &FaultLine) -> u8
 }
 
 /// Writes the report of a run and answers its status, or `E memory` and 103 where memory for the report ran out.
-pub fn tell<S: Sink>(alloc: Global, plan: &Plan, log: &RunLog, out: &mut S) -> Status
+pub fn write_report<S: Sink>(alloc: Global, plan: &Plan, log: &RunLog, out: &mut S) -> Status
     requires { length log.now.verdicts ≡ length plan.now.sources }
     ensures frame { BlamesOutput (S.faults out.old) (S.faults out.new) result.0 }
-    ensures told { Reports (output S.Sink out.old) (output S.Sink out.new) plan.now log.now result.0 }
+    ensures told { WritesReportOrMemory (output S.Sink out.old) (output S.Sink out.new) plan.now log.now result.0 }
 {
     match report(alloc, plan, log) {
-        Ok(text) => say(out, text.as_slice(), report_status(log.verdicts.as_slice())),
-        Err(NoMemory) => say_fixed(out, &FaultLine::Memory),
+        Ok(text) => write_text(out, text.as_slice(), report_status(log.verdicts.as_slice())),
+        Err(NoMemory) => write_fixed(out, &FaultLine::Memory),
     }
 }
 

@@ -4,7 +4,7 @@ ghost use Rattle.std.specs.Prelude.{◌≡◌, ◌≢◌, ◌≤◌, vec_len, If
 ghost use Rattle.acq_outside.specs.Count.{Rose};
 ghost use Rattle.update_engine.specs.Run.{KeepsMethods, engine};
 ghost use Rattle.update_program.specs.Asked.{IfGenerate, IfNoUpdate, IfUpdate, asked};
-ghost use Rattle.update_program.specs.Ending.{EndsByWords, EndsUpdate, MakesNoRun};
+ghost use Rattle.update_program.specs.Ending.{RefusesWords, EndsUpdate, MakesNoRun};
 ghost use Rattle.update_program.specs.Generated.{IsGenerated};
 ghost use Rattle.update_program.specs.Headline.{Headline};
 ghost use Rattle.update_program.specs.Objects.{output, span};
@@ -13,7 +13,7 @@ ghost use Rattle.update_program.specs.Said.{IsStatus, ReadsOnce};
 use crate::Ran;
 use crate::generate::generate;
 use crate::options::run_options;
-use crate::say::say_fixed;
+use crate::say::write_fixed;
 use acq_base::NoMemory;
 use acq_outside::{Clock, Disk, Etc, Method, Sink};
 use command_words::{Request, read_words};
@@ -62,7 +62,7 @@ pub fn update_call<
     ensures quiet_etc { IsSome result.log → E.faults etc.new ≡ E.faults etc.old }
     ensures quiet_sink { result.status.0 ≢ 105 → S.faults out.new ≡ S.faults out.old }
     ensures status { IfUpdate (asked words.now) (λ options. IsStatus result.log result.status.0) }
-    ensures refused { IfNone (asked words.now) (EndsByWords (span D.Disk M.Method S.Sink disk.old disk.new methods.old methods.new out.old out.new) result) }
+    ensures refused { IfNone (asked words.now) (RefusesWords (span D.Disk M.Method S.Sink disk.old disk.new methods.old methods.new out.old out.new) result) }
     ensures no_run { IfNoUpdate (asked words.now) (MakesNoRun (span D.Disk M.Method S.Sink disk.old disk.new methods.old methods.new out.old out.new) result) }
     ensures untouched { IfNoUpdate (asked words.now) ((D.faults disk.new ≡ D.faults disk.old) × (D.held disk.new ≡ D.held disk.old)) }
     ensures unread { IfNoUpdate (asked words.now) ((E.faults etc.new ≡ E.faults etc.old) × (C.given clock.new ≡ C.given clock.old)) }
@@ -79,7 +79,7 @@ pub fn update_call<
             run_options(alloc, &options, etc, disk, methods, clock, out)
         }
         Ok(Some(Request::Generate(number))) => Ran::without_log(generate(alloc, number, out)),
-        Ok(None) => Ran::without_log(say_fixed(out, &FaultLine::Words)),
-        Err(NoMemory) => Ran::without_log(say_fixed(out, &FaultLine::Memory)),
+        Ok(None) => Ran::without_log(write_fixed(out, &FaultLine::Words)),
+        Err(NoMemory) => Ran::without_log(write_fixed(out, &FaultLine::Memory)),
     }
 }

@@ -6,7 +6,7 @@ use std::fmt;
 use uri_names::UriError;
 
 /// Why a case comes to nothing.
-#[derive(Clone, Copy, Debug, PartialEq, Eq)]
+#[derive(Clone, Copy, PartialEq, Eq)]
 pub enum Refused {
     /// It is none.
     NoCase,
@@ -48,21 +48,21 @@ impl From<UriError> for Refused {
 }
 
 /// What stands behind the word of a step.
-#[derive(Debug, Drop)]
+#[derive(Drop)]
 pub enum Argument {
     Number(u64),
     Text(Text),
 }
 
 /// A word and its arguments.
-#[derive(Debug, Drop)]
+#[derive(Drop)]
 pub struct Step {
     pub name: String,
     pub arguments: Vec<Argument>,
 }
 
 /// A case: what it shows, and its steps.
-#[derive(Debug, Drop)]
+#[derive(Drop)]
 pub struct Case {
     pub name: String,
     pub steps: Vec<Step>,

@@ -6,7 +6,7 @@ use crate::MemDisk;
 use crate::changes::{cut_change, remove_change, rename_change, sync_change, write_change};
 use crate::held::read_from;
 use acq_base::{Bytes, NoMemory, Row, Text};
-use acq_outside::{Change, Disk, Fault, HoldError, OutError};
+use acq_outside::{Disk, DiskCall, Fault, HoldError, OutError};
 use std::alloc::Global;
 
 /// More names than `names` gives.
@@ -121,12 +121,12 @@ impl Disk for MemDisk {
         requires name { IsName name.now }
         requires there { IsTrue true → IsSomeAnd (files_of (past_of self.old) name.now) (λ content. at ≤ length content) }
         ensures frame { StaysBy faults_of times_held (λ _. true) self.old self.new result }
-        ensures step { Goes (Change.Write name.now at bytes.now) (trace_of (past_of self.old)) (trace_of (past_of self.new)) result }
+        ensures step { Goes (DiskCall.Write name.now at bytes.now) (trace_of (past_of self.old)) (trace_of (past_of self.new)) result }
         ensures ok { IsTrue true → OnOk result (files_of (past_of self.new) ≡ after_write (files_of (past_of self.old)) name.now at bytes.now) }
         ensures err { IsTrue true → OnErr result (IsTornWrite (files_of (past_of self.old)) (files_of (past_of self.new)) name.now at (length bytes.now)) }
 
         // A listed call fails, and another one for want of memory alone. One that fails changes nothing.
-        ensures change { OnOk result (past_of self.new ≡ changed (past_of self.old) (Change.Write name.now at bytes.now)) }
+        ensures change { OnOk result (past_of self.new ≡ changed (past_of self.old) (DiskCall.Write name.now at bytes.now)) }
         ensures failed { OnErr result (past_of self.new ≡ past_of self.old) }
         ensures listed { FailsAsListed (failing_of self.old) (failing_of self.new) result }
         ensures others { FailsDryAlone (failing_of self.old) (failing_of self.new) result }
@@ -147,12 +147,12 @@ impl Disk for MemDisk {
         requires name { IsName name.now }
         requires within { IsTrue true → len ≤ length (unwrap_or (files_of (past_of self.old) name.now) []) }
         ensures frame { StaysBy faults_of times_held (λ _. true) self.old self.new result }
-        ensures step { Goes (Change.Cut name.now len) (trace_of (past_of self.old)) (trace_of (past_of self.new)) result }
+        ensures step { Goes (DiskCall.Cut name.now len) (trace_of (past_of self.old)) (trace_of (past_of self.new)) result }
         ensures ok { IsTrue true → OnOk result (files_of (past_of self.new) ≡ after_cut (files_of (past_of self.old)) name.now len) }
         ensures err { IsTrue true → OnErr result (IsTornCut (files_of (past_of self.old)) (files_of (past_of self.new)) name.now len) }
 
         // A listed call fails, and another one for want of memory alone. One that fails changes nothing.
-        ensures change { OnOk result (past_of self.new ≡ changed (past_of self.old) (Change.Cut name.now len)) }
+        ensures change { OnOk result (past_of self.new ≡ changed (past_of self.old) (DiskCall.Cut name.now len)) }
         ensures failed { OnErr result (past_of self.new ≡ past_of self.old) }
         ensures listed { FailsAsListed (failing_of self.old) (failing_of self.new) result }
         ensures others { FailsDryAlone (failing_of self.old) (failing_of self.new) result }
@@ -172,11 +172,11 @@ impl Disk for MemDisk {
     fn sync(&mut self, name: &[u8]) -> Result<(), Fault>
         requires { IsName name.now }
         ensures frame { StaysBy faults_of times_held (λ _. true) self.old self.new result }
-        ensures step { Goes (Change.Sync name.now) (trace_of (past_of self.old)) (trace_of (past_of self.new)) result }
+        ensures step { Goes (DiskCall.Sync name.now) (trace_of (past_of self.old)) (trace_of (past_of self.new)) result }
         ensures same { files_of (past_of self.new) ≡ files_of (past_of self.old) }
 
         // A listed call fails, and another one for want of memory alone. One that fails changes nothing.
-        ensures change { OnOk result (past_of self.new ≡ changed (past_of self.old) (Change.Sync name.now)) }
+        ensures change { OnOk result (past_of self.new ≡ changed (past_of self.old) (DiskCall.Sync name.now)) }
         ensures failed { OnErr result (past_of self.new ≡ past_of self.old) }
         ensures listed { FailsAsListed (failing_of self.old) (failing_of self.new) result }
         ensures others { FailsDryAlone (failing_of self.old) (failing_of self.new) result }
@@ -197,12 +197,12 @@ impl Disk for MemDisk {
         requires from { IsName from.now }
         requires to { IsName to.now }
         ensures frame { StaysBy faults_of times_held (λ _. true) self.old self.new result }
-        ensures step { Goes (Change.Rename from.now to.now) (trace_of (past_of self.old)) (trace_of (past_of self.new)) result }
+        ensures step { Goes (DiskCall.Rename from.now to.now) (trace_of (past_of self.old)) (trace_of (past_of self.new)) result }
         ensures ok { IsTrue true → OnOk result (files_of (past_of self.new) ≡ after_rename (files_of (past_of self.old)) from.now to.now) }
         ensures err { IsTrue true → OnErr result (IsDoneOrNot (files_of (past_of self.old)) (files_of (past_of self.new)) (after_rename (files_of (past_of self.old)) from.now to.now)) }
 
         // A listed call fails, and another one for want of memory alone. One that fails changes nothing.
-        ensures change { OnOk result (past_of self.new ≡ changed (past_of self.old) (Change.Rename from.now to.now)) }
+        ensures change { OnOk result (past_of self.new ≡ changed (past_of self.old) (DiskCall.Rename from.now to.now)) }
         ensures failed { OnErr result (past_of self.new ≡ past_of self.old) }
         ensures listed { FailsAsListed (failing_of self.old) (failing_of self.new) result }
         ensures others { FailsDryAlone (failing_of self.old) (failing_of self.new) result }
@@ -222,12 +222,12 @@ impl Disk for MemDisk {
     fn remove(&mut self, name: &[u8]) -> Result<(), Fault>
         requires { IsName name.now }
         ensures frame { StaysBy faults_of times_held (λ _. true) self.old self.new result }
-        ensures step { Goes (Change.Remove name.now) (trace_of (past_of self.old)) (trace_of (past_of self.new)) result }
+        ensures step { Goes (DiskCall.Remove name.now) (trace_of (past_of self.old)) (trace_of (past_of self.new)) result }
         ensures ok { IsTrue true → OnOk result (files_of (past_of self.new) ≡ after_remove (files_of (past_of self.old)) name.now) }
         ensures err { IsTrue true → OnErr result (IsDoneOrNot (files_of (past_of self.old)) (files_of (past_of self.new)) (after_remove (files_of (past_of self.old)) name.now)) }
 
         // A listed call fails, and another one for want of memory alone. One that fails changes nothing.
-        ensures change { OnOk result (past_of self.new ≡ changed (past_of self.old) (Change.Remove name.now)) }
+        ensures change { OnOk result (past_of self.new ≡ changed (past_of self.old) (DiskCall.Remove name.now)) }
         ensures failed { OnErr result (past_of self.new ≡ past_of self.old) }
         ensures listed { FailsAsListed (failing_of self.old) (failing_of self.new) result }
         ensures others { FailsDryAlone (failing_of self.old) (failing_of self.new) result }
@@ -246,18 +246,18 @@ impl Disk for MemDisk {
     #[tactic(auto, using(crate::proofs::Trace::noted_step))]
     fn sync_names(&mut self) -> Result<(), Fault>
         ensures frame { StaysBy faults_of times_held (λ _. true) self.old self.new result }
-        ensures step { Goes Change.SyncNames (trace_of (past_of self.old)) (trace_of (past_of self.new)) result }
+        ensures step { Goes DiskCall.SyncNames (trace_of (past_of self.old)) (trace_of (past_of self.new)) result }
         ensures same { files_of (past_of self.new) ≡ files_of (past_of self.old) }
 
         // A listed call fails, and another one for want of memory alone. One that fails changes nothing.
-        ensures change { OnOk result (past_of self.new ≡ changed (past_of self.old) (Change.SyncNames)) }
+        ensures change { OnOk result (past_of self.new ≡ changed (past_of self.old) (DiskCall.SyncNames)) }
         ensures failed { OnErr result (past_of self.new ≡ past_of self.old) }
         ensures listed { FailsAsListed (failing_of self.old) (failing_of self.new) result }
         ensures others { FailsDryAlone (failing_of self.old) (failing_of self.new) result }
         ensures holder { held_of self.new ≡ held_of self.old }
     {
         self.failing.call()?;
-        self.apply(Change::SyncNames)?;
+        self.apply(DiskCall::SyncNames)?;
         Ok(())
     }
 }

@@ -2,7 +2,7 @@ use Rattle.std.proofs.Common.{◌∙◌, Some, sym, ap}
 use Rattle.std.proofs.lemmas.Result.{IfOk-weaker}
 use Rattle.update_model.specs.declared.settled.Settled.{Settled}
 use Rattle.board_source.specs.Listed.{standings}
-use Rattle.board_source.specs.Parts.{found_of}
+use Rattle.board_source.specs.Refinement.{found_of}
 use Rattle.board_slot.specs.Ended.{all_had_in}
 use Rattle.board_slot.proofs.Settled.{kept-is, set-is}
 use Rattle.board_slot.proofs.settling.settle_lists.Goals as goal

@@ -7,7 +7,7 @@ use Rattle.acq_base.specs.declared.plan.Target.{Target}
 use Rattle.update_model.specs.declared.settled.Held.{Held}
 use Rattle.update_model.specs.declared.settled.Verdict2.TheVariants.{Hit}
 use Rattle.board_model.specs.Settling.{unchanged}
-use Rattle.board_source.specs.Parts.{found_of}
+use Rattle.board_source.specs.Refinement.{found_of}
 use Rattle.board_slot.specs.Ended.{changed_set, dropped_list, puts_in}
 use Rattle.board_slot.proofs.Settled.{changed-is}
 use Rattle.board_slot.proofs.settling.settle_set.Goals as goal

@@ -9,7 +9,7 @@ use Rattle.acq_base.specs.declared.plan.Target.{Target}
 use Rattle.board_model.specs.Keys.{named}
 use Rattle.board_model.specs.Slots.{Standing, first_list, stands_there}
 use Rattle.board_source.specs.Listed.{standing_of, standings}
-use Rattle.board_source.specs.Parts.{config_of}
+use Rattle.board_source.specs.Refinement.{config_of}
 use Rattle.board_source.proofs.Taken.{all-pass-more, still-there}
 use Rattle.board_source.proofs.opening.begin_lists.Goals as goal
 use Rattle.board_source.proofs.opening.begin_lists.Goals.{then-there, else-there}

@@ -6,7 +6,7 @@ use Rattle.std.specs.Ordering.{nat_cmp}
 use Rattle.board_model.specs.Keys.{named}
 use Rattle.board_model.specs.Slots.{first_list, stands_there}
 use Rattle.board_source.specs.Listed.{standings}
-use Rattle.board_source.specs.Parts.{config_of}
+use Rattle.board_source.specs.Refinement.{config_of}
 use Rattle.board_source.proofs.opening.begin_lists.Given as goal
 
 -- what is installed under the names of the targets that are left is in the map

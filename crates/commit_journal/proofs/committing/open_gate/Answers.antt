@@ -1,6 +1,6 @@
 use Rattle.journal_model.specs.Rest.{part_bytes}
 use Rattle.commit_journal.specs.Changes.{filled_all}
-use Rattle.commit_journal.specs.Turning.{OpensAt}
+use Rattle.commit_journal.specs.Turning.{CommitsOnceSynced}
 use Rattle.commit_journal.proofs.Lists.{anyhow}
 use Rattle.commit_journal.proofs.Turned.{turns_first, turns_second, keeps_second, opens_over, settled_on, later_on}
 use Rattle.commit_journal.proofs.committing.open_gate.Goals as goal
@@ -11,18 +11,18 @@ returns-in_err-write_gate-clause-turns g c =
 
 pub returns-clause-moments : goal.returns-clause-moments
 returns-clause-moments g c =
-    keeps_second c.args.prepared.now.groups (filled_all (part_bytes (g.D.Disk.trace c.args.disk.now)) c.args.prepared.now.groups) _ _ _ c.write_gate.ensures.moments c.in_ok-write_gate.ensures.over c.lay_gate.ensures.opens
+    keeps_second c.args.prepared.now.groups (filled_all (part_bytes (g.D.Disk.trace c.args.disk.now)) c.args.prepared.now.groups) _ _ _ c.write_gate.ensures.moments c.in_ok-write_gate.ensures.over c.sync_open_gate.ensures.opens
 
 pub returns-clause-turns : goal.returns-clause-turns
 returns-clause-turns g c =
-    turns_second c.args.prepared.now.groups (filled_all (part_bytes (g.D.Disk.trace c.args.disk.now)) c.args.prepared.now.groups) _ _ _ c.write_gate.ensures.moments c.write_gate.ensures.once c.in_ok-write_gate.ensures.over c.lay_gate.ensures.opens
+    turns_second c.args.prepared.now.groups (filled_all (part_bytes (g.D.Disk.trace c.args.disk.now)) c.args.prepared.now.groups) _ _ _ c.write_gate.ensures.moments c.write_gate.ensures.once c.in_ok-write_gate.ensures.over c.sync_open_gate.ensures.opens
 
 pub returns-clause-later : goal.returns-clause-later
-returns-clause-later g c = anyhow c.lay_gate.result (later_on (OpensAt c.args.prepared.now.groups (g.D.Disk.trace c.write_gate.new.disk)) _ _ _ c.in_ok-write_gate.ensures.later c.lay_gate.ensures.opens)
+returns-clause-later g c = anyhow c.sync_open_gate.result (later_on (CommitsOnceSynced c.args.prepared.now.groups (g.D.Disk.trace c.write_gate.new.disk)) _ _ _ c.in_ok-write_gate.ensures.later c.sync_open_gate.ensures.opens)
 
 pub returns-clause-settled : goal.returns-clause-settled
-returns-clause-settled g c = λ settled. settled_on _ _ _ c.write_gate.ensures.settled c.lay_gate.ensures.recovers settled
+returns-clause-settled g c = λ settled. settled_on _ _ _ c.write_gate.ensures.settled c.sync_open_gate.ensures.recovers settled
 
 pub returns-clause-over : goal.returns-clause-over
 returns-clause-over g c =
-    opens_over c.args.prepared.now.groups (filled_all (part_bytes (g.D.Disk.trace c.args.disk.now)) c.args.prepared.now.groups) _ _ _ c.lay_gate.result c.in_ok-write_gate.ensures.over c.lay_gate.ensures.new
+    opens_over c.args.prepared.now.groups (filled_all (part_bytes (g.D.Disk.trace c.args.disk.now)) c.args.prepared.now.groups) _ _ _ c.sync_open_gate.result c.in_ok-write_gate.ensures.over c.sync_open_gate.ensures.new

@@ -2,9 +2,9 @@ use Rattle.std.proofs.Common.{subst, sym, ℕ, ◌≤◌, List, [], ◌∷◌, l
 use Rattle.journal_model.specs.Names.{journal}
 use Rattle.journal_model.proofs.Literals.{journal_named}
 use Rattle.journal_model.specs.Spelling.{all_steps}
-use Rattle.acq_outside.specs.declared.change.Change.TheVariants.{Write}
+use Rattle.acq_outside.specs.declared.change.DiskCall.TheVariants.{Write}
 use Rattle.commit_journal.specs.Changes.{steps_in}
-use Rattle.commit_journal.specs.Commits.{IsReady}
+use Rattle.commit_journal.specs.Commits.{IsPrepared}
 use Rattle.commit_journal.proofs.Looks.{there_in}
 use Rattle.commit_journal.proofs.Others.{journal_write}
 use Rattle.commit_journal.proofs.Opens.{write_keeps, write_over, write_ready, ticks_once, ready_there}
@@ -17,7 +17,7 @@ write_at-requires-clause-name g c = journal_named _ c.as_slice.ensures
 pub write_at-requires-clause-there : goal.write_at-requires-clause-there
 write_at-requires-clause-there g c = λ told.
     subst (λ (n : List ℕ). IsSomeAnd (g.D.Disk.files c.args.disk.now n) (λ content. 0 ≤ length content)) (sym c.as_slice.ensures)
-    (there_in (IsReady c.args.prepared.now.groups) journal 0 (ready_there c.args.prepared.now.groups) (g.D.Disk.tells c.args.disk.now) (g.D.Disk.files c.args.disk.now) (g.D.Disk.trace c.args.disk.now) (g.met.D.Disk.shown c.args.disk.now) c.requires told)
+    (there_in (IsPrepared c.args.prepared.now.groups) journal 0 (ready_there c.args.prepared.now.groups) (g.D.Disk.tells c.args.disk.now) (g.D.Disk.files c.args.disk.now) (g.D.Disk.trace c.args.disk.now) (g.met.D.Disk.shown c.args.disk.now) c.requires told)
 
 pub returns-clause-moments : goal.returns-clause-moments
 returns-clause-moments g c = write_keeps c.args.prepared.now.groups _ _ _ c.write_at.result c.as_slice.ensures (g.met.D.Disk.sound c.args.disk.now) c.requires c.write_at.ensures.step

@@ -2,7 +2,7 @@ use Rattle.journal_model.proofs.Literals as literals
 use Rattle.commit_journal.proofs.Besides.{name_goes}
 use Rattle.std.proofs.Common.{◌≡◌, subst, List, ℕ, OnOk}
 use Rattle.acq_outside.specs.Disk.{after_rename}
-use Rattle.journal_model.specs.Names.{beside}
+use Rattle.journal_model.specs.Names.{new_journal}
 use Rattle.commit_journal.proofs.Others.{beside_named}
 use Rattle.commit_journal.proofs.making.name_it.Goals as goal
 
@@ -20,7 +20,7 @@ returns-clause-done g c = (name_goes _ _ _ _ c.rename.result c.as_slice.ensures 
 
 pub returns-clause-told : goal.returns-clause-told
 returns-clause-told g c = λ told.
-    subst (λ (n : List ℕ). OnOk c.rename.result (g.D.Disk.files c.rename.new.self ≡ after_rename (g.D.Disk.files c.args.disk.now) beside n)) c.as_slice-2.ensures
+    subst (λ (n : List ℕ). OnOk c.rename.result (g.D.Disk.files c.rename.new.self ≡ after_rename (g.D.Disk.files c.args.disk.now) new_journal n)) c.as_slice-2.ensures
     (subst (λ (n : List ℕ). OnOk c.rename.result (g.D.Disk.files c.rename.new.self ≡ after_rename (g.D.Disk.files c.args.disk.now) n c.as_slice-2.result.now)) c.as_slice.ensures (c.rename.ensures.ok told))
 
 pub returns-clause-others : goal.returns-clause-others

@@ -1,7 +1,7 @@
 use Rattle.journal_model.proofs.Literals.{beside_named}
 use Rattle.std.proofs.Common.{◌≡◌, subst, sym, ℕ, ◌≤◌, List, [], ◌∷◌, length, IsSomeAnd, OnOk}
-use Rattle.journal_model.specs.Names.{beside}
-use Rattle.commit_journal.specs.Phases.{IsBeside}
+use Rattle.journal_model.specs.Names.{new_journal}
+use Rattle.commit_journal.specs.Phases.{HasNewJournal}
 use Rattle.commit_journal.proofs.Besides.{beside_there}
 use Rattle.commit_journal.proofs.Looks.{there_in}
 use Rattle.commit_journal.proofs.Besides.{write_goes}
@@ -15,7 +15,7 @@ write_at-requires-clause-name g c = beside_named _ c.as_slice.ensures
 pub write_at-requires-clause-there : goal.write_at-requires-clause-there
 write_at-requires-clause-there g c = λ told.
     subst (λ (n : List ℕ). IsSomeAnd (g.D.Disk.files c.args.disk.now n) (λ content. 0 ≤ length content)) (sym c.as_slice.ensures)
-    (there_in (IsBeside []) beside 0 beside_there (g.D.Disk.tells c.args.disk.now) (g.D.Disk.files c.args.disk.now) (g.D.Disk.trace c.args.disk.now) (g.met.D.Disk.shown c.args.disk.now) c.requires told)
+    (there_in (HasNewJournal []) new_journal 0 beside_there (g.D.Disk.tells c.args.disk.now) (g.D.Disk.files c.args.disk.now) (g.D.Disk.trace c.args.disk.now) (g.met.D.Disk.shown c.args.disk.now) c.requires told)
 
 pub returns-clause-moments : goal.returns-clause-moments
 returns-clause-moments g c = (write_goes _ _ _ c.write_at.result c.as_slice.ensures (g.met.D.Disk.sound c.args.disk.now) c.requires c.write_at.ensures.step).0

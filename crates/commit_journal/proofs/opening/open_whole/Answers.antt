@@ -1,13 +1,13 @@
 use Rattle.std.proofs.Common.{◌≡◌, ◌∙◌, sym, ap, subst, List, IsTrue, Bool}
 use Rattle.acq_outside.specs.Disk.{Files}
 use Rattle.acq_outside.specs.Crash.{State}
-use Rattle.acq_outside.specs.Moments.{Stands}
+use Rattle.acq_outside.specs.States.{IsNow}
 use Rattle.journal_model.specs.Names.{journal}
-use Rattle.journal_model.specs.Reading.{gate_in}
-use Rattle.commit_journal.specs.Phases.{IsLaid, IsFirst}
-use Rattle.commit_journal.specs.declared.opening.First.{First}
+use Rattle.journal_model.specs.Reading.{journal_state_in}
+use Rattle.commit_journal.specs.Phases.{IsJournalSynced, IsFirst}
+use Rattle.commit_journal.specs.declared.opening.FirstByte.{FirstByte}
 use Rattle.commit_journal.proofs.Looks.{shut_unset}
-use Rattle.journal_model.specs.declared.step.Gate.TheVariants.{Shut}
+use Rattle.journal_model.specs.declared.step.JournalState.TheVariants.{Shut}
 use Rattle.commit_journal.proofs.Lists.{gate_made}
 use Rattle.commit_journal.proofs.Finds.{unmade_shut}
 use Rattle.commit_journal.proofs.opening.open_whole.Goals as goal
@@ -15,14 +15,14 @@ use Rattle.commit_journal.proofs.opening.open_whole.Goals as goal
 pub make_new-requires : goal.make_new-requires
 make_new-requires g c =
     shut_unset (g.D.Disk.tells c.first_byte.new.disk) (g.D.Disk.files c.first_byte.new.disk) (g.D.Disk.trace c.first_byte.new.disk) (g.met.D.Disk.shown c.first_byte.new.disk)
-    (subst (λ (l : List State). Stands IsLaid l) (sym c.first_byte.ensures.frame.still) c.in_ok-lay.ensures.done)
-    (λ told. ap (λ (f : Files). gate_in (f journal)) c.first_byte.ensures.frame.same
-    ∙ unmade_shut (g.D.Disk.files c.lay.new.disk journal) (subst (λ (k : First). IsFirst k (g.D.Disk.files c.lay.new.disk journal)) c.in-Other.is (c.in_ok-found.ensures.told (subst (λ (b : Bool). IsTrue b) c.first_byte.ensures.frame.telling told))))
+    (subst (λ (l : List State). IsNow IsJournalSynced l) (sym c.first_byte.ensures.frame.still) c.in_ok-sync_found.ensures.done)
+    (λ told. ap (λ (f : Files). journal_state_in (f journal)) c.first_byte.ensures.frame.same
+    ∙ unmade_shut (g.D.Disk.files c.sync_found.new.disk journal) (subst (λ (k : FirstByte). IsFirst k (g.D.Disk.files c.sync_found.new.disk journal)) c.in-Other.is (c.in_ok-found.ensures.told (subst (λ (b : Bool). IsTrue b) c.first_byte.ensures.frame.telling told))))
 
 pub returns-in_ok-make_new-in-Other-clause-lists : goal.returns-in_ok-make_new-in-Other-clause-lists
 returns-in_ok-make_new-in-Other-clause-lists g c = λ told.
-    let told_laid = subst (λ (b : Bool). IsTrue b) (sym c.lay.ensures.frame.telling) told in
+    let told_laid = subst (λ (b : Bool). IsTrue b) (sym c.sync_found.ensures.frame.telling) told in
     let told_found = subst (λ (b : Bool). IsTrue b) (sym c.first_byte.ensures.frame.telling) told_laid in
-    let shut = unmade_shut (g.D.Disk.files c.lay.new.disk journal) (subst (λ (k : First). IsFirst k (g.D.Disk.files c.lay.new.disk journal)) c.in-Other.is (c.in_ok-found.ensures.told told_laid)) in
-    gate_made (g.D.Disk.files c.make_new.new.disk) (g.D.Disk.files c.first_byte.new.disk) (g.D.Disk.files c.args.disk.now) (c.in_ok-make_new-in-Other.ensures.told told_found) (c.first_byte.ensures.frame.same ∙ c.lay.ensures.same)
-    (subst (λ (f : Files). gate_in (f journal) ≡ Shut) c.lay.ensures.same shut)
+    let shut = unmade_shut (g.D.Disk.files c.sync_found.new.disk journal) (subst (λ (k : FirstByte). IsFirst k (g.D.Disk.files c.sync_found.new.disk journal)) c.in-Other.is (c.in_ok-found.ensures.told told_laid)) in
+    gate_made (g.D.Disk.files c.make_new.new.disk) (g.D.Disk.files c.first_byte.new.disk) (g.D.Disk.files c.args.disk.now) (c.in_ok-make_new-in-Other.ensures.told told_found) (c.first_byte.ensures.frame.same ∙ c.sync_found.ensures.same)
+    (subst (λ (f : Files). journal_state_in (f journal) ≡ Shut) c.sync_found.ensures.same shut)

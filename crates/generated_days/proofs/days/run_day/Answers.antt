@@ -2,7 +2,7 @@ use Rattle.std.proofs.Common.{w64}
 use Rattle.std.proofs.lemmas.Int.{to_z-of_z}
 use Rattle.acq_outside.specs.Crash.{trace_of}
 use Rattle.acq_memory.specs.MemDisk.{past_of}
-use Rattle.journal_model.specs.Reopen.{lists_now}
+use Rattle.journal_model.specs.Reopen.{installed_now}
 use Rattle.generated_days.proofs.Both.{day-of}
 use Rattle.generated_days.proofs.Rest.{settled-at}
 use Rattle.generated_days.proofs.days.run_day.Goals as goal
@@ -14,7 +14,7 @@ returns-clause-day c =
 
 pub returns-clause-settled : goal.returns-clause-settled
 returns-clause-settled c =
-    rw c.bytes_of.ensures.still (settled-at (lists_now (trace_of (past_of c.run_over.new.disk))) (trace_of (past_of c.run_over.new.disk)) c.in_ok-log.ensures.rests)
+    rw c.bytes_of.ensures.still (settled-at (installed_now (trace_of (past_of c.run_over.new.disk))) (trace_of (past_of c.run_over.new.disk)) c.in_ok-log.ensures.rests)
 
 pub run_over-requires-clause-settled : goal.run_over-requires-clause-settled
 run_over-requires-clause-settled c = rw c.check_clear.ensures.still c.requires.settled

@@ -1,6 +1,6 @@
 use Rattle.std.proofs.Common.{◌≡◌, ℕ, List, length, length-take, sym, ap, ◌∙◌, subst, arith}
 use Rattle.std.proofs.lemmas.List.{length-take-le}
-use Rattle.acq_outside.specs.Moments.{Stands}
+use Rattle.acq_outside.specs.States.{IsNow}
 use Rattle.hash_gate.specs.Pieces.{HasSummed}
 use Rattle.journal_model.specs.Rest.{IsPartThere, part_bytes}
 use Rattle.job_fetch.proofs.Fillings.{begun}

@@ -1,6 +1,6 @@
 use Rattle.std.proofs.Common.{◌≡◌, ◌-◌, ◌≤◌, length, take}
 use Rattle.acq_outside.specs.Stays.{HasStayed}
-use Rattle.acq_outside.specs.Moments.{IsTold}
+use Rattle.acq_outside.specs.States.{IsTold}
 use Rattle.hash_gate.specs.Pieces.{HasSummed, size_so_far}
 use Rattle.journal_model.specs.Rest.{part_bytes}
 use Rattle.job_fetch.proofs.filling.sum_front.Given as goal

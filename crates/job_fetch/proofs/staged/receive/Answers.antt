@@ -22,19 +22,19 @@ returns-in_err-add-in-Piece-clause-staging g c =
 
 pub returns-in_err-sum-in-Done-clause-staging : goal.returns-in_err-sum-in-Done-clause-staging
 returns-in_err-sum-in-Done-clause-staging g c =
-    staging_more _ _ _ _ c.loop-word.invariant.staging (staging_named _ _ _ _ c.loop-word.invariant.name c.close.ensures.staging)
+    staging_more _ _ _ _ c.loop-word.invariant.staging (staging_named _ _ _ _ c.loop-word.invariant.name c.finish_file.ensures.staging)
 
 pub returns-in-Done-clause-staging : goal.returns-in-Done-clause-staging
 returns-in-Done-clause-staging g c =
-    staging_more _ _ _ _ c.loop-word.invariant.staging (staging_named _ _ _ _ c.loop-word.invariant.name c.close.ensures.staging)
+    staging_more _ _ _ _ c.loop-word.invariant.staging (staging_named _ _ _ _ c.loop-word.invariant.name c.finish_file.ensures.staging)
 
 pub returns-in-Done-clause-answer : goal.returns-in-Done-clause-answer
 returns-in-Done-clause-answer g c =
     let word = rw c.in-Done.is at c.loop-word.invariant.word in
     let named = ap (λ n. part_bytes (g.D.Disk.trace c.loop-word.disk) n) c.loop-word.invariant.name in
-    all_staged (g.M.Method.world c.args.method.now) c.args.opened.part.name (g.D.Disk.trace c.args.disk.now) (g.D.Disk.trace c.loop-word.disk) (g.D.Disk.trace c.close.new.disk) c.args.job.now
+    all_staged (g.M.Method.world c.args.method.now) c.args.opened.part.name (g.D.Disk.trace c.args.disk.now) (g.D.Disk.trace c.loop-word.disk) (g.D.Disk.trace c.finish_file.new.disk) c.args.job.now
     c.loop-word.filling.part.len c.in-Done.size _
-    (told_before _ _ c.close.ensures.staging.moments) (λ told. c.in_ok-sum-in-Done.ensures.sum told ∙ ap sum_of named)
+    (told_before _ _ c.finish_file.ensures.staging.moments) (λ told. c.in_ok-sum-in-Done.ensures.sum told ∙ ap sum_of named)
     word.reached word.told c.loop-word.invariant.come
 
 pub returns-in-Other-clause-counted : goal.returns-in-Other-clause-counted

@@ -20,6 +20,6 @@ pub returns : goal.returns
 returns g c =
     let i = c.loop-lane.invariant in
     let e = no_more c.args.lanes.items c.loop-lane.yielded _ _ i.rest i.len c.in-None.ensures.steps.0 in
-    all_back g.M.Method.world g.M.Method.faults c.args.replies c.loop-lane.desk c.settle.new.self c.args.all.items c.args.lanes.items c.loop-lane.all.items c.requires.lanes
+    all_back g.M.Method.world g.M.Method.faults c.args.replies c.loop-lane.desk c.learn_counts.new.self c.args.all.items c.args.lanes.items c.loop-lane.all.items c.requires.lanes
     (subst (λ y. AreJoined g.M.Method.world g.M.Method.faults c.args.replies c.loop-lane.desk c.args.all.items y c.loop-lane.all.items) e i.joined)
-    c.settle.ensures.view c.settle.ensures.bounds
+    c.learn_counts.ensures.view c.learn_counts.ensures.bounds

@@ -5,7 +5,7 @@ use Rattle.crossbeam_channel.specs.Ends.{sends_on}
 use Rattle.acq_outside.specs.declared.word.Fetch.{Fetch}
 use Rattle.lane_pool.specs.declared.lane.Lane.{Lane}
 use Rattle.lane_pool.specs.declared.lane.Kit.{Kit}
-use Rattle.lane_pool.specs.Standing.{AreLanes}
+use Rattle.lane_pool.specs.Refinement.{AreLanes}
 use Rattle.lane_pool.proofs.Joins.{one_more}
 use Rattle.lane_pool.proofs.Opens.{opened, grow_alike, if_some_of}
 use Rattle.lane_pool.proofs.starting.open_lanes.Goals as goal

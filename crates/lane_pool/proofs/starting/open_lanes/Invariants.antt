@@ -1,6 +1,6 @@
 use Rattle.std.proofs.Common.{◌≡◌, ◌+◌, ◌≤◌, ◌++◌, All, None, map, length, vec_len, vec_capacity}
 use Rattle.crossbeam_channel.specs.Ends.{sends_on}
-use Rattle.lane_pool.specs.Standing.{AreLanes}
+use Rattle.lane_pool.specs.Refinement.{AreLanes}
 use Rattle.lane_pool.proofs.starting.open_lanes.Given as goal
 
 abbrev pub invariant-loop-method : goal.invariant-loop-method

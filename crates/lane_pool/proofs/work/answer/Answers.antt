@@ -1,5 +1,5 @@
 use Rattle.std.proofs.Common.{◌≡◌, ◌∙◌, true, Option, sym, subst, arith}
-use Rattle.acq_base.specs.Mirror.{World}
+use Rattle.acq_base.specs.Mirror.{MirrorMap}
 use Rattle.lane_pool.specs.Words.{IsWordTo}
 use Rattle.lane_pool.specs.Working.{is_piece}
 use Rattle.lane_pool.proofs.Heard.{begins_with, goes_on_with, is_word_to, still_worker}
@@ -20,7 +20,7 @@ loop-init g c =
 pub tell-requires-clause-word : goal.tell-requires-clause-word
 tell-requires-clause-word g c =
     let i = c.loop.invariant in
-    subst (λ (w : Option World). IsWordTo w c.job-job.result c.loop.word) (sym i.pass.mirror) (is_word_to _ _ _ _ _ _ i.next)
+    subst (λ (w : Option MirrorMap). IsWordTo w c.job-job.result c.loop.word) (sym i.pass.mirror) (is_word_to _ _ _ _ _ _ i.next)
 
 pub loop-preserved : goal.loop-preserved
 loop-preserved g c =

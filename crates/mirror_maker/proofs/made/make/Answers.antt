@@ -1,5 +1,5 @@
 use Rattle.std.proofs.Common.{◌≡◌, ◌++◌, ap, ◌∙◌, arith, sym, subst}
-use Rattle.acq_base.specs.Mirror.{World}
+use Rattle.acq_base.specs.Mirror.{MirrorMap}
 use Rattle.acq_base.specs.Fetch.{IsSoundMirror}
 use Rattle.mirror_maker.specs.Lists.{lists_of}
 use Rattle.mirror_maker.specs.Made.{first_before, second_before}
@@ -35,9 +35,9 @@ returns-clause-second c =
 pub returns-clause-first_sound : goal.returns-clause-first_sound
 returns-clause-first_sound c =
     let all : c.loop-source.source ≡ 4 = omega (arith, c.loop-source-test.false, c.loop-source.invariant.within) in
-    subst (λ (rows : World). IsSoundMirror (mirror rows)) (sym (c.loop-source.invariant.first ∙ ap (first_before c.args.n) all)) (first_sound c.args.n)
+    subst (λ (rows : MirrorMap). IsSoundMirror (mirror rows)) (sym (c.loop-source.invariant.first ∙ ap (first_before c.args.n) all)) (first_sound c.args.n)
 
 pub returns-clause-second_sound : goal.returns-clause-second_sound
 returns-clause-second_sound c =
     let all : c.loop-source.source ≡ 4 = omega (arith, c.loop-source-test.false, c.loop-source.invariant.within) in
-    subst (λ (rows : World). IsSoundMirror (mirror rows)) (sym (c.loop-source.invariant.second ∙ ap (second_before c.args.n) all)) (second_sound c.args.n)
+    subst (λ (rows : MirrorMap). IsSoundMirror (mirror rows)) (sym (c.loop-source.invariant.second ∙ ap (second_before c.args.n) all)) (second_sound c.args.n)

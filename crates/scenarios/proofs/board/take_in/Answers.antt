@@ -1,4 +1,4 @@
-use Rattle.update_core.specs.Standing.{board_of}
+use Rattle.update_core.specs.BoardRefinement.{board_of}
 use Rattle.scenarios.proofs.Kept.{on_absorbed}
 use Rattle.scenarios.proofs.board.take_in.Goals as goal
 

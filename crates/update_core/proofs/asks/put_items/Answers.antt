@@ -2,8 +2,8 @@ use Rattle.std.proofs.Common.{◌≡◌, ℕ, ◌+◌, ◌<◌, refl, subst, ari
 use Rattle.std.specs.Prelude.{option_copied}
 use Rattle.board_model.specs.Boards.{put_items}
 use Rattle.board_model.specs.Slots.{items_in}
-use Rattle.board_slot.specs.Parts.{slot_of}
-use Rattle.host_queues.specs.Standing.{lanes_of}
+use Rattle.board_slot.specs.Refinement.{slot_of}
+use Rattle.host_queues.specs.Refinement.{lanes_of}
 use Rattle.update_core.proofs.Waiting.{put-more}
 use Rattle.update_core.proofs.asks.put_items.Goals as goal
 

@@ -1,8 +1,8 @@
 use Rattle.std.proofs.Common.{◌≡◌, ◌+◌, drop}
-use Rattle.host_queues.specs.Standing.{lanes_of}
+use Rattle.host_queues.specs.Refinement.{lanes_of}
 use Rattle.board_model.specs.Boards as model
 use Rattle.board_model.specs.Slots.{items_in}
-use Rattle.board_slot.specs.Parts.{slot_of}
+use Rattle.board_slot.specs.Refinement.{slot_of}
 use Rattle.update_core.proofs.asks.put_items.Given as goal
 
 abbrev pub invariant-loop-place : goal.invariant-loop-place

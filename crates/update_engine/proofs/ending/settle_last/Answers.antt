@@ -1,5 +1,5 @@
 use Rattle.std.proofs.Common.{refl}
-use Rattle.update_core.specs.Standing.{board_of}
+use Rattle.update_core.specs.BoardRefinement.{board_of}
 use Rattle.update_engine.proofs.Committing.{on_err}
 use Rattle.update_engine.proofs.Ended.{stops_first, stops_one_by_one}
 use Rattle.update_engine.proofs.LastCommit.{last_gathered, last_none}

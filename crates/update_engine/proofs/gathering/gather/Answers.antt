@@ -1,5 +1,5 @@
 use Rattle.std.proofs.Common.{◌∙◌, sym}
-use Rattle.update_core.specs.Standing.{board_of}
+use Rattle.update_core.specs.BoardRefinement.{board_of}
 use Rattle.update_engine.proofs.Gathered.{gathers_more}
 use Rattle.update_engine.proofs.OnBoards.{fewer_settled, only_more, only_settled}
 use Rattle.update_engine.proofs.gathering.gather.Goals as goal

@@ -1,11 +1,11 @@
-use Rattle.update_core.specs.Standing.{board_of}
-use Rattle.update_engine.specs.Session.{Gathers, OnlySettles}
+use Rattle.update_core.specs.BoardRefinement.{board_of}
+use Rattle.update_engine.specs.Session.{GathersChanges, OnlySettles}
 use Rattle.update_engine.proofs.OnBoards.{ready_count}
 use Rattle.update_engine.proofs.gathering.gather.Given as goal
 
 abbrev pub invariant-ready : goal.invariant-ready
 invariant-ready l = record {
-  goes : Gathers (board_of l.fn.board) (board_of l.board) l.groups;
+  goes : GathersChanges (board_of l.fn.board) (board_of l.board) l.groups;
   only : OnlySettles (board_of l.fn.board) (board_of l.board);
 }
 

@@ -1,5 +1,5 @@
 use Rattle.std.proofs.Common.{◌∙◌, sym}
-use Rattle.update_core.specs.Standing.{board_of}
+use Rattle.update_core.specs.BoardRefinement.{board_of}
 use Rattle.update_engine.proofs.Gathered.{gathers_kept, gathers_new}
 use Rattle.update_engine.proofs.gathering.gather_ready.Goals as goal
 

@@ -1,5 +1,5 @@
 use Rattle.std.proofs.Common.{◌≡◌, take}
-use Rattle.acq_outside.specs.Moments.{IsTold}
+use Rattle.acq_outside.specs.States.{IsTold}
 use Rattle.acq_outside.specs.Stays.{HasRead}
 use Rattle.update_engine.specs.Reading.{sizes_of}
 use Rattle.update_engine.proofs.reading.read_sizes.Given as goal

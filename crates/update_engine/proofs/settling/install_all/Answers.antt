@@ -1,6 +1,6 @@
 use Rattle.std.proofs.Common.{◌∙◌, sym}
 use Rattle.acq_outside.proofs.Framed.{stayed_on_counting}
-use Rattle.update_core.specs.Standing.{board_of}
+use Rattle.update_core.specs.BoardRefinement.{board_of}
 use Rattle.update_engine.proofs.Committing.{on_err}
 use Rattle.update_engine.proofs.OnBoards.{fewer_settled, only_more, only_settled}
 use Rattle.update_engine.proofs.Stepping.{goes_aside, stands_aside, stops_aside}

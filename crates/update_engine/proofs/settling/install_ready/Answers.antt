@@ -1,5 +1,5 @@
 use Rattle.std.proofs.Common.{◌∙◌, sym}
-use Rattle.update_core.specs.Standing.{board_of}
+use Rattle.update_core.specs.BoardRefinement.{board_of}
 use Rattle.update_engine.proofs.Committing.{commit_can, commit_staged, goes_committed, goes_settled, groups_of, on_err, stops_here, stops_in_commit}
 use Rattle.update_engine.proofs.settling.install_ready.Goals as goal
 

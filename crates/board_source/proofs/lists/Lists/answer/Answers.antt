@@ -2,14 +2,14 @@ use Rattle.std.proofs.Common.{◌≡◌, ◌<◌, ◌+◌, List, Option, None, l
 use Rattle.std.specs.Prelude.{option_map}
 use Rattle.std.proofs.Math.ListN.{set}
 use Rattle.item_graph.specs.declared.item.Item.{Item}
-use Rattle.board_model.specs.Slots.{stepped}
+use Rattle.board_model.specs.Slots.{item_after}
 use Rattle.board_source.specs.Listed.{count_asking, is_asking, one_if}
 use Rattle.board_source.proofs.Changes.{count-room, count-set, past-standings, put-count, put-standings, read-there, taken-count}
 use Rattle.board_source.proofs.lists.Lists.answer.Goals as goal
 
 pub returns-then-place-len : goal.returns-then-place-len
 returns-then-place-len c =
-    past-standings (option_map (stepped (record { lane = c.args.lane; closed = c.args.closed }))) c.args.self.now.items.items c.args.place (search (rules, arith))
+    past-standings (option_map (item_after (record { lane = c.args.lane; closed = c.args.closed }))) c.args.self.now.items.items c.args.place (search (rules, arith))
 
 pub without-self-requires : goal.without-self-requires
 without-self-requires c =
@@ -56,4 +56,4 @@ returns c =
     let d : Option Item = c.replace-old.result in
     let within : c.args.place < length xs = search (rules, arith) in
     let is : d ≡ get_or xs c.args.place d = read-there xs c.args.place d c.index_mut.result.now c.replace-old.ensures.value c.index_mut.ensures.value in
-    put-standings (option_map (stepped (record { lane = c.args.lane; closed = c.args.closed }))) xs c.args.place d c.replace-old.new.dest c.in_ok-new.new c.replace.new.dest within is c.replace.ensures.after c.in_ok-new.ensures
+    put-standings (option_map (item_after (record { lane = c.args.lane; closed = c.args.closed }))) xs c.args.place d c.replace-old.new.dest c.in_ok-new.new c.replace.new.dest within is c.replace.ensures.after c.in_ok-new.ensures

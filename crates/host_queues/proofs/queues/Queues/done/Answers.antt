@@ -1,6 +1,6 @@
 use Rattle.std.proofs.Common.{◌<◌, length, List, sym, ap, rules, arith}
 use Rattle.host_queues.specs.Lanes.{Queue, freed}
-use Rattle.host_queues.specs.Standing.{lanes_of}
+use Rattle.host_queues.specs.Refinement.{lanes_of}
 use Rattle.host_queues.proofs.Changes.{changed-set, changed-past}
 use Rattle.host_queues.proofs.queues.Queues.done.Goals as goal
 

@@ -5,7 +5,7 @@ use Rattle.std.specs.Map.{lookup}
 use Rattle.std.specs.Cmp.Lexicographic.{slice_cmp}
 use Rattle.std.specs.Ordering.{nat_cmp}
 use Rattle.host_queues.specs.Lanes.{Queue, empty_queue, no_hosts}
-use Rattle.host_queues.specs.Standing.{lanes_of}
+use Rattle.host_queues.specs.Refinement.{lanes_of}
 use Rattle.host_queues.proofs.queues.Queues.new.Goals as goal
 
 pub returns : goal.returns

@@ -1,7 +1,7 @@
 use Rattle.std.proofs.Common.{◌<◌, ◌∙◌, length, List, Option, sym, ap, rules, arith}
 use Rattle.std.specs.Prelude.{option_and_then}
 use Rattle.host_queues.specs.Lanes.{Queue, first, without_first}
-use Rattle.host_queues.specs.Standing.{lanes_of}
+use Rattle.host_queues.specs.Refinement.{lanes_of}
 use Rattle.host_queues.proofs.Changes.{changed-set, changed-past, get-past, get-within}
 use Rattle.host_queues.proofs.queues.Queues.next.Goals as goal
 

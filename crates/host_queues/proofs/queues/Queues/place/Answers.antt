@@ -5,7 +5,7 @@ use Rattle.std.specs.Cmp.Lexicographic.{slice_cmp}
 use Rattle.std.specs.Ordering.{nat_cmp}
 use Rattle.std.proofs.Math.Path.{fun_ext}
 use Rattle.host_queues.specs.Lanes.{seen_with}
-use Rattle.host_queues.specs.Standing.{lanes_of}
+use Rattle.host_queues.specs.Refinement.{lanes_of}
 use Rattle.host_queues.proofs.Places.{same-places, inserted}
 use Rattle.host_queues.proofs.queues.Queues.place.Goals as goal
 

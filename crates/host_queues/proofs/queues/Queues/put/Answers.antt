@@ -1,6 +1,6 @@
 use Rattle.std.proofs.Common.{◌≡◌, ◌<◌, ◌∙◌, ◌%◌, length, List, ℕ, ap, rules, arith}
 use Rattle.host_queues.specs.Lanes.{Queue, Lanes, with_last, place_for, changed_at}
-use Rattle.host_queues.specs.Standing.{lanes_of}
+use Rattle.host_queues.specs.Refinement.{lanes_of}
 use Rattle.host_queues.proofs.Changes.{changed-set}
 use Rattle.host_queues.proofs.queues.Queues.put.Goals as goal
 

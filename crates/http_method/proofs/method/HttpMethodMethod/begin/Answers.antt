@@ -8,25 +8,25 @@ pub returns-in-Http-clause-word : goal.returns-in-Http-clause-word
 returns-in-Http-clause-word g c =
     let world = g.L.Link.world in
     let same = link_same world c.self.view_is in
-    subst (λ w. IsWord c.args.self.now.faults c.settle.new.self.faults (world_of w) (begun c.args.job.now) (under_of c.settle.new.self.reading) c.settle.result) same
-    (narrowed c.args.self.now.faults c.settle.new.self.faults (world c.self.inside.link) (begun c.args.job.now) (under_of c.settle.new.self.reading) c.settle.result
-    (settled_word (world c.self.inside.link) c.args.self.now.faults c.self.inside.faults c.settle.new.self.faults (begun c.args.job.now) c.ask-said.result c.settle.result c.settle.new.self.reading
-    (faults_same c.self.view_is) c.ask-said.ensures.told c.settle.ensures.word c.settle.ensures.reading c.settle.ensures.frame.quiet c.settle.ensures.fault c.settle.ensures.over c.settle.ensures.counted))
+    subst (λ w. IsWord c.args.self.now.faults c.record_step.new.self.faults (world_of w) (begun c.args.job.now) (under_of c.record_step.new.self.reading) c.record_step.result) same
+    (narrowed c.args.self.now.faults c.record_step.new.self.faults (world c.self.inside.link) (begun c.args.job.now) (under_of c.record_step.new.self.reading) c.record_step.result
+    (settled_word (world c.self.inside.link) c.args.self.now.faults c.self.inside.faults c.record_step.new.self.faults (begun c.args.job.now) c.ask-said.result c.record_step.result c.record_step.new.self.reading
+    (faults_same c.self.view_is) c.ask-said.ensures.told c.record_step.ensures.word c.record_step.ensures.reading c.record_step.ensures.frame.quiet c.record_step.ensures.fault c.record_step.ensures.over c.record_step.ensures.counted))
 
 pub returns-in-Http-clause-frame : goal.returns-in-Http-clause-frame
 returns-in-Http-clause-frame g c =
     let faults = g.L.Link.faults in
     let world = g.L.Link.world in
     let before = link_same faults c.self.view_is in
-    let after = ap faults c.settle.ensures.link in
+    let after = ap faults c.record_step.ensures.link in
     record {
       fetches = record {
-        count = omega (arith, faults_same c.self.view_is, c.settle.ensures.frame.count);
-        same = ap world_of (ap world c.settle.ensures.link ∙ c.ask-said.ensures.frame.same ∙ link_same world c.self.view_is);
+        count = omega (arith, faults_same c.self.view_is, c.record_step.ensures.frame.count);
+        same = ap world_of (ap world c.record_step.ensures.link ∙ c.ask-said.ensures.frame.same ∙ link_same world c.self.view_is);
       };
       link_count = omega (arith, before, after, c.ask-said.ensures.frame.count);
-      link_fault = settled_link (world c.self.inside.link) (faults c.args.self.now.link) (faults c.self.inside.link) (faults c.settle.new.self.link) (faults c.ask-said.new.link) c.self.inside.faults c.settle.new.self.faults (begun c.args.job.now) c.ask-said.result c.settle.result
-          before after c.ask-said.ensures.told c.ask-said.ensures.frame.fault c.ask-said.ensures.frame.quiet c.settle.ensures.word c.settle.ensures.fault;
+      link_fault = settled_link (world c.self.inside.link) (faults c.args.self.now.link) (faults c.self.inside.link) (faults c.record_step.new.self.link) (faults c.ask-said.new.link) c.self.inside.faults c.record_step.new.self.faults (begun c.args.job.now) c.ask-said.result c.record_step.result
+          before after c.ask-said.ensures.told c.ask-said.ensures.frame.fault c.ask-said.ensures.frame.quiet c.record_step.ensures.word c.record_step.ensures.fault;
     }
 
 pub returns-in-File-clause-word : goal.returns-in-File-clause-word

@@ -1,5 +1,5 @@
 use Rattle.std.proofs.Common.{false}
-use Rattle.http_wire.specs.declared.ending.Ending.TheVariants.{Served}
+use Rattle.http_wire.specs.declared.ending.Response.TheVariants.{Served}
 use Rattle.http_wire.specs.Steps.{stopped}
 use Rattle.http_wire.proofs.EndMoves.{free_closed}
 use Rattle.http_wire.proofs.Glue.{closes_to, served_over}

@@ -1,7 +1,7 @@
 use Rattle.std.proofs.Common.{◌≡◌, ◌∙◌, Some, None, ap, sym, refl, rules}
 use Rattle.update_model.specs.Points.{Over}
 use Rattle.update_model.specs.declared.end.End.{End}
-use Rattle.item_graph.specs.Items.{point_of, asked}
+use Rattle.item_graph.specs.Refinement.{point_of, asked}
 use Rattle.item_graph.specs.Nexts.{point_in}
 use Rattle.item_graph.specs.declared.state.State.{State}
 use Rattle.item_graph.proofs.item.Item.end.Goals as goal

@@ -1,5 +1,5 @@
 use Rattle.std.proofs.Common.{◌≤◌, ◌∙◌, List, ℕ, [], length, subst, sym, refl, arith}
-use Rattle.item_graph.specs.Items.{point_of, retries_of}
+use Rattle.item_graph.specs.Refinement.{point_of, retries_of}
 use Rattle.item_graph.proofs.item.Item.for_release.Goals as goal
 
 pub returns-clause-walk : goal.returns-clause-walk

@@ -9,7 +9,7 @@ use Rattle.update_model.specs.Walks.{target_walk}
 use Rattle.update_model.specs.Wanted.{want}
 use Rattle.update_model.specs.declared.wanted.Wanted.{Wanted}
 use Rattle.acq_base.specs.Uri.{list_name}
-use Rattle.item_graph.specs.Items.{point_of, retries_of}
+use Rattle.item_graph.specs.Refinement.{point_of, retries_of}
 use Rattle.item_graph.specs.Nexts.{point_in}
 use Rattle.item_graph.specs.Sound.{IsSoundAt}
 use Rattle.item_graph.proofs.Soundness.{start-sound}

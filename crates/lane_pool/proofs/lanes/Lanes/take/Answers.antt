@@ -1,6 +1,6 @@
 use Rattle.std.proofs.Common.{ap, List}
 use Rattle.lane_pool.specs.declared.lane.Lane.{Lane}
-use Rattle.lane_pool.specs.Standing.{pool_of}
+use Rattle.lane_pool.specs.Refinement.{pool_of}
 use Rattle.lane_pool.proofs.Standing.{told_worlds, told_counts, if_none}
 use Rattle.lane_pool.proofs.lanes.Lanes.take.Goals as goal
 

@@ -1,7 +1,7 @@
 use Rattle.std.proofs.Common.{◌≡◌, ◌∙◌, ℕ, List, Option, sym, ap, subst, arith}
 use Rattle.std.specs.Prelude.{OnOk}
 use Rattle.board_model.specs.Boards as model
-use Rattle.update_core.specs.Standing.{board_of}
+use Rattle.update_core.specs.BoardRefinement.{board_of}
 use Rattle.update_core.proofs.Askers.{absorbed-is, mapped}
 use Rattle.update_core.proofs.Waiting.{lane-within}
 use Rattle.update_core.proofs.board.Board.absorb.Goals as goal

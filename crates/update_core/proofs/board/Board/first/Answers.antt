@@ -2,17 +2,17 @@ use Rattle.std.proofs.Common.{◌∙◌, ◌≤◌, ℕ, length, sym, ap, subst,
 use Rattle.std.specs.Prelude.{replicate}
 use Rattle.std.proofs.lemmas.List.{length-map, length-replicate}
 use Rattle.board_model.specs.Boards.{no_verdict}
-use Rattle.board_slot.specs.Parts.{slot_of}
-use Rattle.board_source.specs.Parts.{config_of}
-use Rattle.host_queues.specs.Standing.{lanes_of}
-use Rattle.update_core.specs.Parts.{slots_of}
-use Rattle.update_core.specs.Standing.{board_of}
+use Rattle.board_slot.specs.Refinement.{slot_of}
+use Rattle.board_source.specs.Refinement.{config_of}
+use Rattle.host_queues.specs.Refinement.{lanes_of}
+use Rattle.update_core.specs.Refinement.{slots_of}
+use Rattle.update_core.specs.BoardRefinement.{board_of}
 use Rattle.update_core.proofs.Begun.{few-sources, first-whole, length-first}
 use Rattle.update_core.proofs.Ready.{empty-ready}
 use Rattle.update_core.proofs.board.Board.first.Goals as goal
 
-pub begin-requires-clause-few : goal.begin-requires-clause-few
-begin-requires-clause-few c = let below = few-sources 0 c.args.setup.sources in omega (arith, below, c.requires.few)
+pub begin_board-requires-clause-few : goal.begin_board-requires-clause-few
+begin_board-requires-clause-few c = let below = few-sources 0 c.args.setup.sources in omega (arith, below, c.requires.few)
 
 pub invariant_of-result : goal.invariant_of-result
 invariant_of-result c =

@@ -6,8 +6,8 @@ use Rattle.std.specs.Ordering.{nat_cmp}
 use Rattle.std.proofs.Math.Path.{fun_ext}
 use Rattle.std.proofs.lemmas.Int.{to_z-of_z}
 use Rattle.board_model.specs.Boards as model
-use Rattle.board_model.specs.Slots.{Config}
-use Rattle.update_core.specs.Standing.{board_of}
+use Rattle.board_model.specs.Slots.{Setup}
+use Rattle.update_core.specs.BoardRefinement.{board_of}
 use Rattle.update_core.proofs.Begun.{keys-count}
 use Rattle.update_core.proofs.board.Board.new.Goals as goal
 
@@ -17,7 +17,7 @@ first-requires-clause-few c = let count = keys-count 0 c.args.plan.sources in om
 pub returns : goal.returns
 returns c =
     let kept : List ℕ → ℕ = λ name. unwrap_or (get (slice_cmp nat_cmp) c.in_ok-by_name.field-0 name) 0 in
-    subst (λ (config : Config). IfOk c.first.result (λ board. board_of board ≡ model.first_board config c.args.old c.args.lanes))
+    subst (λ (config : Setup). IfOk c.first.result (λ board. board_of board ≡ model.first_board config c.args.old c.args.lanes))
     (ap (λ (now : ℤ). record { sources = c.args.plan.sources; sizes = kept; settings = c.args.settings; change = c.args.change; now = now }) (to_z-of_z w64 c.args.now c.ranges.now)
     ∙ ap (λ (sizes : List ℕ → ℕ). record { sources = c.args.plan.sources; sizes = sizes; settings = c.args.settings; change = c.args.change; now = c.args.now })
     (fun_ext (λ name. ap (λ (o : Option ℕ). unwrap_or o 0) (c.in_ok-by_name.ensures name))))

@@ -1,8 +1,8 @@
 use Rattle.std.proofs.Common.{◌∙◌, ◌<◌, ℕ, subst}
 use Rattle.std.proofs.lemmas.List.{length-map}
-use Rattle.board_slot.specs.Parts.{slot_of}
-use Rattle.update_core.specs.Parts.{slots_of}
-use Rattle.update_core.specs.Standing.{board_of}
+use Rattle.board_slot.specs.Refinement.{slot_of}
+use Rattle.update_core.specs.Refinement.{slots_of}
+use Rattle.update_core.specs.BoardRefinement.{board_of}
 use Rattle.update_core.proofs.Ready.{ready-first, ready-there, settled-by}
 use Rattle.update_core.proofs.board.Board.settle.Goals as goal
 

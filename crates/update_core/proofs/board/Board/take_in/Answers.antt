@@ -1,8 +1,8 @@
 use Rattle.std.proofs.Common.{◌∙◌, ◌<◌, ◌≤◌, ℕ, length, sym, ap, subst}
 use Rattle.std.proofs.lemmas.List.{length-map}
-use Rattle.board_slot.specs.Parts.{slot_of}
-use Rattle.update_core.specs.Parts.{slots_of}
-use Rattle.update_core.specs.Standing.{board_of}
+use Rattle.board_slot.specs.Refinement.{slot_of}
+use Rattle.update_core.specs.Refinement.{slots_of}
+use Rattle.update_core.specs.BoardRefinement.{board_of}
 use Rattle.host_queues.proofs.Changes.{length-changed}
 use Rattle.update_core.proofs.Ready.{busy-by}
 use Rattle.update_core.proofs.board.Board.take_in.Goals as goal

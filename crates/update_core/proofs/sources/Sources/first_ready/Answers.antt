@@ -1,7 +1,7 @@
 use Rattle.std.proofs.Common.{◌∙◌, sym}
 use Rattle.std.proofs.lemmas.Map.Keys.{le_from_not_gt}
 use Rattle.std.proofs.lemmas.Bool.{false≢true}
-use Rattle.update_core.specs.Parts.{slots_of}
+use Rattle.update_core.specs.Refinement.{slots_of}
 use Rattle.update_core.proofs.Ready.{empty-contains, first-is, none-is}
 use Rattle.update_core.proofs.sources.Sources.first_ready.Goals as goal
 

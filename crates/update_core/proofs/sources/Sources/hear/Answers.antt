@@ -3,9 +3,9 @@ use Rattle.std.proofs.lemmas.List.{length-set}
 use Rattle.std.proofs.Math.ListN.{set}
 use Rattle.acq_base.specs.declared.plan.Source.{Source}
 use Rattle.board_model.specs.Slots.{heard_at, is_ready}
-use Rattle.board_slot.specs.Parts.{slot_of}
+use Rattle.board_slot.specs.Refinement.{slot_of}
 use Rattle.board_slot.specs.declared.slot.Slot.{Slot}
-use Rattle.board_source.specs.Parts.{config_of}
+use Rattle.board_source.specs.Refinement.{config_of}
 use Rattle.board_source.proofs.Changes.{read-there}
 use Rattle.update_core.proofs.Changed.{put-changed}
 use Rattle.update_core.proofs.Ready.{ready-put, ready-taken, same-there, there-is}

@@ -1,11 +1,11 @@
 use Rattle.std.proofs.Common.{◌≡◌, List, get_or, ap, subst}
 use Rattle.std.proofs.lemmas.List.{length-set}
 use Rattle.acq_base.specs.declared.plan.Source.{Source}
-use Rattle.board_model.specs.Slots.{Closed}
-use Rattle.board_slot.specs.Parts.{slot_of}
+use Rattle.board_model.specs.Slots.{SettledSlot}
+use Rattle.board_slot.specs.Refinement.{slot_of}
 use Rattle.board_slot.specs.declared.slot.Slot.{Slot}
 use Rattle.board_source.proofs.Changes.{read-there}
-use Rattle.update_core.specs.Parts.{slots_of}
+use Rattle.update_core.specs.Refinement.{slots_of}
 use Rattle.update_core.proofs.Changed.{set-constant}
 use Rattle.update_core.proofs.Ready.{get-of, ready-settled, ready-slot, settled-same, there-is}
 use Rattle.update_core.proofs.sources.Sources.settle.Goals as goal
@@ -35,5 +35,5 @@ returns c =
           (there-is sources c.args.place c.index-as_slice-at.result c.requires.source
           (subst (λ (xs : List Source). c.index-as_slice-at.result ≡ get_or xs c.args.place c.index-as_slice-at.result) c.as_slice.ensures c.index-as_slice-at.is)) (get-of slots c.args.place d c.requires.slot is) c.in_ok-settled.ensures s l;
       count = length-set slots c.args.place c.replace-slot.new.dest;
-      slots = set-constant slot_of slots c.args.place c.replace-slot.new.dest Closed (ap slot_of c.replace-slot.ensures.after);
+      slots = set-constant slot_of slots c.args.place c.replace-slot.new.dest SettledSlot (ap slot_of c.replace-slot.ensures.after);
     }

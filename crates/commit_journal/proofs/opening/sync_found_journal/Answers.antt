@@ -1,0 +1,17 @@
+use Rattle.journal_model.proofs.Literals.{journal_named}
+use Rattle.commit_journal.proofs.Looks.{lay_journal_goes}
+use Rattle.std.proofs.Common.{[]}
+use Rattle.commit_journal.proofs.Others.{journal_sync}
+use Rattle.commit_journal.proofs.opening.sync_found_journal.Goals as goal
+
+pub sync-requires : goal.sync-requires
+sync-requires g c = journal_named _ c.as_slice.ensures
+
+pub returns-clause-moments : goal.returns-clause-moments
+returns-clause-moments g c = (lay_journal_goes _ _ _ c.sync.result c.as_slice.ensures (g.met.D.Disk.sound c.args.disk.now) c.requires c.sync.ensures.step).0
+
+pub returns-clause-done : goal.returns-clause-done
+returns-clause-done g c = (lay_journal_goes _ _ _ c.sync.result c.as_slice.ensures (g.met.D.Disk.sound c.args.disk.now) c.requires c.sync.ensures.step).1
+
+pub returns-clause-others : goal.returns-clause-others
+returns-clause-others g c = journal_sync [] _ _ _ c.sync.result c.as_slice.ensures (g.met.D.Disk.sound c.args.disk.now) c.sync.ensures.step

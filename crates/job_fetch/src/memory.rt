@@ -1,0 +1,42 @@
+//! A fetch whose pieces are joined in memory.
+ghost use Rattle.std.specs.Prelude.{◌≡◌, [], false, IfOk, OnErr};
+ghost use Rattle.acq_base.specs.Uri.{IsSound};
+ghost use Rattle.acq_outside.specs.Fetches.{Fetches};
+ghost use Rattle.job_fetch.specs.Fetched.{IsAnswer, IsCounted, IsInMemory, IsSoundEnd};
+
+use crate::closing::closed_of;
+use acq_base::{Bytes, Job, NoMemory};
+use acq_outside::{Method, Word};
+use std::alloc::Global;
+use update_model::{Body, Closed};
+
+/// Fetches the whole of what the job's URI names into memory. The URI is sound, and nothing of the file is at hand.
+///
+/// A fault of the method is told, and comes only where its count of faults rose in this call.
+pub fn fetch_into_memory<M: Method>(
+    alloc: Global,
+    method: &mut M,
+    job: &Job,
+) -> Result<Closed, NoMemory>
+    requires sound { IsSound job.now.uri }
+    requires from { job.now.from ≡ 0 }
+
+    ensures frame { Fetches M.Method method.old method.new }
+    ensures dry { OnErr result (M.faults method.new ≡ M.faults method.old) }
+
+    ensures counted { IfOk result (IsCounted (M.faults method.old) (M.faults method.new)) }
+    ensures sound { IfOk result IsSoundEnd }
+    ensures held { IfOk result IsInMemory }
+    ensures answer { IfOk result (IsAnswer (M.world method.old) [] false job.now) }
+{
+    let mut joined = Bytes::new(alloc);
+    let mut word = method.begin(alloc, job);
+    loop {
+        match word {
+            Word::Piece { at: _, bytes } => joined.append(bytes.as_slice())?,
+            Word::Done { size: _ } => return Ok(Closed::Served(Body::Bytes(joined))),
+            Word::Other(reply) => return closed_of(reply),
+        }
+        word = method.more(alloc);
+    }
+}

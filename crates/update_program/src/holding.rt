@@ -1,0 +1,51 @@
+//! The hold on the lists folder, and the moment of a run.
+
+ghost use Rattle.std.specs.Prelude.{◌≡◌, ◌≢◌, ◌≤◌, vec_len, IsSome};
+ghost use Rattle.acq_base.specs.Plan.{IsSound};
+ghost use Rattle.acq_outside.specs.Count.{Rose};
+ghost use Rattle.update_engine.specs.Run.{KeepsMethods, engine};
+ghost use Rattle.update_program.specs.Ending.{RunsAtClock};
+ghost use Rattle.update_program.specs.Objects.{objects};
+ghost use Rattle.update_program.specs.Said.{ReadsOnce};
+
+use crate::Ran;
+use crate::run::run_plan;
+use crate::say::write_fixed;
+use acq_outside::{Clock, Disk, HoldError, Method, Sink};
+use configuration::Configured;
+use report_text::FaultLine;
+use std::alloc::Global;
+
+/// Takes the hold, reads the moment, and runs what is configured.
+#[tactic(auto, using(update_engine::proofs::Lists::none_fall, crate::proofs::Endings::with_time))]
+pub fn run_with_hold<D: Disk, M: Method, C: Clock, S: Sink>(
+    alloc: Global,
+    it: Configured,
+    together: bool,
+    disk: &mut D,
+    methods: &mut Vec<M>,
+    clock: &mut C,
+    out: &mut S,
+) -> Ran
+    requires methods { (1 ≤ vec_len methods.old) × (vec_len methods.old ≤ 9) }
+    requires plan { IsSound it.plan }
+    ensures methods { KeepsMethods (engine D.Disk M.Method disk.old methods.old.items) (engine D.Disk M.Method disk.new methods.new.items) }
+    ensures moment { ReadsOnce (C.given clock.old) (C.given clock.new) result.log }
+    ensures disk_fault { result.status.0 ≡ 102 → Rose (D.faults disk.old) (D.faults disk.new) }
+    ensures quiet_disk { IsSome result.log → D.faults disk.new ≡ D.faults disk.old }
+    ensures sink_fault { result.status.0 ≡ 105 → Rose (S.faults out.old) (S.faults out.new) }
+    ensures quiet_sink { result.status.0 ≢ 105 → S.faults out.new ≡ S.faults out.old }
+    ensures held_fault { result.status.0 ≡ 104 → Rose (D.held disk.old) (D.held disk.new) }
+    ensures no_etc_fault { result.status.0 ≢ 106 }
+    ensures ended { RunsAtClock it together (C.last clock.new) (objects D.Disk M.Method S.Sink disk.old methods.old.items out.old)
+        (objects D.Disk M.Method S.Sink disk.new methods.new.items out.new) result.log result.status.0 }
+{
+    match disk.hold() {
+        Ok(()) => {
+            let now = clock.moment();
+            run_plan(alloc, it, together, now, disk, methods, out)
+        }
+        Err(HoldError::Held) => Ran::without_log(write_fixed(out, &FaultLine::Held)),
+        Err(HoldError::Fault) => Ran::without_log(write_fixed(out, &FaultLine::Disk)),
+    }
+}
