@@ -236,7 +236,7 @@ fn synced_files(alloc: Global, rows: &[(Text, Bytes)]) -> Result<Vec<FileState>,
 
 /// A disk that begins with these rows.
 #[tactic(auto, using(crate::proofs::Replaying::number_step, crate::proofs::Replaying::pushed))]
-fn begin(alloc: Global, rows: &[(Text, Bytes)]) -> Result<Replay, NoMemory>
+fn begin_replay(alloc: Global, rows: &[(Text, Bytes)]) -> Result<Replay, NoMemory>
     ensures state { IfOk result (λ standing. state_of standing ≡ start_state rows.now) }
     ensures standing { IfOk result IsAtNames }
 {
@@ -268,7 +268,7 @@ pub fn replay_all(
     ensures state { IfOk result (λ replay. state_of replay ≡ newest (trace_after (start_state rows.now) [] changes.now)) }
     ensures names { IfOk result IsAtNames }
 {
-    let mut replay = begin(alloc, rows)?;
+    let mut replay = begin_replay(alloc, rows)?;
     for change in changes {
         replay.apply(alloc, change)?;
     }

@@ -9,3 +9,4 @@ pub mod Beside
 pub mod Naming
 pub mod Weighing
 pub mod Counting
+pub mod Theorems

@@ -2,19 +2,10 @@
 
 ghost use Rattle.board_bounds.specs.Fetching as law;
 
-use board_model::{boards_walk_routes, wanted_parts_fall};
-use item_graph::lists_ask_soundly;
-use update_model::new_sets_are_admissible;
-
 /// Over a sound plan, and where answers led to sound places alone, each item asks at a sound URI, for the whole file or from
 /// below its limit on. So each job that goes out, or is out, may be handed to a method.
 pub fn asks_may_be_fetched()
     ensures asks { law.AsksMayBeFetched }
     ensures issued { law.IssuedJobsMayBeHanded }
     ensures out { law.JobsOutMayBeHanded }
-{
-    boards_walk_routes();
-    lists_ask_soundly();
-    new_sets_are_admissible();
-    wanted_parts_fall();
-}
+{}

@@ -34,8 +34,6 @@ use Rattle.board_model.proofs.Making.{list-at}
 use Rattle.board_model.proofs.Resting.{olds-there, reached-stands}
 use Rattle.board_model.proofs.Notes.{IsKnown, AllKnown, run-known, heard_by_keys, one-more, key-there, length-entries, read-of}
 
--- ---- each note is of an item of the plan
-
 -- ---- as many notes as the items have
 
 none-heard : (keys : List Key) → heard_by_keys keys [] ≡ 0

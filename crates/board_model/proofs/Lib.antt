@@ -23,3 +23,4 @@ pub mod Naming
 pub mod Notes
 pub mod Few
 pub mod Showing
+pub mod Theorems

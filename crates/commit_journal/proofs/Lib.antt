@@ -20,3 +20,4 @@ mod Parted
 mod Records
 mod Notes
 mod Allowed
+pub mod Theorems

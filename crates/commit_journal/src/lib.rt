@@ -24,7 +24,7 @@
 pub use changing::{Change, Content};
 pub use committing::commit;
 pub use error::JournalError;
-pub use laws::{commits_are_whole, ready_is_recorded, recorded_is_read, whole_is_undamaged};
+pub use laws::{commits_are_whole, ready_is_recorded, recorded_is_read};
 pub use opening::{Journal, open_journal};
 pub use prepared::Prepared;
 pub use preparing::prepare;

@@ -16,7 +16,6 @@ ghost use Rattle.journal_model.specs.Rest.{IsAtRest};
 use acq_base::{NoMemory, Text};
 use acq_memory::MemDisk;
 use acq_outside::Disk;
-use run_model::installed_lists_begin;
 use std::alloc::Global;
 
 /// How many bytes the lists of a folder at rest have.
@@ -25,7 +24,6 @@ pub fn bytes_of(alloc: Global, disk: &mut MemDisk) -> Result<u64, NoMemory>
     ensures bytes { IfOk result (HasBytes (installed_now (trace_of (past_of disk.old)))) }
     ensures still { past_of disk.new ≡ past_of disk.old }
 {
-    installed_lists_begin();
     let Ok(names) = disk.names(alloc) else {
         return Err(NoMemory);
     };

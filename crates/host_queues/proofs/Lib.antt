@@ -3,3 +3,4 @@ pub mod Places
 pub mod Turns
 pub mod Orders
 pub mod Single
+pub mod Theorems

@@ -4,3 +4,4 @@ pub mod Steps
 pub mod Told
 pub mod Whole
 pub mod Soundness
+pub mod Theorems

@@ -9,7 +9,6 @@ ghost use Rattle.update_model.specs.Walks.{release_walk, target_walk};
 ghost use Rattle.update_model.specs.Wanted.{want as wanted_in};
 ghost use Rattle.item_graph.specs.Sound.{IsSoundAnswer, IsSoundAt};
 
-use crate::laws::lists_ask_soundly;
 use crate::patches::list;
 use crate::release::release as release_state;
 use crate::state::State;
@@ -72,7 +71,6 @@ impl Item {
         let Some(sum) = find_file(release, target.path.as_bytes()) else {
             unreachable!()
         };
-        lists_ask_soundly();
         let wanted = want(alloc, source, target, release, settings, sum)?;
         Ok(Item {
             retries: settings.retries,

@@ -3,31 +3,16 @@
 ghost use Rattle.item_graph.specs.Laws as law;
 ghost use Rattle.item_graph.specs.Sound.{ListsAskSoundly};
 
-use update_model::{patches_lie_at_sound_uris, routes_end_as_obtained, runs_stand_in_routes};
-
 /// Whatever an item has heard is the front of a route of its walk, and what it asks is the next of that; where it has
 /// ended, it is the whole route, and its end is the route's.
 pub fn items_walk_routes()
     ensures stand { law.ItemsStandInRoutes }
     ensures ended { law.ItemsEndInRoutes }
     ensures walks { law.PointsEndInRoutes }
-{
-    runs_stand_in_routes();
-}
+{}
 
 /// Over the answers of a mirror, with none missing, an item ends as its file is obtained from that mirror.
 pub fn items_end_as_obtained()
     ensures lists { law.ItemsEndAsObtained }
     ensures releases { law.ReleaseItemsEndAsObtained }
-{
-    items_walk_routes();
-    routes_end_as_obtained();
-}
-
-/// A list is asked for at sound URIs alone, whatever is answered.
-pub fn lists_ask_soundly()
-    ensures { ListsAskSoundly }
-{
-    routes_end_as_obtained();
-    patches_lie_at_sound_uris();
-}
+{}

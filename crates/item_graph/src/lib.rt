@@ -14,7 +14,7 @@
 #![tactic(auto)]
 
 pub use item::Item;
-pub use laws::{items_end_as_obtained, items_walk_routes, lists_ask_soundly};
+pub use laws::{items_end_as_obtained, items_walk_routes};
 pub use update_model::{Ask, Body, Cause, Closed, End};
 
 mod editing;

@@ -10,3 +10,4 @@ pub mod Folding
 pub mod Fronts
 pub mod Owned
 pub mod Turns
+pub mod Theorems

@@ -2,25 +2,19 @@
 //! clean-up of names that belong to no source; and how one commit is made behind another.
 //!
 //! `changes_of` are the changes of a settled source, its lists in plan order, then its Release, then what goes;
-//! they make its new set (`changes_make_sets`, a law). `loose_names` are the names that belong to no source, in
-//! byte order (`told`), and `drops_of` removes them (`drops_clean_up`, a law). Changes of any sources with names
-//! apart, and a clean-up behind them, can be recorded in one commit, and are carried out source after source
-//! (`gathered_can_be_recorded`, `gathered_are_carried`, laws). `commit_groups` prepares and makes a commit: made,
-//! or not begun, or stopped within (`done`, `stopped`). Commits made in turn are a moment of a run, of which the
-//! journal's laws say what a crash leaves (`made_commits_are_progress`, `made_in_turn`, `made_leaves_lists`, laws).
+//! they make its new set (proofs/Theorems). `loose_names` are the names that belong to no source, in byte order
+//! (`told`), and `drops_of` removes them (proofs/Theorems). Changes of any sources with names apart, and a clean-up
+//! behind them, can be recorded in one commit, and are carried out source after source (proofs/Theorems).
+//! `commit_groups` prepares and makes a commit: made, or not begun, or stopped within (`done`, `stopped`). Commits
+//! made in turn are a moment of a run, of which the journal's laws say what a crash leaves (proofs/Theorems).
 #![tactic(auto)]
 
 pub use cleaning::{drops_of, removed_of};
 pub use committing::commit_groups;
-pub use laws::{
-    changes_make_sets, drops_clean_up, gathered_are_carried, gathered_can_be_recorded,
-    made_commits_are_progress, made_in_turn, made_leaves_lists,
-};
 pub use loose::loose_names;
 pub use settling::changes_of;
 
 mod cleaning;
 mod committing;
-mod laws;
 mod loose;
 mod settling;

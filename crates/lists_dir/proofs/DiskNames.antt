@@ -21,7 +21,6 @@ use Rattle.acq_base.proofs.Uris.{alphanumeric_small, length-name_byte}
 use Rattle.acq_outside.specs.Disk.{IsName}
 
 -- one character
-
 one_of_small : (c : ℕ) (marks : List ℕ) → list_all (λ d. nat_lt d 128) marks ≡ true → list_any (λ d. c == d) marks ≡ true → c < 128
 one_of_small c [] small is = absurd cc
 one_of_small c (d ∷ marks) small is = by (one_of_small c marks) (nat_lt d 128) refl (c == d) refl small is

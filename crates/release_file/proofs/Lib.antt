@@ -9,3 +9,4 @@ pub mod Listings
 pub mod SumFaults
 pub mod Changes
 pub mod LastPart
+pub mod Theorems

@@ -14,10 +14,6 @@ ghost use Rattle.run_jobs.specs.Running.{JobKeepsRunGoing, MayAsk, SameBoard};
 use crate::RunError;
 use acq_base::Job;
 use acq_outside::{Disk, Method, OutError};
-use board_bounds::{asks_may_be_fetched, planned_names_are_put_names};
-use board_model::{
-    boards_walk_routes, calls_are_events, jobs_stand, staged_parts_are_wanted, wanted_parts_fall,
-};
 use job_fetch::{fetch_into_memory, fetch_staged};
 use kept_hooks::Judge;
 use std::alloc::Global;
@@ -76,13 +72,6 @@ pub fn ask_one<D: Disk, M: Method>(
     ensures goes { OnOk result (JobKeepsRunGoing (M.world method.old) (M.faults method.old) (M.faults method.new)
         (board_of board.old) (board_of board.new) (D.trace disk.old) (D.trace disk.new)) }
 {
-    calls_are_events();
-    boards_walk_routes();
-    wanted_parts_fall();
-    staged_parts_are_wanted();
-    jobs_stand();
-    asks_may_be_fetched();
-    planned_names_are_put_names();
     match board.issue(alloc, 0)? {
         None => Ok(false),
         Some(job) => {

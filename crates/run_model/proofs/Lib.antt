@@ -19,3 +19,4 @@ pub mod Moments
 pub mod Removing
 pub mod Routes
 pub mod Setting
+pub mod Theorems

@@ -23,8 +23,6 @@ use Rattle.update_model.specs.declared.end.End.{End}
 use Rattle.run_model.specs.Laws.{NewSetsAreAdmissible, NewSetsAreMirrors}
 use Rattle.run_model.proofs.Hearing.{agrees_along, said_by}
 
--- ---- beside what a run begins with
-
 -- ---- routes that agree with a mirror
 
 record RoutesOver (mirror : MirrorMap) (dir : Directory) (parts : PartFiles) (config : Setup) (came : List ListEnd) : Type 0 where

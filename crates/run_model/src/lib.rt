@@ -11,19 +11,17 @@
 //! (`commits_are_in_turn`). Over a mirror and with no ask given up, the lists are those that are next, each source
 //! for which the mirror has a set has it, and two such runs leave alike lists and tell the same, in whatever order
 //! answers came and whether they commit one by one or together (`runs_lead_to_next`). The log tells just what items
-//! of the plan heard (`notes_are_of_items`). Three laws more are for the code that carries a run out
-//! (`groups_outlast_notes`, `installed_lists_begin`, `installs_are_in_order`).
+//! of the plan heard (`notes_are_of_items`). Further laws serve the proofs of the code that
+//! carries a run out (proofs/Theorems).
 #![tactic(auto)]
 
 pub use asked::notes_are_of_items;
-pub use begun::{installed_lists_begin, installs_are_in_order};
 pub use finished::runs_leave_outcomes;
 pub use mirrored::runs_lead_to_next;
-pub use stopped::{commits_leave_whole, groups_outlast_notes};
+pub use stopped::commits_leave_whole;
 pub use turns::commits_are_in_turn;
 
 mod asked;
-mod begun;
 mod finished;
 mod mirrored;
 mod stopped;

@@ -1,2 +1,3 @@
 mod Serving
 mod Stopping
+pub mod Theorems

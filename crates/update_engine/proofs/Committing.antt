@@ -46,7 +46,7 @@ use Rattle.run_model.proofs.Loose.{among}
 use Rattle.run_model.proofs.Names.{in_plan}
 use Rattle.run_model.proofs.Finishing.{is_held}
 use Rattle.run_jobs.proofs.Keeping.{stays_holds, told_back}
-use Rattle.update_engine.specs.Known.{CommittingLaws}
+use Rattle.update_engine.proofs.Known.{CommittingLaws}
 use Rattle.update_engine.specs.Session.{KeepsRunGoing, HasCommittedSets, HasProgress, CommitsOneSource, MayCommit, StopsBetweenAsks, begun_of, installed_in}
 use Rattle.update_engine.proofs.Naming.{release_free, which_name}
 use Rattle.update_engine.proofs.OnBoards.{as_open, heard_settled, is_of, owns, told_more, under_settled, uses_settled}

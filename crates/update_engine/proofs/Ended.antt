@@ -31,7 +31,7 @@ use Rattle.list_commits.proofs.Apart.{there}
 use Rattle.list_commits.proofs.Gone.{all_kept}
 use Rattle.run_model.proofs.Stopping.{sources_of_both}
 use Rattle.run_jobs.proofs.Telling.{each_last}
-use Rattle.update_engine.specs.Known.{CommittingLaws}
+use Rattle.update_engine.proofs.Known.{CommittingLaws}
 use Rattle.update_engine.specs.Session.{HasCommittedAllBut, RunsOverLists, HasCommittedAll, HasUncommitted, CommitsAll, HasProgress, CommitsOneSource, IsNewSource, LeavesUncommitted, NewSource, StopsBetweenAsks, StopsWhileEnding, begun_of, cleans, groups_for, names_to_remove, numbers_of, some_names, with_removed}
 use Rattle.update_engine.proofs.Committing.{commits_last, have_shape, none_removed, settled_made}
 use Rattle.update_engine.proofs.LastCommit.{all_committed}

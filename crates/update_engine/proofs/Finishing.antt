@@ -7,7 +7,7 @@ use Rattle.board_model.specs.Jobs.{NoneAsks}
 use Rattle.board_model.specs.Reached.{Reached}
 use Rattle.board_model.specs.Runs.{BoardRun, run, start as start_world}
 use Rattle.board_model.specs.Slots.{SettledSlot}
-use Rattle.update_engine.specs.Known.{FinishingLaws}
+use Rattle.update_engine.proofs.Known.{FinishingLaws}
 use Rattle.update_engine.specs.Session.{MayCommit}
 
 pub finished : FinishingLaws → (b : Board) (now : List State) → MayCommit b now → NoneAsks b → first_ready b.slots ≡ None → is_finished b ≡ true

@@ -20,7 +20,7 @@ use Rattle.update_model.specs.declared.settled.Settled.{Settled}
 use Rattle.run_model.proofs.Finishing.{is_held}
 use Rattle.run_model.proofs.Following.{later_than}
 use Rattle.run_jobs.proofs.Telling.{each_last}
-use Rattle.update_engine.specs.Known.{CommittingLaws}
+use Rattle.update_engine.proofs.Known.{CommittingLaws}
 use Rattle.update_engine.specs.Session.{GathersChanges, GathersChangesOf, HasGatheredChanges, IsNewSource, NewSource, groups_for, installed_in, numbers_of}
 use Rattle.update_engine.proofs.Committing.{IsChanging, IsSettling, changing, have_sums, last_puts, puts_rest, told_installed}
 use Rattle.update_engine.proofs.Lists.{each_more}

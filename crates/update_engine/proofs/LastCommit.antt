@@ -21,7 +21,7 @@ use Rattle.run_model.specs.Groups.{Group, all_groups, sources_in}
 use Rattle.run_model.specs.Runs.{is_told_installed}
 use Rattle.update_model.specs.declared.log.RunLog.{RunLog}
 use Rattle.update_model.specs.declared.settled.Verdict2.{Verdict2}
-use Rattle.update_engine.specs.Known.{CommittingLaws}
+use Rattle.update_engine.proofs.Known.{CommittingLaws}
 use Rattle.update_engine.specs.Session.{EndsWithLog, GathersChanges, KeepsRunGoing, HasCommittedAllBut, HasCommittedSets, HasGatheredChanges, HasUncommitted, CommitsOneSource, MayCommit, LeavesUncommitted, NewSource, begun_of, cleans, groups_for, installed_in, names_to_remove, numbers_of, some_names, with_removed}
 use Rattle.update_engine.proofs.Distinct.{all_last, are_gathered, gathered_for}
 

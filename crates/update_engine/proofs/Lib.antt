@@ -13,3 +13,5 @@ mod NewBoards
 mod PutNames
 mod Over
 mod Stepping
+mod Known
+mod Known

@@ -34,7 +34,7 @@ use Rattle.board_model.proofs.Making.{none-in}
 use Rattle.list_commits.proofs.Apart.{here, there}
 use Rattle.run_model.proofs.Loose.{among}
 use Rattle.run_jobs.proofs.Keeping.{falls_holds}
-use Rattle.update_engine.specs.Known.{BeginningLaws}
+use Rattle.update_engine.proofs.Known.{BeginningLaws}
 use Rattle.update_engine.specs.Reading.{size_of, sizes_in, sizes_of}
 use Rattle.update_engine.specs.Run.{IsReadFromDisk, run_of, resumable_part, target_names}
 use Rattle.update_engine.specs.Session.{IsNewRun, StartsRun}

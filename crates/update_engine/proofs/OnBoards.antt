@@ -32,7 +32,7 @@ use Rattle.board_model.proofs.Resting.{olds-there}
 use Rattle.board_model.proofs.Events.{ready-slot}
 use Rattle.board_model.proofs.Agreement.{come-open}
 use Rattle.run_jobs.proofs.Keeping.{falls_holds}
-use Rattle.update_engine.specs.Known.{SettlingLaws}
+use Rattle.update_engine.proofs.Known.{SettlingLaws}
 use Rattle.update_engine.specs.Session.{HasSettled, OnlySettles, installed_in}
 use Rattle.update_engine.proofs.Lists.{each_more, filter_last, filter_same}
 

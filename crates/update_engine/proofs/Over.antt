@@ -29,7 +29,7 @@ use Rattle.update_model.specs.Outcomes.{PartFiles}
 use Rattle.update_model.specs.declared.log.Asked.{Asked}
 use Rattle.update_model.specs.declared.log.RunLog.{RunLog}
 use Rattle.run_model.proofs.Counting.{verdicts_count}
-use Rattle.update_engine.specs.Known.{CommittingLaws}
+use Rattle.update_engine.proofs.Known.{CommittingLaws}
 use Rattle.update_engine.specs.Run.{Engine, FaultsRise, FindsDamage, ForMirror, HasFinished, HasOpenedJournal, IsReadFromDisk, KeepsMethods, LogIsTrue, Run, SurvivesCrash, StopsAmongCommits, asks_of_lane}
 use Rattle.update_engine.specs.Session.{EndsWithLog, CommitsAll, RunGoesOn, RunGoesOnWith, RunsOverLists, HasCommittedSets, HasCommittedAll, IsNewRun, HasProgress, IsLogOfRun, MayCommit, StartsRun, StopsWhileAsking, StopsWhileEnding, begun_of}
 use Rattle.update_engine.proofs.Committing.{settled_made, told_on}

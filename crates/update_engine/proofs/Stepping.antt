@@ -14,7 +14,7 @@ use Rattle.list_commits.specs.Made.{rests}
 use Rattle.run_jobs.specs.Running.{RunStart, JobKeepsRunGoing, RunHasHeard, MayAsk, IsUnderWay, SameBoard}
 use Rattle.run_model.specs.Groups.{all_groups, commits_of}
 use Rattle.run_jobs.proofs.Keeping.{told_back}
-use Rattle.update_engine.specs.Known.{CommittingLaws}
+use Rattle.update_engine.proofs.Known.{CommittingLaws}
 use Rattle.update_engine.specs.Session.{KeepsRunGoing, RunGoesOn, HasCommittedSets, HasProgress, MayCommit, StopsBetweenAsks, StopsWhileAsking, begun_of}
 use Rattle.update_engine.proofs.Committing.{has_begun, settled_made, told_on}
 

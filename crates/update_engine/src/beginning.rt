@@ -6,7 +6,6 @@ ghost use Rattle.update_core.specs.BoardRefinement.{board_of};
 ghost use Rattle.update_engine.specs.Run.{run_of};
 ghost use Rattle.update_engine.specs.Session.{StartsRun};
 
-use crate::known::beginnings_are_known;
 use crate::reading::{read_installed, read_sizes};
 use acq_base::{Plan, Settings, sources_are_planned};
 use acq_outside::{Disk, OutError};
@@ -30,7 +29,6 @@ pub fn begin_run<D: Disk>(
     ensures frame { ReadsCounting OutError.Fault D.Disk disk.old disk.new result }
     ensures starts { (together : Bool) → IfOk result (λ board. StartsRun (run_of plan settings change now together) (D.trace disk.old) (board_of board)) }
 {
-    beginnings_are_known();
     sources_are_planned();
     let olds = read_installed(alloc, disk, plan.sources.as_slice())?;
     let sizes = read_sizes(alloc, disk, plan.sources.as_slice())?;

@@ -16,7 +16,6 @@ ghost use Rattle.update_core.specs.BoardRefinement.{board_of};
 ghost use Rattle.update_engine.specs.Session.{EndsWithLog, CommitsAll, MayCommit, LeavesUncommitted, OnlySettles, StopsWhileEnding, names_to_remove, with_removed};
 
 use crate::gathering::gather;
-use crate::known::{commits_are_known, ends_are_known};
 use crate::settling::install_all;
 use acq_base::{NoMemory, Row, Text};
 use acq_outside::Disk;
@@ -50,7 +49,6 @@ pub fn settle_last<D: Disk>(
     ensures idle { OnOk result (IsNow IsIdle (D.trace disk.new)) }
     ensures stops { (cleanup : Bool) → OnErr result (StopsWhileEnding together cleanup (board_of board.old) (D.trace disk.old) (D.trace disk.new)) }
 {
-    commits_are_known();
     if together {
         let groups = gather(alloc, board)?;
         return Ok(groups);
@@ -67,7 +65,6 @@ pub fn end_board<D: Disk>(board: Board, disk: &D) -> RunLog
     ensures finished { is_finished (board_of board) ≡ true }
     ensures log { result ≡ log_of (board_of board) }
 {
-    ends_are_known();
     let _disk = disk;
     board.into_log()
 }
@@ -165,7 +162,6 @@ pub fn end_run<D: Disk>(
     ensures stops { OnErr result (StopsWhileEnding together cleanup (board_of board) (D.trace disk.old) (D.trace disk.new)) }
     ensures ended { IfOk result (CommitsAll together cleanup (board_of board) (D.trace disk.old) (D.trace disk.new)) }
 {
-    commits_are_known();
     let mut board = board;
     let mut groups = settle_last(alloc, together, disk, journal, &mut board)?;
     let loose = loose_names(alloc, disk, board.sources())?;

@@ -4,7 +4,6 @@ ghost use Rattle.board_model.specs.Boards.{first_ready};
 ghost use Rattle.update_core.specs.BoardRefinement.{board_of};
 ghost use Rattle.update_engine.specs.Session.{GathersChanges, GathersChangesOf, HasSettled, OnlySettles};
 
-use crate::known::commits_are_known;
 use crate::settling::{changes_from, is_new};
 use acq_base::{NoMemory, Row};
 use commit_journal::Change;
@@ -18,7 +17,6 @@ pub fn gather(alloc: Global, board: &mut Board) -> Result<Row<Row<Change>>, NoMe
     ensures only { OnOk result (OnlySettles (board_of board.old) (board_of board.new)) }
     ensures goes { IfOk result (GathersChanges (board_of board.old) (board_of board.new)) }
 {
-    commits_are_known();
     let mut groups = Row::new(alloc);
     'ready: while let Some(place) = board.ready() {
         gather_ready(alloc, board, place, &mut groups)?;

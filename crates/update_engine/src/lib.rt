@@ -17,7 +17,6 @@ pub use top::run_update;
 mod beginning;
 mod ending;
 mod gathering;
-mod known;
 mod looping;
 mod reading;
 mod settling;

@@ -9,10 +9,8 @@ ghost use Rattle.update_core.specs.BoardRefinement.{board_of};
 ghost use Rattle.run_jobs.specs.Running.{MayAsk};
 ghost use Rattle.update_engine.specs.Session.{KeepsRunGoing, RunGoesOn, MayCommit, OnlySettles, StopsBetweenAsks, StopsWhileAsking};
 
-use crate::known::commits_are_known;
 use crate::settling::install_all;
 use acq_outside::{Disk, Method};
-use board_bounds::logs_are_short;
 use commit_journal::Journal;
 use kept_hooks::Judge;
 use run_jobs::{RunError, ask_one};
@@ -50,8 +48,6 @@ pub fn ask_until_done<D: Disk, M: Method>(
     ensures goes { OnOk result (RunGoesOn (M.world method.old) (M.faults method.old) (M.faults method.new)
         (board_of board.old) (board_of board.new) (D.trace disk.old) (D.trace disk.new)) }
 {
-    logs_are_short();
-    commits_are_known();
     'asks: loop {
         install_between(alloc, together, disk, journal, board)?;
         if !ask_one(alloc, judge, disk, method, board)? {

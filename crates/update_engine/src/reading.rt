@@ -9,7 +9,6 @@ ghost use Rattle.update_engine.specs.Reading.{size_of, sizes_in, sizes_of};
 
 use acq_base::{ListName, Old, Row, Source, Target, TryCopy};
 use acq_outside::{Disk, OutError};
-use board_bounds::planned_names_are_put_names;
 use lists_dir::installed;
 use partial_store::resume_from;
 use std::alloc::Global;
@@ -80,7 +79,6 @@ fn read_source<D: Disk>(
     ensures frame { ReadsCounting OutError.Fault D.Disk disk.old disk.new result }
     ensures told { IsTold (D.trace disk.old) → OnOk result (sizes.new ≡ sizes.old ++ sizes_in (D.trace disk.old) source.now) }
 {
-    planned_names_are_put_names();
     read_targets(alloc, disk, source.targets.as_slice(), sizes)?;
     Ok(())
 }

@@ -10,7 +10,6 @@ ghost use Rattle.run_model.specs.Runs.{is_installed};
 ghost use Rattle.update_core.specs.BoardRefinement.{board_of};
 ghost use Rattle.update_engine.specs.Session.{KeepsRunGoing, HasSettled, MayCommit, OnlySettles, StopsBetweenAsks};
 
-use crate::known::commits_are_known;
 use acq_base::{NoMemory, Row};
 use acq_outside::Disk;
 use commit_journal::{Change, Journal};
@@ -78,7 +77,6 @@ pub fn install_ready<D: Disk>(
     ensures goes { OnOk result (KeepsRunGoing (board_of board.old) (board_of board.new) (D.trace disk.old) (D.trace disk.new)) }
     ensures stops { OnErr result (StopsBetweenAsks (board_of board.old) (D.trace disk.old) (D.trace disk.new)) }
 {
-    commits_are_known();
     let settled = board.settle(alloc, place)?;
     if !is_new(&settled.verdict) {
         drop(settled);

@@ -8,7 +8,6 @@ ghost use Rattle.update_engine.specs.Run.{FindsDamage, KeepsMethods, LogIsTrue, 
 
 use crate::beginning::begin_run;
 use crate::ending::end_run;
-use crate::known::commits_are_known;
 use crate::looping::ask_until_done;
 use acq_base::{Plan, Settings};
 use acq_outside::{Disk, Method};
@@ -78,7 +77,6 @@ fn run_over<D: Disk, M: Method>(
     ensures crash { (others : List M) → SurvivesCrash (run_of plan settings judge.now.change now together)
         (engine D.Disk M.Method disk.old (method.old ∷ others)) (engine D.Disk M.Method disk.new (method.new ∷ others)) }
 {
-    commits_are_known();
     let cleanup = settings.cleanup;
     let mut journal = open_journal(alloc, disk)?;
     let mut board = begin_run(alloc, disk, plan, settings, judge.change, now)?;

@@ -22,3 +22,4 @@ pub mod Sample
 pub mod ListExamples
 pub mod PatchExamples
 pub mod SourceExamples
+pub mod Theorems

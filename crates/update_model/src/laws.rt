@@ -6,8 +6,6 @@ ghost use Rattle.update_model.specs.Carried.{DeedsLeadToNext, NextIsThere, Commi
 ghost use Rattle.update_model.specs.Faults as fault;
 ghost use Rattle.update_model.specs.Laws as law;
 
-use release_file::judged_is_admissible;
-
 /// A route that agrees with a mirror and in which each ask is answered ends as what is obtained from that mirror; over
 /// each mirror there is such a route.
 pub fn routes_end_as_obtained()
@@ -29,15 +27,6 @@ pub fn routes_ask_little()
     ensures sources { law.SourcesAskLittle }
 {}
 
-/// A list's patch Index, and each patch that it may name, lies at a sound URI where the list does. So each ask for a
-/// list is for a sound URI, whatever is answered.
-pub fn patches_lie_at_sound_uris()
-    ensures sound { law.PatchUrisAreSound }
-    ensures short { law.PatchUrisAreShort }
-    ensures index { IsTrue (is_name (codes "Index")) }
-    ensures asks { law.AsksAreSound }
-{}
-
 /// The file that a list comes to is the one that the Release names. It has one exactly where the installed file, the
 /// patched one, the resumed one or one that is reached is that; patches and partial files do no harm.
 pub fn obtained_files_fit()
@@ -52,9 +41,7 @@ pub fn obtained_files_fit()
 pub fn new_sets_are_admissible()
     ensures exactly { law.SetsAreAdmissible }
     ensures fit { law.NewSetsFit }
-{
-    judged_is_admissible();
-}
+{}
 
 /// Routes of a source that agree with a mirror, and in which each ask is answered, come to its new set, or to why there
 /// is none. What another mirror has elsewhere makes no difference.
@@ -70,9 +57,7 @@ pub fn routes_end_as_listed()
     ensures lists { fault.ListsEndAsListed }
     ensures releases { fault.ReleasesEndAsServed }
     ensures sets { fault.SetsAreAsListed }
-{
-    judged_is_admissible();
-}
+{}
 
 /// Faults of methods put nothing else in a file's place: over routes that agree with a mirror, whichever asks were
 /// never answered, a file is the one that is obtained from the mirror, and a new set is the mirror's.
@@ -88,11 +73,6 @@ pub fn nexts_are_alike()
     ensures alike { law.NextsAreAlike }
     ensures clean { law.NextsAreClean }
     ensures kept { law.NextsKeep }
-{}
-
-/// The test whether a set is there already tells just that.
-pub fn held_sets_are_found()
-    ensures { law.HeldSetsAreFound }
 {}
 
 /// What is done for the sources of a plan, in any order, and the clean-up behind it leave what is next.

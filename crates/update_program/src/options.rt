@@ -16,7 +16,6 @@ use acq_outside::{Clock, Disk, Etc, Method, Sink};
 use command_words::Options;
 use configuration::{ConfigurationError, configure};
 use report_text::FaultLine;
-use run_promises::{lists_match_log, lists_match_mirror, runs_stop_as_served, runs_stop_with_sets};
 use std::alloc::Global;
 
 /// Reads the configuration, and runs what it plans.
@@ -47,10 +46,6 @@ pub fn run_options<E: Etc, D: Disk, M: Method, C: Clock, S: Sink>(
         (objects D.Disk M.Method S.Sink disk.old methods.old.items out.old)
         (objects D.Disk M.Method S.Sink disk.new methods.new.items out.new) result.log result.status.0 }
 {
-    lists_match_mirror();
-    lists_match_log();
-    runs_stop_as_served();
-    runs_stop_with_sets();
     run_configured(alloc, options, etc, disk, methods, clock, out)
 }
 

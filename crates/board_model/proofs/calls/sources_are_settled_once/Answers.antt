@@ -1,5 +1,5 @@
-use Rattle.board_model.proofs.Once.{settled-once}
+use Rattle.board_model.proofs.Theorems.{sources_are_settled_once}
 use Rattle.board_model.proofs.calls.sources_are_settled_once.Goals as goal
 
 pub returns : goal.returns
-returns c = settled-once
+returns c = sources_are_settled_once

@@ -8,6 +8,7 @@ use Rattle.update_core.specs.BoardRefinement.{board_of}
 use Rattle.update_engine.specs.Session.{MayCommit}
 use Rattle.update_engine.proofs.Committing.{on_err}
 use Rattle.update_engine.proofs.Ended.{ends_all, leaves_on, shown_on, stops_between, stops_last}
+use Rattle.update_engine.proofs.Known.{commits_known}
 use Rattle.update_engine.proofs.LastCommit.{can_last, ends_told, last_stands, staged_last}
 use Rattle.update_engine.proofs.ending.end_run.Goals as goal
 
@@ -16,12 +17,12 @@ end_board-log-requires-clause-stands g c = subst (λ (t : List State). MayCommit
     (last_stands _ (board_of c.args.board) (board_of c.settle_last.new.board) _ _ c.in_ok-groups.groups c.requires.stands c.in_ok-groups.ensures.leaves c.in_ok-groups.ensures.idle)
 
 pub commit_last-requires-clause-changes : goal.commit_last-requires-clause-changes
-commit_last-requires-clause-changes g c = can_last c.commits_are_known.ensures _ (board_of c.args.board) (board_of c.settle_last.new.board) _ _ c.in_ok-groups.groups c.add_clean_up.new.groups c.args.cleanup c.end_board-log.result.verdicts c.in_ok-loose.loose c.requires.stands
+commit_last-requires-clause-changes g c = can_last commits_known _ (board_of c.args.board) (board_of c.settle_last.new.board) _ _ c.in_ok-groups.groups c.add_clean_up.new.groups c.args.cleanup c.end_board-log.result.verdicts c.in_ok-loose.loose c.requires.stands
     c.in_ok-groups.ensures.leaves c.in_ok-loose.ensures.sorted (subst (λ (sources : List Source). All (IsLoose sources) c.in_ok-loose.loose) c.sources.ensures c.in_ok-loose.ensures.loose) c.in_ok-loose.ensures.named c.in_ok-loose.ensures.few c.in_ok-add_clean_up.ensures.groups
 
 pub commit_last-requires-clause-staged : goal.commit_last-requires-clause-staged
 commit_last-requires-clause-staged g c = subst (λ (t : List State). IsNow (AreAllStaged c.add_clean_up.new.groups) t) (sym c.loose_names.ensures.frame.still)
-    (staged_last c.commits_are_known.ensures _ (board_of c.args.board) (board_of c.settle_last.new.board) _ _ c.in_ok-groups.groups c.add_clean_up.new.groups c.args.cleanup c.end_board-log.result.verdicts c.in_ok-loose.loose c.requires.stands c.in_ok-groups.ensures.leaves
+    (staged_last commits_known _ (board_of c.args.board) (board_of c.settle_last.new.board) _ _ c.in_ok-groups.groups c.add_clean_up.new.groups c.args.cleanup c.end_board-log.result.verdicts c.in_ok-loose.loose c.requires.stands c.in_ok-groups.ensures.leaves
     c.in_ok-add_clean_up.ensures.groups)
 
 pub returns-clause-ends : goal.returns-clause-ends
@@ -29,19 +30,19 @@ returns-clause-ends g c = ends_told _ (board_of c.args.board) (board_of c.settle
     c.end_board-log.ensures.finished c.end_board-log.ensures.log c.in_ok-add_clean_up.ensures.log
 
 pub returns-in_err-loose-clause-stops : goal.returns-in_err-loose-clause-stops
-returns-in_err-loose-clause-stops g c = on_err _ _ (stops_between c.commits_are_known.ensures _ _ (board_of c.args.board) (board_of c.settle_last.new.board) _ _ _ c.in_ok-groups.groups c.in_ok-groups.ensures.leaves c.loose_names.ensures.frame.still)
+returns-in_err-loose-clause-stops g c = on_err _ _ (stops_between commits_known _ _ (board_of c.args.board) (board_of c.settle_last.new.board) _ _ _ c.in_ok-groups.groups c.in_ok-groups.ensures.leaves c.loose_names.ensures.frame.still)
 
 pub returns-in_err-add_clean_up-clause-stops : goal.returns-in_err-add_clean_up-clause-stops
-returns-in_err-add_clean_up-clause-stops g c = on_err _ _ (stops_between c.commits_are_known.ensures _ _ (board_of c.args.board) (board_of c.settle_last.new.board) _ _ _ c.in_ok-groups.groups c.in_ok-groups.ensures.leaves c.loose_names.ensures.frame.still)
+returns-in_err-add_clean_up-clause-stops g c = on_err _ _ (stops_between commits_known _ _ (board_of c.args.board) (board_of c.settle_last.new.board) _ _ _ c.in_ok-groups.groups c.in_ok-groups.ensures.leaves c.loose_names.ensures.frame.still)
 
 pub returns-in_err-commit_last-clause-stops : goal.returns-in_err-commit_last-clause-stops
-returns-in_err-commit_last-clause-stops g c = on_err _ _ (stops_last c.commits_are_known.ensures _ _ (board_of c.args.board) (board_of c.settle_last.new.board) _ (g.D.Disk.trace c.loose_names.new.disk) _ (g.D.Disk.files c.settle_last.new.disk)
+returns-in_err-commit_last-clause-stops g c = on_err _ _ (stops_last commits_known _ _ (board_of c.args.board) (board_of c.settle_last.new.board) _ (g.D.Disk.trace c.loose_names.new.disk) _ (g.D.Disk.files c.settle_last.new.disk)
     (g.D.Disk.tells c.settle_last.new.disk) c.in_ok-groups.groups c.add_clean_up.new.groups c.in_ok-loose.loose c.sources.result.now c.end_board-log.result
     (leaves_on _ (board_of c.args.board) (board_of c.settle_last.new.board) _ _ _ c.in_ok-groups.groups c.loose_names.ensures.frame.still c.in_ok-groups.ensures.leaves) c.end_board-log.ensures.finished c.sources.ensures c.in_ok-loose.ensures.told
     (shown_on _ _ _ _ c.loose_names.ensures.frame.still (g.met.D.Disk.shown c.settle_last.new.disk)) c.in_ok-add_clean_up.ensures.groups c.end_board-log.ensures.log c.in_err-commit_last.ensures.some c.in_err-commit_last.ensures.stopped c.commit_last.ensures.settled)
 
 pub returns-clause-ended : goal.returns-clause-ended
-returns-clause-ended g c = ends_all c.commits_are_known.ensures _ _ (board_of c.args.board) (board_of c.settle_last.new.board) _ (g.D.Disk.trace c.loose_names.new.disk) _ (g.D.Disk.files c.settle_last.new.disk)
+returns-clause-ended g c = ends_all commits_known _ _ (board_of c.args.board) (board_of c.settle_last.new.board) _ (g.D.Disk.trace c.loose_names.new.disk) _ (g.D.Disk.files c.settle_last.new.disk)
     (g.D.Disk.tells c.settle_last.new.disk) c.in_ok-groups.groups c.add_clean_up.new.groups c.in_ok-loose.loose c.sources.result.now c.end_board-log.result c.add_clean_up.new.log
     (leaves_on _ (board_of c.args.board) (board_of c.settle_last.new.board) _ _ _ c.in_ok-groups.groups c.loose_names.ensures.frame.still c.in_ok-groups.ensures.leaves) c.end_board-log.ensures.finished c.sources.ensures c.in_ok-loose.ensures.told
     (shown_on _ _ _ _ c.loose_names.ensures.frame.still (g.met.D.Disk.shown c.settle_last.new.disk)) c.in_ok-add_clean_up.ensures.groups c.end_board-log.ensures.log c.in_ok-add_clean_up.ensures.log c.commit_last.ensures.none c.in_ok-commit_last.ensures.done

@@ -1,7 +1,9 @@
 use Rattle.std.proofs.Common.{◌∙◌, arith}
 use Rattle.acq_outside.proofs.Framed.{stayed_on_counting}
+use Rattle.board_bounds.proofs.Theorems.{asks_are_few}
 use Rattle.update_core.specs.BoardRefinement.{board_of}
 use Rattle.update_engine.proofs.Committing.{on_err}
+use Rattle.update_engine.proofs.Known.{commits_known}
 use Rattle.update_engine.proofs.Stepping.{bare_aside, bare_round, far_aside, far_asked, far_stops, far_stops_asking, idle_after, ready_aside, ready_asked, smaller, stands_ready}
 use Rattle.update_engine.proofs.looping.ask_until_done.Goals as goal
 
@@ -19,7 +21,7 @@ ask_one-requires-clause-ready g c = ready_aside _ _ (board_of c.asks.board) _ _ 
 
 pub returns-in_err-ask_one-clause-stops : goal.returns-in_err-ask_one-clause-stops
 returns-in_err-ask_one-clause-stops g c = on_err _ _
-    (far_stops_asking c.commits_are_known.ensures _ _ _ _ (board_of c.install_between.new.board) _ _ _
+    (far_stops_asking commits_known _ _ _ _ (board_of c.install_between.new.board) _ _ _
     (far_aside _ _ _ _ (board_of c.asks.board) _ _ _ _ c.asks.invariant.goes c.in_ok-install_between.ensures.goes) c.in_ok-install_between.ensures.idle c.ask_one.ensures.moments)
 
 pub returns-in_err-ask_one-clause-bare : goal.returns-in_err-ask_one-clause-bare
@@ -32,13 +34,13 @@ pub returns-then-not-branch-clause-idle : goal.returns-then-not-branch-clause-id
 returns-then-not-branch-clause-idle g c = idle_after _ _ c.in_ok-install_between.ensures.idle c.ask_one.ensures.moments
 
 pub returns-then-not-branch-clause-goes : goal.returns-then-not-branch-clause-goes
-returns-then-not-branch-clause-goes g c = far_asked c.commits_are_known.ensures _ _ _ _ _ _ (board_of c.install_between.new.board) _ _ _ _ c.asks.invariant.method.same
+returns-then-not-branch-clause-goes g c = far_asked commits_known _ _ _ _ _ _ (board_of c.install_between.new.board) _ _ _ _ c.asks.invariant.method.same
     (far_aside _ _ _ _ (board_of c.asks.board) _ _ _ _ c.asks.invariant.goes c.in_ok-install_between.ensures.goes) c.in_ok-install_between.ensures.idle c.ask_one.ensures.moments
     c.in_ok-ask_one.ensures.same c.in_ok-ask_one.ensures.goes
 
 pub asks-preserved : goal.asks-preserved
 asks-preserved g c = record {
-  goes = far_asked c.commits_are_known.ensures _ _ _ _ _ _ (board_of c.install_between.new.board) _ _ _ _ c.asks.invariant.method.same
+  goes = far_asked commits_known _ _ _ _ _ _ (board_of c.install_between.new.board) _ _ _ _ c.asks.invariant.method.same
       (far_aside _ _ _ _ (board_of c.asks.board) _ _ _ _ c.asks.invariant.goes c.in_ok-install_between.ensures.goes) c.in_ok-install_between.ensures.idle c.ask_one.ensures.moments
       c.in_ok-ask_one.ensures.same c.in_ok-ask_one.ensures.goes;
   ready = ready_asked _ _ _ _ _ _ _ _ c.ask_one.ensures.method.same
@@ -51,7 +53,7 @@ asks-preserved g c = record {
 }
 
 pub asks-smaller : goal.asks-smaller
-asks-smaller g c = smaller c.logs_are_short.ensures _ _ (board_of c.asks.board) (board_of c.install_between.new.board) (board_of c.ask_one.new.board) _
+asks-smaller g c = smaller asks_are_few _ _ (board_of c.asks.board) (board_of c.install_between.new.board) (board_of c.ask_one.new.board) _
     (ready_asked _ _ _ _ _ _ _ _ c.ask_one.ensures.method.same
     (ready_aside _ _ (board_of c.asks.board) _ _ _ c.asks.invariant.ready c.in_ok-install_between.ensures.goes c.in_ok-install_between.ensures.idle) c.ask_one.ensures.moments c.in_ok-ask_one.ensures.goes)
     c.in_ok-install_between.ensures.only.asks c.in_ok-install_between.ensures.only.config c.in_ok-ask_one.ensures.same.config (c.in_ok-ask_one.ensures.more c.if-not-branch.false)

@@ -2,6 +2,7 @@ use Rattle.std.proofs.Common.{◌≡◌, ◌∙◌, ◌≤◌, ℕ, ℤ, w64, ar
 use Rattle.std.proofs.lemmas.Int.{to_z-of_z}
 use Rattle.acq_outside.specs.Crash.{State}
 use Rattle.update_core.specs.BoardRefinement.{board_of}
+use Rattle.update_engine.proofs.Known.{commits_known}
 use Rattle.update_engine.specs.Run.{Run, run_of}
 use Rattle.update_engine.specs.Session.{StartsRun}
 use Rattle.update_engine.proofs.Over.{far_stands, is_open, logged, none_found, safe_asking, safe_ended, safe_ending, starts_change, starts_ready, stays_unopened, still_told, verdicts_told}
@@ -31,7 +32,7 @@ pub returns-in_err-board-clause-crash : goal.returns-in_err-board-clause-crash
 returns-in_err-board-clause-crash g c = λ others. stays_unopened _ _ _ _ c.open_journal.ensures.recovers c.open_journal.ensures.settled c.begin_run.ensures.frame.still
 
 pub returns-in_err-ask_until_done-clause-crash : goal.returns-in_err-ask_until_done-clause-crash
-returns-in_err-ask_until_done-clause-crash g c = λ others. safe_asking c.commits_are_known.ensures (run_of c.args.plan c.args.settings c.args.judge.now.change c.args.now c.args.together)
+returns-in_err-ask_until_done-clause-crash g c = λ others. safe_asking commits_known (run_of c.args.plan c.args.settings c.args.judge.now.change c.args.now c.args.together)
     _ _ _ _ _ _ _ _ _ _ (board_of c.in_ok-board.board)
     (is_open (g.D.Disk.tells c.args.disk.now) (g.D.Disk.files c.args.disk.now) _ _ _ (g.met.D.Disk.shown c.args.disk.now) c.open_journal.ensures.recovers c.open_journal.ensures.others c.in_ok-journal.ensures.rests c.in_ok-journal.ensures.idle c.begin_run.ensures.frame.still)
     (starts_there (λ (z : ℤ). run_of c.args.plan c.args.settings c.args.judge.now.change z c.args.together) _ _ _ _ (board_of c.in_ok-board.board) (to_z-of_z w64 c.args.now c.ranges.now) c.begin_run.ensures.frame.still (c.in_ok-board.ensures.starts c.args.together))
@@ -46,7 +47,7 @@ returns-in_err-log-clause-crash g c = λ others. safe_ending (run_of c.args.plan
     refl c.in_ok-ask_until_done.ensures.goes c.in_ok-ask_until_done.ensures.unsettled c.in_err-log.ensures.stops
 
 pub returns-clause-crash : goal.returns-clause-crash
-returns-clause-crash g c = λ others. safe_ended c.commits_are_known.ensures (run_of c.args.plan c.args.settings c.args.judge.now.change c.args.now c.args.together) _ _ _ _ _ _ _ _ _ _ _ _ (board_of c.in_ok-board.board) (board_of c.ask_until_done.new.board) c.args.settings.cleanup c.in_ok-log.log
+returns-clause-crash g c = λ others. safe_ended commits_known (run_of c.args.plan c.args.settings c.args.judge.now.change c.args.now c.args.together) _ _ _ _ _ _ _ _ _ _ _ _ (board_of c.in_ok-board.board) (board_of c.ask_until_done.new.board) c.args.settings.cleanup c.in_ok-log.log
     (is_open (g.D.Disk.tells c.args.disk.now) (g.D.Disk.files c.args.disk.now) _ _ _ (g.met.D.Disk.shown c.args.disk.now) c.open_journal.ensures.recovers c.open_journal.ensures.others c.in_ok-journal.ensures.rests c.in_ok-journal.ensures.idle c.begin_run.ensures.frame.still)
     (starts_there (λ (z : ℤ). run_of c.args.plan c.args.settings c.args.judge.now.change z c.args.together) _ _ _ _ (board_of c.in_ok-board.board) (to_z-of_z w64 c.args.now c.ranges.now) c.begin_run.ensures.frame.still (c.in_ok-board.ensures.starts c.args.together))
     (still_told _ _ _ _ _ _ (g.met.D.Disk.shown c.args.disk.now) (g.met.D.Disk.shown c.end_run.new.disk) (c.end_run.ensures.frame.telling ∙ (c.ask_until_done.ensures.frame.telling ∙ (c.begin_run.ensures.frame.telling ∙ c.open_journal.ensures.frame.telling))))
@@ -54,7 +55,7 @@ returns-clause-crash g c = λ others. safe_ended c.commits_are_known.ensures (ru
     refl c.in_ok-ask_until_done.ensures.goes c.in_ok-ask_until_done.ensures.unsettled c.in_ok-log.ensures.ended
 
 pub returns-clause-log : goal.returns-clause-log
-returns-clause-log g c = λ others. logged c.commits_are_known.ensures (run_of c.args.plan c.args.settings c.args.judge.now.change c.args.now c.args.together) _ _ _ _ _ _ _ _ _ _ _ (board_of c.in_ok-board.board) (board_of c.ask_until_done.new.board) c.args.settings.cleanup c.in_ok-log.log
+returns-clause-log g c = λ others. logged commits_known (run_of c.args.plan c.args.settings c.args.judge.now.change c.args.now c.args.together) _ _ _ _ _ _ _ _ _ _ _ (board_of c.in_ok-board.board) (board_of c.ask_until_done.new.board) c.args.settings.cleanup c.in_ok-log.log
     (is_open (g.D.Disk.tells c.args.disk.now) (g.D.Disk.files c.args.disk.now) _ _ _ (g.met.D.Disk.shown c.args.disk.now) c.open_journal.ensures.recovers c.open_journal.ensures.others c.in_ok-journal.ensures.rests c.in_ok-journal.ensures.idle c.begin_run.ensures.frame.still)
     (starts_there (λ (z : ℤ). run_of c.args.plan c.args.settings c.args.judge.now.change z c.args.together) _ _ _ _ (board_of c.in_ok-board.board) (to_z-of_z w64 c.args.now c.ranges.now) c.begin_run.ensures.frame.still (c.in_ok-board.ensures.starts c.args.together))
     (still_told _ _ _ _ _ _ (g.met.D.Disk.shown c.end_run.new.disk) (g.met.D.Disk.shown c.ask_until_done.new.disk) (sym c.end_run.ensures.frame.telling))

@@ -5,7 +5,7 @@ use Rattle.acq_outside.proofs.method.Method.fetch.Goals as goal
 pub loop-bytes-init : goal.loop-bytes-init
 loop-bytes-init g c =
     let m = g.Self.Method in
-    first (m.faults c.args.self.now) (m.faults c.begin_replay.new.self) (m.world c.args.self.now) (m.world c.begin_replay.new.self) c.args.job.now (m.under c.begin_replay.new.self) c.in-Piece.at c.in-Piece.bytes
+    first (m.faults c.args.self.now) (m.faults c.begin.new.self) (m.world c.args.self.now) (m.world c.begin.new.self) c.args.job.now (m.under c.begin.new.self) c.in-Piece.at c.in-Piece.bytes
     c.requires.from c.in-Piece.ensures.frame.same c.in-Piece.ensures.word
 
 pub loop-bytes-preserved : goal.loop-bytes-preserved

@@ -9,6 +9,7 @@ use Rattle.update_model.specs.Walks.{target_walk}
 use Rattle.update_model.specs.Wanted.{want}
 use Rattle.update_model.specs.declared.wanted.Wanted.{Wanted}
 use Rattle.acq_base.specs.Uri.{list_name}
+use Rattle.item_graph.proofs.Theorems.{lists_ask_soundly}
 use Rattle.item_graph.specs.Refinement.{point_of, retries_of}
 use Rattle.item_graph.specs.Nexts.{point_in}
 use Rattle.item_graph.specs.Sound.{IsSoundAt}
@@ -34,4 +35,4 @@ returns-clause-sound c = λ sound short.
     let at : w.uri ≡ c.args.target.now.uri = ap (λ (w : Wanted). w.uri) c.in_ok-wanted.ensures.value in
     let small : length (list_name c.args.target.now.uri) ≤ 240 = subst (λ (name : List ℕ). length name ≤ 240) sound.named short in
     subst IsSoundAt (sym c.in_ok-list.ensures) (start-sound c.args.settings.now.retries (target_walk c.args.old c.args.part w)
-    (c.lists_ask_soundly.ensures c.args.old c.args.part w (subst IsSound (sym at) sound.uri) (c.in_ok-wanted.ensures.sound sound.uri small) (subst (λ (u : Uri). length (list_name u) ≤ 240) (sym at) small)))
+    (lists_ask_soundly c.args.old c.args.part w (subst IsSound (sym at) sound.uri) (c.in_ok-wanted.ensures.sound sound.uri small) (subst (λ (u : Uri). length (list_name u) ≤ 240) (sym at) small)))

@@ -4,7 +4,7 @@ use Rattle.acq_memory.specs.Replay.{names_in}
 use Rattle.acq_memory.specs.Replay.{nowhere}
 use Rattle.acq_outside.specs.declared.state.NameChange.TheVariants.{Made}
 use Rattle.acq_memory.proofs.Replaying.{number_step, pushed}
-use Rattle.acq_memory.proofs.replay.begin.Goals as goal
+use Rattle.acq_memory.proofs.replay.begin_replay.Goals as goal
 
 pub loop-at-preserved : goal.loop-at-preserved
 loop-at-preserved c =

@@ -2,7 +2,7 @@ use Rattle.std.proofs.Common.{◌≡◌, ◌≤◌, length, drop}
 use Rattle.acq_outside.specs.Crash.{all_renamed, number_of}
 use Rattle.acq_memory.specs.Replay.{names_in}
 use Rattle.acq_memory.specs.Replay.{nowhere}
-use Rattle.acq_memory.proofs.replay.begin.Given as goal
+use Rattle.acq_memory.proofs.replay.begin_replay.Given as goal
 
 -- the rows from the place on have their names
 abbrev pub invariant-loop-at : goal.invariant-loop-at

@@ -1,12 +1,16 @@
 -- What the crates below say, as far as a run rests on it.
+use Rattle.board_bounds.proofs.Theorems.{partial_names_are_others, planned_names_are_lists, planned_names_are_put_names}
 use Rattle.board_bounds.specs.Names.{PartialNamesAreOthers, PlannedNamesAreLists, PlannedNamesArePutNames}
+use Rattle.board_model.proofs.Theorems.{boards_stand, finished_exactly, new_boards_are_reached, new_boards_want_parts, quiet_boards_are_ready, settled_boards_are_reached, settled_boards_want_parts, settled_puts_are_wanted, settled_sources_free, sources_are_settled_once, touched_are_apart, touched_are_own}
 use Rattle.board_model.specs.CallLaws.{NewBoardsWantParts, QuietBoardsAreReady, SettledBoardsWantParts, SourcesAreSettledOnce}
 use Rattle.board_model.specs.Laws.{BoardsStand, FinishedExactly}
 use Rattle.board_model.specs.NameLaws.{SettledPutsAreWanted, SettledSourcesFree}
 use Rattle.board_model.specs.Reached.{NewBoardsAreReached, SettledBoardsAreReached}
 use Rattle.board_model.specs.SetLaws.{TouchedAreApart, TouchedAreOwn}
+use Rattle.list_commits.proofs.Theorems.{begun_commit_is_progress, gathered_are_staged, gathered_can_be_recorded, gathered_keep_others, made_commits_are_progress, made_leaves_lists, no_commit_is_progress}
 use Rattle.list_commits.specs.Made.{BegunCommitIsProgress, MadeCommitsAreProgress, MadeLeavesLists, NoCommitIsProgress}
 use Rattle.list_commits.specs.RecordLaws.{GatheredAreStaged, GatheredCanBeRecorded, GatheredKeepOthers}
+use Rattle.run_model.proofs.Theorems.{groups_stay, installed_are_once, installed_lists_are_run_input, lists_are_read, loose_lists_stay, opened_lists_are_alone}
 use Rattle.run_model.specs.Beginnings.{InstalledAreOnce, InstalledListsAreRunInput, ListsAreRead, LooseListsStay, OpenedListsAreAlone}
 use Rattle.run_model.specs.Laws.{GroupsStay}
 
@@ -50,3 +54,48 @@ pub record BeginningLaws : Type 0 where
   pub over : InstalledListsAreRunInput
   pub alone : OpenedListsAreAlone
   pub read : ListsAreRead
+
+pub settlings_known : SettlingLaws
+settlings_known = record {
+  stand = boards_stand;
+  reached = settled_boards_are_reached;
+  rest = settled_boards_want_parts;
+  once = sources_are_settled_once;
+  own = touched_are_own;
+  apart = touched_are_apart;
+}
+
+pub commits_known : CommittingLaws
+commits_known = record {
+  settling = settlings_known;
+  puts = settled_puts_are_wanted;
+  free = settled_sources_free;
+  put_names = planned_names_are_put_names;
+  list_names = planned_names_are_lists;
+  other_names = partial_names_are_others;
+  can = gathered_can_be_recorded;
+  others = gathered_keep_others;
+  staged = gathered_are_staged;
+  once = installed_are_once;
+  made = made_commits_are_progress;
+  unbegun = no_commit_is_progress;
+  begun = begun_commit_is_progress;
+  leaves = made_leaves_lists;
+  stay = groups_stay;
+  loose = loose_lists_stay;
+}
+
+pub ends_known : FinishingLaws
+ends_known = record {
+  ready = quiet_boards_are_ready;
+  exactly = finished_exactly;
+}
+
+pub beginnings_known : BeginningLaws
+beginnings_known = record {
+  reached = new_boards_are_reached;
+  rest = new_boards_want_parts;
+  over = installed_lists_are_run_input;
+  alone = opened_lists_are_alone;
+  read = lists_are_read;
+}
