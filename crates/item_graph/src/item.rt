@@ -93,7 +93,7 @@ impl Item {
     /// moves of one ask are followed, but none from http to a file. An item that has ended stays as it is. After
     /// `NoMemory` the item may only be dropped.
     pub fn answer(&mut self, alloc: Global, lane: u32, closed: Closed) -> Result<(), NoMemory>
-        ensures point_after { OnOk result (point_of self.new ≡ point_after (retries_of self.old) (point_of self.old) (record { lane = lane; closed = closed })) }
+        ensures step { OnOk result (point_of self.new ≡ point_after (retries_of self.old) (point_of self.old) (record { lane = lane; closed = closed })) }
         ensures retries { retries_of self.new ≡ retries_of self.old }
         ensures sound { IsSoundAt (point_of self.old) → IsSoundAnswer closed → OnOk result (IsSoundAt (point_of self.new)) }
     {

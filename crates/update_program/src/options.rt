@@ -5,7 +5,6 @@ ghost use Rattle.acq_outside.specs.Count.{Rose};
 ghost use Rattle.report_text.specs.Refused.{line_of};
 ghost use Rattle.update_engine.specs.Run.{KeepsMethods, engine};
 ghost use Rattle.update_program.specs.Ending.{EndsUpdateOf};
-ghost use Rattle.update_program.specs.Headline.{Promises};
 ghost use Rattle.update_program.specs.Objects.{objects, output};
 ghost use Rattle.update_program.specs.Said.{BlamesOutput, ReadsOnce, WritesFault};
 
@@ -18,40 +17,9 @@ use configuration::{ConfigurationError, configure};
 use report_text::FaultLine;
 use std::alloc::Global;
 
-/// Reads the configuration, and runs what it plans.
-pub fn run_options<E: Etc, D: Disk, M: Method, C: Clock, S: Sink>(
-    alloc: Global,
-    options: &Options,
-    etc: &mut E,
-    disk: &mut D,
-    methods: &mut Vec<M>,
-    clock: &mut C,
-    out: &mut S,
-) -> Ran
-    requires { (1 ≤ vec_len methods.old) × (vec_len methods.old ≤ 9) }
-    ensures configuration { E.files etc.new ≡ E.files etc.old }
-    ensures methods { KeepsMethods (engine D.Disk M.Method disk.old methods.old.items) (engine D.Disk M.Method disk.new methods.new.items) }
-    ensures moment { ReadsOnce (C.given clock.old) (C.given clock.new) result.log }
-    ensures disk_fault { result.status.0 ≡ 102 → Rose (D.faults disk.old) (D.faults disk.new) }
-    ensures quiet_disk { IsSome result.log → D.faults disk.new ≡ D.faults disk.old }
-    ensures sink_fault { result.status.0 ≡ 105 → Rose (S.faults out.old) (S.faults out.new) }
-    ensures quiet_sink { result.status.0 ≢ 105 → S.faults out.new ≡ S.faults out.old }
-    ensures held_fault { result.status.0 ≡ 104 → Rose (D.held disk.old) (D.held disk.new) }
-    ensures etc_fault { result.status.0 ≡ 106 → Rose (E.faults etc.old) (E.faults etc.new) }
-    ensures quiet_etc { IsSome result.log → E.faults etc.new ≡ E.faults etc.old }
-    ensures ended { EndsUpdateOf (E.files etc.old) options.now (C.last clock.new)
-        (objects D.Disk M.Method S.Sink disk.old methods.old.items out.old)
-        (objects D.Disk M.Method S.Sink disk.new methods.new.items out.new) result.log result.status.0 }
-    ensures headline { Promises (E.files etc.old) options.now (C.last clock.new)
-        (objects D.Disk M.Method S.Sink disk.old methods.old.items out.old)
-        (objects D.Disk M.Method S.Sink disk.new methods.new.items out.new) result.log result.status.0 }
-{
-    run_configured(alloc, options, etc, disk, methods, clock, out)
-}
-
-/// The same, of which the headline follows.
+/// Reads the configuration, and runs what it plans. The headline of the call above follows of how it ended.
 #[tactic(auto, using(update_engine::proofs::Lists::none_fall, crate::proofs::Endings::configured_ends, crate::proofs::Endings::refusal_ends))]
-fn run_configured<E: Etc, D: Disk, M: Method, C: Clock, S: Sink>(
+pub fn run_options<E: Etc, D: Disk, M: Method, C: Clock, S: Sink>(
     alloc: Global,
     options: &Options,
     etc: &mut E,

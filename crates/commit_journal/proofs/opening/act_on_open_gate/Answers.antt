@@ -10,8 +10,8 @@ use Rattle.commit_journal.proofs.Looks.{opened_carrying, shut_unset}
 use Rattle.commit_journal.proofs.Lists.{gate_recovered, gate_made}
 use Rattle.commit_journal.proofs.opening.act_on_open_gate.Goals as goal
 
-pub recover-requires-clause-act_on_open_gate : goal.recover-requires-clause-act_on_open_gate
-recover-requires-clause-act_on_open_gate g c = subst (λ (l : List Step). IsNow (IsCarrying l []) (g.D.Disk.trace c.read_state.new.disk)) (sym c.as_slice.ensures)
+pub recover-requires-clause-open_gate : goal.recover-requires-clause-open_gate
+recover-requires-clause-open_gate g c = subst (λ (l : List Step). IsNow (IsCarrying l []) (g.D.Disk.trace c.read_state.new.disk)) (sym c.as_slice.ensures)
     (opened_carrying (g.D.Disk.tells c.read_state.new.disk) (g.D.Disk.files c.read_state.new.disk) (g.D.Disk.trace c.read_state.new.disk) c.in-Open.steps (g.met.D.Disk.shown c.read_state.new.disk)
     (subst (λ (l : List State). IsNow IsJournalSynced l) (sym c.read_state.ensures.frame.still) c.requires)
     (λ told. sym c.in-Open.is ∙ c.in_ok-gate.ensures.told (subst (λ (b : Bool). IsTrue b) c.read_state.ensures.frame.telling told) ∙ ap (λ (f : Files). journal_state_in (f journal)) (sym c.read_state.ensures.frame.same)))

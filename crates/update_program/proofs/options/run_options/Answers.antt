@@ -1,8 +1,22 @@
-use Rattle.run_promises.proofs.Theorems.{runs_end_as_served, runs_end_as_told, runs_stop_as_served, runs_stop_with_sets}
-use Rattle.update_program.proofs.Promised.{promised}
+use Rattle.std.proofs.Common.{ap, refl, inr, Err}
+use Rattle.update_engine.proofs.Lists.{none_fall}
+use Rattle.update_program.proofs.Endings.{refusal_ends}
 use Rattle.update_program.proofs.options.run_options.Goals as goal
 
-pub returns-clause-headline : goal.returns-clause-headline
-returns-clause-headline g c =
-    let by = c.run_configured.ensures in
-    promised runs_end_as_served runs_end_as_told runs_stop_as_served runs_stop_with_sets _ _ _ _ _ _ by.methods _ by.ended
+pub returns-in-Err : goal.returns-in-Err
+returns-in-Err g c =
+    let by = c.refuse.ensures in
+    let read = c.in-Err.ensures in
+    record {
+      configuration = read.frame.same;
+      methods = record { mirrors = refl; counts = none_fall _ };
+      moment = inr (rw by.log refl, refl);
+      disk_fault = λ e. absurd (by.no_disk_fault e);
+      quiet_disk = λ some. let never = rw by.log at some in absurd cc;
+      sink_fault = by.frame.fault;
+      quiet_sink = by.frame.quiet;
+      held_fault = λ e. absurd (by.not_held e);
+      etc_fault = λ e. read.frame.fault (ap Err (by.etc_fault e));
+      quiet_etc = λ some. let never = rw by.log at some in absurd cc;
+      ended = refusal_ends _ _ _ c.in-Err.refusal _ _ _ _ read.answer by.said (record { no_log = by.log; still = refl; files = refl; mirrors = refl; methods = refl });
+    }
