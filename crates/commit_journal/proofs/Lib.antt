@@ -13,6 +13,7 @@ mod Turns
 mod Finds
 mod Lists
 mod Others
+mod Moved
 mod Recordable
 mod Stepping
 mod Opens

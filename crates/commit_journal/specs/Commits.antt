@@ -6,14 +6,21 @@ use Rattle.acq_outside.specs.States.{IsNow, Since}
 use Rattle.journal_model.specs.Names.{journal, partial}
 use Rattle.journal_model.specs.Spelling.{body_of}
 use Rattle.journal_model.specs.Reopen.{CrashLeaves, CrashLeavesEither}
-use Rattle.journal_model.specs.Rest.{IsSynced, IsAtRest, IsPartSynced, file_named, file_now, bytes_in}
+use Rattle.journal_model.specs.Rest.{IsIdle, IsSynced, IsAtRest, IsPartSynced, file_named, file_now, bytes_in}
 use Rattle.commit_journal.specs.declared.changing.Change.{Change}
 use Rattle.commit_journal.specs.declared.changing.Change.TheVariants.{Put, Drop}
-use Rattle.commit_journal.specs.Changes.{Filled, content_of, steps_in, after_commit, all_changes, all_changed_names, IsNone, CanRecord}
+use Rattle.commit_journal.specs.Changes.{Filled, content_of, steps_in, after_commit, all_changes, all_changed_names, IsNone, CanRecord, AreAllStaged}
 
 -- a prepared commit: its changes, in groups
 pub record PreparedOf : Type 0 where
   pub groups : List (List Change)
+
+-- A commit of these groups may be prepared: they can be recorded, each staged file is there and lasts, and the journal is
+-- open for commits.
+pub record CanPrepare (groups : List (List Change)) (trace : List State) : Type 0 where
+  pub changes : CanRecord groups
+  pub staged : IsNow (AreAllStaged groups) trace
+  pub idle : IsNow IsIdle trace
 
 -- what reads give of a list on its way; nothing where there is none
 abbrev pub parts_of : State → List ℕ → List ℕ

@@ -9,3 +9,4 @@ pub mod Runs
 pub mod Phases
 pub mod Turning
 pub mod Laying
+pub mod Moves

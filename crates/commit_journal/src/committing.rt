@@ -1,14 +1,15 @@
 //! A prepared commit is made: the gate before its record is opened, the record carried out, and the gate closed.
 ghost use Rattle.std.specs.Prelude.{◌≡◌, ◌≤◌, ◌+◌, length, [], OnOk, OnErr, Err};
 ghost use Rattle.acq_outside.specs.Stays.{Stays};
-ghost use Rattle.acq_outside.specs.States.{IsNow, Since, From};
+ghost use Rattle.acq_outside.specs.States.{IsNow, Since};
 ghost use Rattle.journal_model.specs.Spelling.{all_steps};
 ghost use Rattle.journal_model.specs.Rest.{IsIdle, IsSynced, part_bytes};
-ghost use Rattle.commit_journal.specs.Opening.{Recovers, KeepsFilesBut};
+ghost use Rattle.commit_journal.specs.Opening.{KeepsFilesBut};
 ghost use Rattle.commit_journal.specs.Changes.{filled_all, steps_in};
 ghost use Rattle.commit_journal.specs.Commits.{IsPrepared, CrashLeavesBeforeOrAfter, CommitsAtWrite, IsAtRestAfter, KeepsUnchangedFiles, HasMoreStates};
 ghost use Rattle.commit_journal.specs.Phases.{IsCarrying, IsOfCommit};
 ghost use Rattle.commit_journal.specs.Turning.{IsOpening, IsGateWritten, CommitsOnceSynced, IsGateSynced};
+ghost use Rattle.commit_journal.specs.Moves.{Recovering};
 
 use crate::recovery::recover;
 use crate::{Journal, JournalError, Prepared};
@@ -27,7 +28,8 @@ fn write_gate<D: Disk>(disk: &mut D, prepared: &Prepared) -> Result<(), Fault>
     ensures settled { IsNow IsSynced (D.trace disk.old) → IsNow IsSynced (D.trace disk.new) }
     ensures others { KeepsFilesBut (IsOfCommit (all_steps (steps_in prepared.now.groups))) (D.trace disk.old) (D.trace disk.new) }
     ensures over { OnOk result (IsNow
-        (IsGateWritten prepared.now.groups (filled_all (part_bytes (D.trace disk.old)) prepared.now.groups) (D.trace disk.old)) (D.trace disk.new)) }
+        (IsGateWritten prepared.now.groups (filled_all (part_bytes (D.trace disk.old)) prepared.now.groups) (D.trace disk.old))
+        (D.trace disk.new)) }
     ensures done { OnOk result (IsNow (IsOpening prepared.now.groups) (D.trace disk.new)) }
 {
     disk.write_at(b"journal".as_slice(), 0, &[1])
@@ -39,11 +41,10 @@ fn sync_open_gate<D: Disk>(disk: &mut D, prepared: &Prepared) -> Result<(), Faul
 
     ensures frame { Stays D.Disk disk.old disk.new result }
 
-    ensures recovers { Since (D.trace disk.old) (D.trace disk.new) (From Recovers (D.trace disk.old)) }
+    ensures moves { Recovering (IsOfCommit (all_steps (steps_in prepared.now.groups)))
+        (IsCarrying (all_steps (steps_in prepared.now.groups)) []) D.Disk disk.old disk.new result }
     ensures opens { Since (D.trace disk.old) (D.trace disk.new) (CommitsOnceSynced prepared.now.groups (D.trace disk.old)) }
     ensures new { OnOk result (IsNow (CommitsOnceSynced prepared.now.groups (D.trace disk.old)) (D.trace disk.new)) }
-    ensures others { KeepsFilesBut (IsOfCommit (all_steps (steps_in prepared.now.groups))) (D.trace disk.old) (D.trace disk.new) }
-    ensures done { OnOk result (IsNow (IsCarrying (all_steps (steps_in prepared.now.groups)) []) (D.trace disk.new)) }
 {
     disk.sync(b"journal".as_slice())
 }
@@ -57,12 +58,14 @@ fn open_gate<D: Disk>(disk: &mut D, prepared: &Prepared) -> Result<(), Fault>
 
     ensures moments { Since (D.trace disk.old) (D.trace disk.new)
         (CrashLeavesBeforeOrAfter prepared.now.groups (filled_all (part_bytes (D.trace disk.old)) prepared.now.groups) (D.trace disk.old)) }
-    ensures turns { CommitsAtWrite prepared.now.groups (filled_all (part_bytes (D.trace disk.old)) prepared.now.groups) (D.trace disk.old) (D.trace disk.new) }
+    ensures turns { CommitsAtWrite prepared.now.groups (filled_all (part_bytes (D.trace disk.old)) prepared.now.groups)
+        (D.trace disk.old) (D.trace disk.new) }
     ensures later { OnOk result (HasMoreStates (D.trace disk.old) (D.trace disk.new)) }
     ensures settled { IsNow IsSynced (D.trace disk.old) → IsNow IsSynced (D.trace disk.new) }
     ensures others { KeepsFilesBut (IsOfCommit (all_steps (steps_in prepared.now.groups))) (D.trace disk.old) (D.trace disk.new) }
     ensures over { OnOk result (IsNow
-        (IsGateSynced prepared.now.groups (filled_all (part_bytes (D.trace disk.old)) prepared.now.groups) (D.trace disk.old)) (D.trace disk.new)) }
+        (IsGateSynced prepared.now.groups (filled_all (part_bytes (D.trace disk.old)) prepared.now.groups) (D.trace disk.old))
+        (D.trace disk.new)) }
     ensures done { OnOk result (IsNow (IsCarrying (all_steps (steps_in prepared.now.groups)) []) (D.trace disk.new)) }
 {
     write_gate(disk, prepared)?;
@@ -74,9 +77,7 @@ fn open_gate<D: Disk>(disk: &mut D, prepared: &Prepared) -> Result<(), Fault>
 fn carry_out<D: Disk>(disk: &mut D, prepared: &Prepared) -> Result<(), Fault>
     requires { IsNow (IsCarrying (all_steps (steps_in prepared.now.groups)) []) (D.trace disk.old) }
     ensures frame { Stays D.Disk disk.old disk.new result }
-    ensures moments { Since (D.trace disk.old) (D.trace disk.new) (From Recovers (D.trace disk.old)) }
-    ensures others { KeepsFilesBut (IsOfCommit (all_steps (steps_in prepared.now.groups))) (D.trace disk.old) (D.trace disk.new) }
-    ensures done { OnOk result (IsNow IsIdle (D.trace disk.new)) }
+    ensures moves { Recovering (IsOfCommit (all_steps (steps_in prepared.now.groups))) IsIdle D.Disk disk.old disk.new result }
 {
     recover(disk, prepared.steps.as_slice())
 }
@@ -100,7 +101,8 @@ pub fn commit<D: Disk>(
 
     ensures moments { Since (D.trace disk.old) (D.trace disk.new)
         (CrashLeavesBeforeOrAfter prepared.groups (filled_all (part_bytes (D.trace disk.old)) prepared.groups) (D.trace disk.old)) }
-    ensures turns { CommitsAtWrite prepared.groups (filled_all (part_bytes (D.trace disk.old)) prepared.groups) (D.trace disk.old) (D.trace disk.new) }
+    ensures turns { CommitsAtWrite prepared.groups (filled_all (part_bytes (D.trace disk.old)) prepared.groups)
+        (D.trace disk.old) (D.trace disk.new) }
     ensures rests { OnOk result (IsNow
         (IsAtRestAfter prepared.groups (filled_all (part_bytes (D.trace disk.old)) prepared.groups) (D.trace disk.old)) (D.trace disk.new)) }
     ensures idle { OnOk result (IsNow IsIdle (D.trace disk.new)) }

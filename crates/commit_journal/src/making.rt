@@ -3,21 +3,19 @@
 ghost use Rattle.std.specs.Prelude.{◌≡◌, [], ◌∷◌, OnOk, IsTrue};
 ghost use Rattle.acq_outside.specs.Stays.{Stays};
 ghost use Rattle.acq_outside.specs.Disk.{after_cut, after_write, after_rename};
-ghost use Rattle.acq_outside.specs.States.{IsNow, Since, From};
+ghost use Rattle.acq_outside.specs.States.{IsNow};
 ghost use Rattle.journal_model.specs.Names.{journal, new_journal};
 ghost use Rattle.journal_model.specs.Rest.{IsIdle};
-ghost use Rattle.commit_journal.specs.Opening.{Recovers, KeepsFilesBut};
 ghost use Rattle.commit_journal.specs.Phases.{HasNoOpenGate, HasNewJournal, HasNewJournalSynced, IsNamed, IsOfMaking, made_files};
+ghost use Rattle.commit_journal.specs.Moves.{Recovering};
 
 use acq_outside::{Disk, Fault};
 
 fn cut_beside<D: Disk>(disk: &mut D) -> Result<(), Fault>
     requires { IsNow HasNoOpenGate (D.trace disk.old) }
     ensures frame { Stays D.Disk disk.old disk.new result }
-    ensures moments { Since (D.trace disk.old) (D.trace disk.new) (From Recovers (D.trace disk.old)) }
-    ensures others { KeepsFilesBut IsOfMaking (D.trace disk.old) (D.trace disk.new) }
     ensures told { IsTrue (D.tells disk.old) → OnOk result (D.files disk.new ≡ after_cut (D.files disk.old) new_journal 0) }
-    ensures done { OnOk result (IsNow (HasNewJournal []) (D.trace disk.new)) }
+    ensures moves { Recovering IsOfMaking (HasNewJournal []) D.Disk disk.old disk.new result }
 {
     disk.cut(b"partial/journal".as_slice(), 0)
 }
@@ -25,10 +23,8 @@ fn cut_beside<D: Disk>(disk: &mut D) -> Result<(), Fault>
 fn write_beside<D: Disk>(disk: &mut D) -> Result<(), Fault>
     requires { IsNow (HasNewJournal []) (D.trace disk.old) }
     ensures frame { Stays D.Disk disk.old disk.new result }
-    ensures moments { Since (D.trace disk.old) (D.trace disk.new) (From Recovers (D.trace disk.old)) }
-    ensures others { KeepsFilesBut IsOfMaking (D.trace disk.old) (D.trace disk.new) }
     ensures told { IsTrue (D.tells disk.old) → OnOk result (D.files disk.new ≡ after_write (D.files disk.old) new_journal 0 (0 ∷ [])) }
-    ensures done { OnOk result (IsNow (HasNewJournal (0 ∷ [])) (D.trace disk.new)) }
+    ensures moves { Recovering IsOfMaking (HasNewJournal (0 ∷ [])) D.Disk disk.old disk.new result }
 {
     disk.write_at(b"partial/journal".as_slice(), 0, &[0])
 }
@@ -36,10 +32,8 @@ fn write_beside<D: Disk>(disk: &mut D) -> Result<(), Fault>
 fn sync_beside<D: Disk>(disk: &mut D) -> Result<(), Fault>
     requires { IsNow (HasNewJournal (0 ∷ [])) (D.trace disk.old) }
     ensures frame { Stays D.Disk disk.old disk.new result }
-    ensures moments { Since (D.trace disk.old) (D.trace disk.new) (From Recovers (D.trace disk.old)) }
-    ensures others { KeepsFilesBut IsOfMaking (D.trace disk.old) (D.trace disk.new) }
     ensures same { D.files disk.new ≡ D.files disk.old }
-    ensures done { OnOk result (IsNow HasNewJournalSynced (D.trace disk.new)) }
+    ensures moves { Recovering IsOfMaking HasNewJournalSynced D.Disk disk.old disk.new result }
 {
     disk.sync(b"partial/journal".as_slice())
 }
@@ -48,10 +42,8 @@ fn sync_beside<D: Disk>(disk: &mut D) -> Result<(), Fault>
 fn name_it<D: Disk>(disk: &mut D) -> Result<(), Fault>
     requires { IsNow HasNewJournalSynced (D.trace disk.old) }
     ensures frame { Stays D.Disk disk.old disk.new result }
-    ensures moments { Since (D.trace disk.old) (D.trace disk.new) (From Recovers (D.trace disk.old)) }
-    ensures others { KeepsFilesBut IsOfMaking (D.trace disk.old) (D.trace disk.new) }
     ensures told { IsTrue (D.tells disk.old) → OnOk result (D.files disk.new ≡ after_rename (D.files disk.old) new_journal journal) }
-    ensures done { OnOk result (IsNow IsNamed (D.trace disk.new)) }
+    ensures moves { Recovering IsOfMaking IsNamed D.Disk disk.old disk.new result }
 {
     disk.rename(b"partial/journal".as_slice(), b"journal".as_slice())
 }
@@ -59,10 +51,8 @@ fn name_it<D: Disk>(disk: &mut D) -> Result<(), Fault>
 fn name_lastingly<D: Disk>(disk: &mut D) -> Result<(), Fault>
     requires { IsNow IsNamed (D.trace disk.old) }
     ensures frame { Stays D.Disk disk.old disk.new result }
-    ensures moments { Since (D.trace disk.old) (D.trace disk.new) (From Recovers (D.trace disk.old)) }
-    ensures others { KeepsFilesBut IsOfMaking (D.trace disk.old) (D.trace disk.new) }
     ensures same { D.files disk.new ≡ D.files disk.old }
-    ensures done { OnOk result (IsNow IsIdle (D.trace disk.new)) }
+    ensures moves { Recovering IsOfMaking IsIdle D.Disk disk.old disk.new result }
 {
     disk.sync_names()
 }
@@ -72,10 +62,9 @@ fn name_lastingly<D: Disk>(disk: &mut D) -> Result<(), Fault>
 fn make_beside<D: Disk>(disk: &mut D) -> Result<(), Fault>
     requires { IsNow HasNoOpenGate (D.trace disk.old) }
     ensures frame { Stays D.Disk disk.old disk.new result }
-    ensures moments { Since (D.trace disk.old) (D.trace disk.new) (From Recovers (D.trace disk.old)) }
-    ensures others { KeepsFilesBut IsOfMaking (D.trace disk.old) (D.trace disk.new) }
-    ensures told { IsTrue (D.tells disk.old) → OnOk result (D.files disk.new ≡ after_write (after_cut (D.files disk.old) new_journal 0) new_journal 0 (0 ∷ [])) }
-    ensures done { OnOk result (IsNow HasNewJournalSynced (D.trace disk.new)) }
+    ensures told { IsTrue (D.tells disk.old)
+        → OnOk result (D.files disk.new ≡ after_write (after_cut (D.files disk.old) new_journal 0) new_journal 0 (0 ∷ [])) }
+    ensures moves { Recovering IsOfMaking HasNewJournalSynced D.Disk disk.old disk.new result }
 {
     cut_beside(disk)?;
     write_beside(disk)?;
@@ -87,10 +76,8 @@ fn make_beside<D: Disk>(disk: &mut D) -> Result<(), Fault>
 pub fn make_new<D: Disk>(disk: &mut D) -> Result<(), Fault>
     requires { IsNow HasNoOpenGate (D.trace disk.old) }
     ensures frame { Stays D.Disk disk.old disk.new result }
-    ensures moments { Since (D.trace disk.old) (D.trace disk.new) (From Recovers (D.trace disk.old)) }
-    ensures others { KeepsFilesBut IsOfMaking (D.trace disk.old) (D.trace disk.new) }
     ensures told { IsTrue (D.tells disk.old) → OnOk result (D.files disk.new ≡ made_files (D.files disk.old)) }
-    ensures done { OnOk result (IsNow IsIdle (D.trace disk.new)) }
+    ensures moves { Recovering IsOfMaking IsIdle D.Disk disk.old disk.new result }
 {
     make_beside(disk)?;
     name_it(disk)?;

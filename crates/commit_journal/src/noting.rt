@@ -1,11 +1,10 @@
 //! A record is written behind the closed gate.
-ghost use Rattle.std.specs.Prelude.{[], ◌∷◌, OnOk};
+ghost use Rattle.std.specs.Prelude.{[], ◌∷◌};
 ghost use Rattle.acq_outside.specs.Stays.{Stays};
-ghost use Rattle.acq_outside.specs.States.{IsNow, Since};
-ghost use Rattle.journal_model.specs.Rest.{IsIdle, KeptAtRestSince};
-ghost use Rattle.commit_journal.specs.Opening.{KeepsFilesBut};
-ghost use Rattle.commit_journal.specs.Phases.{IsOfCommit};
+ghost use Rattle.acq_outside.specs.States.{IsNow};
+ghost use Rattle.journal_model.specs.Rest.{IsIdle};
 ghost use Rattle.commit_journal.specs.Laying.{IsIdleUnmoved, HasRecordWritten, HasRecordSynced};
+ghost use Rattle.commit_journal.specs.Moves.{Noting};
 
 use acq_outside::{Disk, Fault};
 
@@ -13,9 +12,7 @@ use acq_outside::{Disk, Fault};
 fn sync_journal_names<D: Disk>(disk: &mut D) -> Result<(), Fault>
     requires { IsNow IsIdle (D.trace disk.old) }
     ensures frame { Stays D.Disk disk.old disk.new result }
-    ensures moments { Since (D.trace disk.old) (D.trace disk.new) (KeptAtRestSince (D.trace disk.old)) }
-    ensures others { KeepsFilesBut (IsOfCommit []) (D.trace disk.old) (D.trace disk.new) }
-    ensures done { OnOk result (IsNow IsIdleUnmoved (D.trace disk.new)) }
+    ensures moves { Noting IsIdleUnmoved D.Disk disk.old disk.new result }
 {
     disk.sync_names()
 }
@@ -24,9 +21,7 @@ fn sync_journal_names<D: Disk>(disk: &mut D) -> Result<(), Fault>
 fn cut_journal<D: Disk>(disk: &mut D) -> Result<(), Fault>
     requires { IsNow IsIdleUnmoved (D.trace disk.old) }
     ensures frame { Stays D.Disk disk.old disk.new result }
-    ensures moments { Since (D.trace disk.old) (D.trace disk.new) (KeptAtRestSince (D.trace disk.old)) }
-    ensures others { KeepsFilesBut (IsOfCommit []) (D.trace disk.old) (D.trace disk.new) }
-    ensures done { OnOk result (IsNow (HasRecordWritten (0 ∷ [])) (D.trace disk.new)) }
+    ensures moves { Noting (HasRecordWritten (0 ∷ [])) D.Disk disk.old disk.new result }
 {
     disk.cut(b"journal".as_slice(), 1)
 }
@@ -34,9 +29,7 @@ fn cut_journal<D: Disk>(disk: &mut D) -> Result<(), Fault>
 fn write_journal<D: Disk>(disk: &mut D, body: &[u8]) -> Result<(), Fault>
     requires { IsNow (HasRecordWritten (0 ∷ [])) (D.trace disk.old) }
     ensures frame { Stays D.Disk disk.old disk.new result }
-    ensures moments { Since (D.trace disk.old) (D.trace disk.new) (KeptAtRestSince (D.trace disk.old)) }
-    ensures others { KeepsFilesBut (IsOfCommit []) (D.trace disk.old) (D.trace disk.new) }
-    ensures done { OnOk result (IsNow (HasRecordWritten (0 ∷ body.now)) (D.trace disk.new)) }
+    ensures moves { Noting (HasRecordWritten (0 ∷ body.now)) D.Disk disk.old disk.new result }
 {
     disk.write_at(b"journal".as_slice(), 1, body)
 }
@@ -44,9 +37,7 @@ fn write_journal<D: Disk>(disk: &mut D, body: &[u8]) -> Result<(), Fault>
 fn sync_journal<D: Disk>(disk: &mut D, body: &[u8]) -> Result<(), Fault>
     requires { IsNow (HasRecordWritten (0 ∷ body.now)) (D.trace disk.old) }
     ensures frame { Stays D.Disk disk.old disk.new result }
-    ensures moments { Since (D.trace disk.old) (D.trace disk.new) (KeptAtRestSince (D.trace disk.old)) }
-    ensures others { KeepsFilesBut (IsOfCommit []) (D.trace disk.old) (D.trace disk.new) }
-    ensures done { OnOk result (IsNow (HasRecordSynced (0 ∷ body.now)) (D.trace disk.new)) }
+    ensures moves { Noting (HasRecordSynced (0 ∷ body.now)) D.Disk disk.old disk.new result }
 {
     disk.sync(b"journal".as_slice())
 }
@@ -56,9 +47,7 @@ fn sync_journal<D: Disk>(disk: &mut D, body: &[u8]) -> Result<(), Fault>
 fn write_body<D: Disk>(disk: &mut D, body: &[u8]) -> Result<(), Fault>
     requires { IsNow IsIdleUnmoved (D.trace disk.old) }
     ensures frame { Stays D.Disk disk.old disk.new result }
-    ensures moments { Since (D.trace disk.old) (D.trace disk.new) (KeptAtRestSince (D.trace disk.old)) }
-    ensures others { KeepsFilesBut (IsOfCommit []) (D.trace disk.old) (D.trace disk.new) }
-    ensures done { OnOk result (IsNow (HasRecordSynced (0 ∷ body.now)) (D.trace disk.new)) }
+    ensures moves { Noting (HasRecordSynced (0 ∷ body.now)) D.Disk disk.old disk.new result }
 {
     cut_journal(disk)?;
     write_journal(disk, body)?;
@@ -70,9 +59,7 @@ fn write_body<D: Disk>(disk: &mut D, body: &[u8]) -> Result<(), Fault>
 pub fn write_record<D: Disk>(disk: &mut D, body: &[u8]) -> Result<(), Fault>
     requires { IsNow IsIdle (D.trace disk.old) }
     ensures frame { Stays D.Disk disk.old disk.new result }
-    ensures moments { Since (D.trace disk.old) (D.trace disk.new) (KeptAtRestSince (D.trace disk.old)) }
-    ensures others { KeepsFilesBut (IsOfCommit []) (D.trace disk.old) (D.trace disk.new) }
-    ensures done { OnOk result (IsNow (HasRecordSynced (0 ∷ body.now)) (D.trace disk.new)) }
+    ensures moves { Noting (HasRecordSynced (0 ∷ body.now)) D.Disk disk.old disk.new result }
 {
     sync_journal_names(disk)?;
     write_body(disk, body)

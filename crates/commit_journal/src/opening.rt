@@ -6,8 +6,9 @@ ghost use Rattle.journal_model.specs.Names.{journal};
 ghost use Rattle.journal_model.specs.Reading.{journal_state_in};
 ghost use Rattle.journal_model.specs.Rest.{IsIdle, IsSynced, IsAtRest};
 ghost use Rattle.journal_model.specs.Reopen.{reopened, installed_now};
-ghost use Rattle.commit_journal.specs.Opening.{Recovers, KeepsFilesBut, IsOfOpening, FindsDamage, damage_of, is_open};
+ghost use Rattle.commit_journal.specs.Opening.{Recovers, KeepsFilesBut, IsOfOpening, Finds, Opens, is_open};
 ghost use Rattle.commit_journal.specs.Phases.{NoNamePending, IsJournalSynced, IsFirst, IsFirstOf, IsOfCommit, NamesSteps};
+ghost use Rattle.commit_journal.specs.Moves.{Recovering};
 
 use crate::JournalError;
 use crate::making::make_new;
@@ -38,9 +39,7 @@ pub enum FirstByte {
 fn sync_found_names<D: Disk>(disk: &mut D) -> Result<(), Fault>
     ensures frame { Stays D.Disk disk.old disk.new result }
     ensures same { D.files disk.new ≡ D.files disk.old }
-    ensures others { KeepsFilesBut (IsOfCommit []) (D.trace disk.old) (D.trace disk.new) }
-    ensures moments { Since (D.trace disk.old) (D.trace disk.new) (From Recovers (D.trace disk.old)) }
-    ensures done { OnOk result (IsNow NoNamePending (D.trace disk.new)) }
+    ensures moves { Recovering (IsOfCommit []) NoNamePending D.Disk disk.old disk.new result }
 {
     disk.sync_names()
 }
@@ -50,9 +49,7 @@ fn sync_found_journal<D: Disk>(disk: &mut D) -> Result<(), Fault>
     requires { IsNow NoNamePending (D.trace disk.old) }
     ensures frame { Stays D.Disk disk.old disk.new result }
     ensures same { D.files disk.new ≡ D.files disk.old }
-    ensures others { KeepsFilesBut (IsOfCommit []) (D.trace disk.old) (D.trace disk.new) }
-    ensures moments { Since (D.trace disk.old) (D.trace disk.new) (From Recovers (D.trace disk.old)) }
-    ensures done { OnOk result (IsNow IsJournalSynced (D.trace disk.new)) }
+    ensures moves { Recovering (IsOfCommit []) IsJournalSynced D.Disk disk.old disk.new result }
 {
     disk.sync(b"journal".as_slice())
 }
@@ -61,9 +58,7 @@ fn sync_found_journal<D: Disk>(disk: &mut D) -> Result<(), Fault>
 fn sync_found<D: Disk>(disk: &mut D) -> Result<(), Fault>
     ensures frame { Stays D.Disk disk.old disk.new result }
     ensures same { D.files disk.new ≡ D.files disk.old }
-    ensures others { KeepsFilesBut (IsOfCommit []) (D.trace disk.old) (D.trace disk.new) }
-    ensures moments { Since (D.trace disk.old) (D.trace disk.new) (From Recovers (D.trace disk.old)) }
-    ensures done { OnOk result (IsNow IsJournalSynced (D.trace disk.new)) }
+    ensures moves { Recovering (IsOfCommit []) IsJournalSynced D.Disk disk.old disk.new result }
 {
     sync_found_names(disk)?;
     sync_found_journal(disk)
@@ -115,13 +110,11 @@ fn act_on_open_gate<D: Disk>(alloc: Global, disk: &mut D) -> Result<(), JournalE
     requires { IsNow IsJournalSynced (D.trace disk.old) }
 
     ensures frame { StaysCounting JournalError.DiskFault D.Disk disk.old disk.new result }
-    ensures unchanged { (at : ℕ) → result ≡ Err (JournalError.BadJournal at) → D.files disk.new ≡ D.files disk.old }
-
-    ensures lists { IsTrue (D.tells disk.old) → OnOk result (reopened (D.files disk.new) ≡ reopened (D.files disk.old)) }
-    ensures damage { IsTrue (D.tells disk.old) → FindsDamage (damage_of (D.files disk.old)) result }
+    ensures finds { Finds D.Disk disk.old disk.new result }
 
     ensures moments { Since (D.trace disk.old) (D.trace disk.new) (From Recovers (D.trace disk.old)) }
-    ensures others { IsTrue (D.tells disk.old) → is_open (D.files disk.old journal) ≡ true → KeepsFilesBut (IsOfOpening (D.files disk.old journal)) (D.trace disk.old) (D.trace disk.new) }
+    ensures others { IsTrue (D.tells disk.old) → is_open (D.files disk.old journal) ≡ true
+        → KeepsFilesBut (IsOfOpening (D.files disk.old journal)) (D.trace disk.old) (D.trace disk.new) }
     ensures done { OnOk result (IsNow IsIdle (D.trace disk.new)) }
 {
     let gate = read_state(alloc, disk)?;
@@ -142,15 +135,7 @@ fn act_on_open_gate<D: Disk>(alloc: Global, disk: &mut D) -> Result<(), JournalE
 #[tactic(auto, using(crate::proofs::Recovers::onwards))]
 fn open_whole<D: Disk>(alloc: Global, disk: &mut D) -> Result<Journal, JournalError>
     ensures frame { StaysCounting JournalError.DiskFault D.Disk disk.old disk.new result }
-    ensures unchanged { (at : ℕ) → result ≡ Err (JournalError.BadJournal at) → D.files disk.new ≡ D.files disk.old }
-
-    ensures lists { IsTrue (D.tells disk.old) → OnOk result (reopened (D.files disk.new) ≡ reopened (D.files disk.old)) }
-    ensures damage { IsTrue (D.tells disk.old) → FindsDamage (damage_of (D.files disk.old)) result }
-    ensures thrifty { IsTrue (D.tells disk.old) → is_open (D.files disk.old journal) ≡ false → result ≢ Err JournalError.NoMemory }
-
-    ensures recovers { Since (D.trace disk.old) (D.trace disk.new) (From Recovers (D.trace disk.old)) }
-    ensures others { IsTrue (D.tells disk.old) → KeepsFilesBut (IsOfOpening (D.files disk.old journal)) (D.trace disk.old) (D.trace disk.new) }
-    ensures idle { OnOk result (IsNow IsIdle (D.trace disk.new)) }
+    ensures opens { Opens D.Disk disk.old disk.new result }
 {
     sync_found(disk)?;
     let found = first_byte(disk)?;
@@ -173,17 +158,11 @@ fn open_whole<D: Disk>(alloc: Global, disk: &mut D) -> Result<Journal, JournalEr
 /// `BadJournal` comes just where the first byte is 1 and the others are no record. Where it isn't 1, no memory is taken.
 pub fn open_journal<D: Disk>(alloc: Global, disk: &mut D) -> Result<Journal, JournalError>
     ensures frame { StaysCounting JournalError.DiskFault D.Disk disk.old disk.new result }
-    ensures unchanged { (at : ℕ) → result ≡ Err (JournalError.BadJournal at) → D.files disk.new ≡ D.files disk.old }
+    ensures opens { Opens D.Disk disk.old disk.new result }
 
-    ensures lists { IsTrue (D.tells disk.old) → OnOk result (reopened (D.files disk.new) ≡ reopened (D.files disk.old)) }
-    ensures damage { IsTrue (D.tells disk.old) → FindsDamage (damage_of (D.files disk.old)) result }
-    ensures thrifty { IsTrue (D.tells disk.old) → is_open (D.files disk.old journal) ≡ false → result ≢ Err JournalError.NoMemory }
-
-    ensures recovers { Since (D.trace disk.old) (D.trace disk.new) (From Recovers (D.trace disk.old)) }
     ensures settled { IsNow IsSynced (D.trace disk.old) → IsNow IsSynced (D.trace disk.new) }
-    ensures others { IsTrue (D.tells disk.old) → KeepsFilesBut (IsOfOpening (D.files disk.old journal)) (D.trace disk.old) (D.trace disk.new) }
-    ensures idle { OnOk result (IsNow IsIdle (D.trace disk.new)) }
-    ensures rests { IsNow IsSynced (D.trace disk.old) → OnOk result (IsNow (IsAtRest (installed_now (D.trace disk.old))) (D.trace disk.new)) }
+    ensures rests { IsNow IsSynced (D.trace disk.old)
+        → OnOk result (IsNow (IsAtRest (installed_now (D.trace disk.old))) (D.trace disk.new)) }
 {
     open_whole(alloc, disk)
 }

@@ -2,10 +2,11 @@
 ghost use Rattle.std.specs.Prelude.{◌≡◌, ◌≢◌, ◌∷◌, OnOk, IfOk, IsErrOf, Err, ℕ};
 ghost use Rattle.acq_outside.specs.Stays.{Stays, StaysCounting};
 ghost use Rattle.acq_outside.specs.States.{IsNow, Since};
-ghost use Rattle.journal_model.specs.Rest.{IsIdle, IsSynced, KeptAtRestSince, part_bytes};
-ghost use Rattle.commit_journal.specs.Changes.{filled_all, all_changes, CanRecord, AreAllStaged};
-ghost use Rattle.commit_journal.specs.Commits.{IsPrepared, CrashKeepsInstalled, PreparedAfter, KeepsUnchangedFiles};
+ghost use Rattle.journal_model.specs.Rest.{IsSynced, KeptAtRestSince, part_bytes};
+ghost use Rattle.commit_journal.specs.Changes.{filled_all, all_changes};
+ghost use Rattle.commit_journal.specs.Commits.{CanPrepare, IsPrepared, CrashKeepsInstalled, PreparedAfter, KeepsUnchangedFiles};
 ghost use Rattle.commit_journal.specs.Laying.{AreFilledFrom, HasRecordSynced};
+ghost use Rattle.commit_journal.specs.Moves.{Resting};
 
 use crate::filling::fill_all;
 use crate::noting::write_record;
@@ -22,14 +23,10 @@ fn write_parts_and_record<D: Disk>(
     groups: &[Row<Change>],
     body: &[u8],
 ) -> Result<(), Fault>
-    requires changes { CanRecord groups.now }
-    requires staged { IsNow (AreAllStaged groups.now) (D.trace disk.old) }
-    requires idle { IsNow IsIdle (D.trace disk.old) }
+    requires { CanPrepare groups.now (D.trace disk.old) }
     ensures frame { Stays D.Disk disk.old disk.new result }
-    ensures moments { Since (D.trace disk.old) (D.trace disk.new) (KeptAtRestSince (D.trace disk.old)) }
-    ensures others { KeepsUnchangedFiles groups.now (D.trace disk.old) (D.trace disk.new) }
+    ensures moves { Resting (KeepsUnchangedFiles groups.now) (HasRecordSynced (0 ∷ body.now)) D.Disk disk.old disk.new result }
     ensures filled { OnOk result (IsNow (AreFilledFrom (part_bytes (D.trace disk.old)) (all_changes groups.now)) (D.trace disk.new)) }
-    ensures noted { OnOk result (IsNow (HasRecordSynced (0 ∷ body.now)) (D.trace disk.new)) }
 {
     fill_all(disk, groups)?;
     write_record(disk, body)
@@ -48,9 +45,7 @@ pub fn prepare<D: Disk>(
     disk: &mut D,
     groups: Row<Row<Change>>,
 ) -> Result<Prepared, JournalError>
-    requires changes { CanRecord groups }
-    requires staged { IsNow (AreAllStaged groups) (D.trace disk.old) }
-    requires idle { IsNow IsIdle (D.trace disk.old) }
+    requires { CanPrepare groups (D.trace disk.old) }
 
     ensures frame { StaysCounting JournalError.DiskFault D.Disk disk.old disk.new result }
     ensures undamaged { (at : ℕ) → result ≢ Err (JournalError.BadJournal at) }

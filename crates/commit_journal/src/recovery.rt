@@ -2,11 +2,11 @@
 ghost use Rattle.std.specs.Prelude.{◌≡◌, [], OnOk, IsTrue};
 ghost use Rattle.acq_outside.specs.Stays.{Stays};
 ghost use Rattle.acq_outside.specs.Crash.{Goes};
-ghost use Rattle.acq_outside.specs.States.{IsNow, Since, From};
+ghost use Rattle.acq_outside.specs.States.{IsNow};
 ghost use Rattle.journal_model.specs.Rest.{IsIdle};
 ghost use Rattle.journal_model.specs.Steps.{after_step, after_steps, IsNamedStep};
-ghost use Rattle.commit_journal.specs.Opening.{Recovers, KeepsFilesBut};
 ghost use Rattle.commit_journal.specs.Phases.{IsCarrying, IsDone, IsGateBeingShut, IsOfCommit, AllNamed, call_of, shut_files};
+ghost use Rattle.commit_journal.specs.Moves.{Recovering};
 
 use acq_outside::{Disk, Fault};
 use journal_model::{PartialName, Step};
@@ -33,10 +33,8 @@ fn carry_all<D: Disk>(disk: &mut D, steps: &[Step]) -> Result<(), Fault>
     requires named { AllNamed steps.now }
     requires open_gate { IsNow (IsCarrying steps.now []) (D.trace disk.old) }
     ensures frame { Stays D.Disk disk.old disk.new result }
-    ensures moments { Since (D.trace disk.old) (D.trace disk.new) (From Recovers (D.trace disk.old)) }
-    ensures others { KeepsFilesBut (IsOfCommit steps.now) (D.trace disk.old) (D.trace disk.new) }
     ensures told { IsTrue (D.tells disk.old) → OnOk result (D.files disk.new ≡ after_steps (D.files disk.old) steps.now) }
-    ensures done { OnOk result (IsNow (IsCarrying steps.now steps.now) (D.trace disk.new)) }
+    ensures moves { Recovering (IsOfCommit steps.now) (IsCarrying steps.now steps.now) D.Disk disk.old disk.new result }
 {
     for step in steps {
         carry_one(disk, step)?;
@@ -48,10 +46,8 @@ fn carry_all<D: Disk>(disk: &mut D, steps: &[Step]) -> Result<(), Fault>
 fn sync_renames<D: Disk>(disk: &mut D, steps: &[Step]) -> Result<(), Fault>
     requires { IsNow (IsCarrying steps.now steps.now) (D.trace disk.old) }
     ensures frame { Stays D.Disk disk.old disk.new result }
-    ensures moments { Since (D.trace disk.old) (D.trace disk.new) (From Recovers (D.trace disk.old)) }
-    ensures others { KeepsFilesBut (IsOfCommit steps.now) (D.trace disk.old) (D.trace disk.new) }
     ensures same { D.files disk.new ≡ D.files disk.old }
-    ensures done { OnOk result (IsNow (IsDone steps.now) (D.trace disk.new)) }
+    ensures moves { Recovering (IsOfCommit steps.now) (IsDone steps.now) D.Disk disk.old disk.new result }
 {
     disk.sync_names()
 }
@@ -60,10 +56,8 @@ fn sync_renames<D: Disk>(disk: &mut D, steps: &[Step]) -> Result<(), Fault>
 fn write_shut_gate<D: Disk>(disk: &mut D, steps: &[Step]) -> Result<(), Fault>
     requires { IsNow (IsDone steps.now) (D.trace disk.old) }
     ensures frame { Stays D.Disk disk.old disk.new result }
-    ensures moments { Since (D.trace disk.old) (D.trace disk.new) (From Recovers (D.trace disk.old)) }
-    ensures others { KeepsFilesBut (IsOfCommit steps.now) (D.trace disk.old) (D.trace disk.new) }
     ensures told { IsTrue (D.tells disk.old) → OnOk result (D.files disk.new ≡ shut_files (D.files disk.old)) }
-    ensures done { OnOk result (IsNow IsGateBeingShut (D.trace disk.new)) }
+    ensures moves { Recovering (IsOfCommit steps.now) IsGateBeingShut D.Disk disk.old disk.new result }
 {
     disk.write_at(b"journal".as_slice(), 0, &[0])
 }
@@ -72,10 +66,8 @@ fn write_shut_gate<D: Disk>(disk: &mut D, steps: &[Step]) -> Result<(), Fault>
 fn sync_shut_gate<D: Disk>(disk: &mut D, steps: &[Step]) -> Result<(), Fault>
     requires { IsNow IsGateBeingShut (D.trace disk.old) }
     ensures frame { Stays D.Disk disk.old disk.new result }
-    ensures moments { Since (D.trace disk.old) (D.trace disk.new) (From Recovers (D.trace disk.old)) }
-    ensures others { KeepsFilesBut (IsOfCommit steps.now) (D.trace disk.old) (D.trace disk.new) }
     ensures same { D.files disk.new ≡ D.files disk.old }
-    ensures done { OnOk result (IsNow IsIdle (D.trace disk.new)) }
+    ensures moves { Recovering (IsOfCommit steps.now) IsIdle D.Disk disk.old disk.new result }
 {
     disk.sync(b"journal".as_slice())
 }
@@ -84,10 +76,8 @@ fn sync_shut_gate<D: Disk>(disk: &mut D, steps: &[Step]) -> Result<(), Fault>
 fn end_record<D: Disk>(disk: &mut D, steps: &[Step]) -> Result<(), Fault>
     requires { IsNow (IsCarrying steps.now steps.now) (D.trace disk.old) }
     ensures frame { Stays D.Disk disk.old disk.new result }
-    ensures moments { Since (D.trace disk.old) (D.trace disk.new) (From Recovers (D.trace disk.old)) }
-    ensures others { KeepsFilesBut (IsOfCommit steps.now) (D.trace disk.old) (D.trace disk.new) }
     ensures told { IsTrue (D.tells disk.old) → OnOk result (D.files disk.new ≡ shut_files (D.files disk.old)) }
-    ensures done { OnOk result (IsNow IsIdle (D.trace disk.new)) }
+    ensures moves { Recovering (IsOfCommit steps.now) IsIdle D.Disk disk.old disk.new result }
 {
     sync_renames(disk, steps)?;
     write_shut_gate(disk, steps)?;
@@ -100,10 +90,8 @@ pub fn recover<D: Disk>(disk: &mut D, steps: &[Step]) -> Result<(), Fault>
     requires named { AllNamed steps.now }
     requires open_gate { IsNow (IsCarrying steps.now []) (D.trace disk.old) }
     ensures frame { Stays D.Disk disk.old disk.new result }
-    ensures moments { Since (D.trace disk.old) (D.trace disk.new) (From Recovers (D.trace disk.old)) }
-    ensures others { KeepsFilesBut (IsOfCommit steps.now) (D.trace disk.old) (D.trace disk.new) }
     ensures told { IsTrue (D.tells disk.old) → OnOk result (D.files disk.new ≡ shut_files (after_steps (D.files disk.old) steps.now)) }
-    ensures done { OnOk result (IsNow IsIdle (D.trace disk.new)) }
+    ensures moves { Recovering (IsOfCommit steps.now) IsIdle D.Disk disk.old disk.new result }
 {
     carry_all(disk, steps)?;
     end_record(disk, steps)

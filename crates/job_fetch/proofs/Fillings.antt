@@ -1,5 +1,6 @@
 -- A list's file on its way as pieces come, from one moment of the disk to a later one.
-use Rattle.std.proofs.Common.{◌≡◌, refl, sym, ap, ◌∙◌, subst, ℕ, ◌+◌, ◌<◌, ◌≤◌, List, [], ◌∷◌, ◌++◌, length, take, length-append, arith}
+use Rattle.std.proofs.lemmas.List.{take_all}
+use Rattle.std.proofs.Common.{◌≡◌, refl, sym, ap, ◌∙◌, subst, ℕ, ◌+◌, ◌<◌, ◌≤◌, List, [], ◌∷◌, ◌++◌, length, take, length-append, length-take, arith}
 use Rattle.std.proofs.lemmas.List.{length-take-le, take-append-le}
 use Rattle.acq_base.specs.Sum.{sum_of}
 use Rattle.acq_base.specs.declared.sum.Sum.{Sum}
@@ -78,6 +79,16 @@ front_more name keep old mid new piece before bytes keeps = record {
   front = λ told. ap (take keep) (bytes told) ∙ take-append-le keep (part_bytes mid name) piece (keeps.within (before told)) ∙ keeps.front (before told);
   within = λ told. omega (arith, keeps.within (before told), ap length (bytes told), length-append (part_bytes mid name) piece);
 }
+
+-- the first bytes that an opened file kept, and that what came since left
+pub front_on : (given name : List ℕ) (keep : ℕ) (old mid new : List State) → given ≡ name → (IsTold new → IsTold mid) → (IsTold mid → part_bytes mid name ≡ take keep (part_bytes old name))
+    → KeepsFront given keep mid new → KeepsFront name keep old new
+front_on given name keep old mid new is before bytes keeps =
+    let same = subst (λ n. KeepsFront n keep mid new) is keeps in
+    record {
+      front = λ told. same.front told ∙ ap (take keep) (bytes (before told)) ∙ take_all keep (take keep (part_bytes old name)) (omega (arith, length-take keep (part_bytes old name)));
+      within = same.within;
+    }
 
 -- as one name's bytes or another's
 pub bytes_named : (given name : List ℕ) (old new : List State) (piece : List ℕ) → given ≡ name → (IsTold new → part_bytes new given ≡ part_bytes old given ++ piece) → IsTold new → part_bytes new name ≡ part_bytes old name ++ piece

@@ -1,5 +1,5 @@
 -- What a fetch comes to, beside the method's mirror, its count of faults and the disk.
-use Rattle.std.specs.Prelude.{◌≡◌, ◌⊎◌, ℕ, ◌<◌, ◌≤◌, Bool, List, length, take, Option, Some, IfSome}
+use Rattle.std.specs.Prelude.{◌≡◌, ◌⊎◌, ℕ, ◌<◌, ◌≤◌, Bool, true, List, length, take, Option, Some, IfSome, Result, IfOk, OnOk, OnErr}
 use Rattle.acq_base.specs.Fetch.{IsSoundPlace}
 use Rattle.acq_base.specs.Mirror.{MirrorMap, answer_at}
 use Rattle.acq_base.specs.Sum.{sum_of}
@@ -7,7 +7,11 @@ use Rattle.acq_base.specs.declared.fetch.Job.{Job}
 use Rattle.acq_base.specs.declared.sum.Sum.{Sum}
 use Rattle.acq_outside.specs.Count.{Rose}
 use Rattle.acq_outside.specs.Crash.{State, synced}
+use Rattle.acq_outside.specs.Fetches.{Fetches}
 use Rattle.acq_outside.specs.States.{IsTold, Since}
+use Rattle.acq_outside.specs.declared.disk.Disk as disks
+use Rattle.acq_outside.specs.declared.method.Method as methods
+use Rattle.acq_outside.specs.declared.fault.OutError.{OutError}
 use Rattle.journal_model.specs.Rest.{KeepsOtherFiles, KeptAtRestSince, part_bytes, part_file}
 use Rattle.update_model.specs.Trails.{IsFaultOr, answered}
 use Rattle.update_model.specs.declared.ask.Ask.{Ask}
@@ -73,3 +77,24 @@ pub record Staging (name : List ℕ) (old new : List State) : Type 0 where
 pub record KeepsFront (name : List ℕ) (keep : ℕ) (old new : List State) : Type 0 where
   pub front : IsTold new → take keep (part_bytes new name) ≡ take keep (part_bytes old name)
   pub within : IsTold new → keep ≤ length (part_bytes new name)
+
+-- A fetch into a list's file on its way, whatever it comes to: faults of the method are counted and told, a place that it
+-- moves to can be fetched, only this file changes, its first bytes stay, and a file that came lasts as its sum tells.
+pub record Comes {D M : Type 0} (d : disks.Ghosts D) (m : methods.Ghosts M) (name : List ℕ) (from : ℕ)
+    (old new : D) (asked answered : M) (result : Result Closed OutError) : Type 0 where
+  pub method : Fetches m asked answered
+  pub method_dry : OnErr result (m.faults answered ≡ m.faults asked)
+  pub counted : IfOk result (IsCounted (m.faults asked) (m.faults answered))
+  pub sound : IfOk result IsSoundEnd
+  pub staging : Staging name (d.trace old) (d.trace new)
+  pub front : OnOk result (KeepsFront name from (d.trace old) (d.trace new))
+  pub staged : IfOk result (IsStagedBody name (d.trace new))
+
+-- and of a whole job: the answer is the mirror's, and one that served nothing left the file or bytes behind the first ones
+pub record ComesWhole {D M : Type 0} (d : disks.Ghosts D) (m : methods.Ghosts M) (name : List ℕ) (job : Job)
+    (old new : D) (asked answered : M) (result : Result Closed OutError) : Type 0 where
+  pub comes : Comes d m name job.from old new asked answered result
+  pub open comes use *
+  pub left : IfOk result (LeavesFile job.from name (d.trace old) (d.trace new))
+  pub answer : IfOk result (λ closed. IsKnown (d.trace new) closed
+      → IsAnswer (m.world asked) (part_bytes (d.trace old) name) true job closed)

@@ -1,15 +1,14 @@
 //! A fetch whose pieces go into the list's file under `partial/` as they come.
-ghost use Rattle.std.specs.Prelude.{◌≡◌, ◌≢◌, ◌<◌, ◌≤◌, ◌^◌, true, length, IfOk, OnOk, OnErr};
+ghost use Rattle.std.specs.Prelude.{◌≡◌, ◌≢◌, ◌<◌, ◌≤◌, ◌^◌, length, IfOk};
 ghost use Rattle.acq_base.specs.Uri.{IsSound};
 ghost use Rattle.acq_base.specs.declared.fetch.Reply.{Reply};
-ghost use Rattle.acq_outside.specs.Fetches.{Fetches};
 ghost use Rattle.acq_outside.specs.declared.word.Word.TheVariants.{Other};
 ghost use Rattle.acq_outside.specs.Stays.{StaysCounting};
 ghost use Rattle.acq_outside.specs.States.{IsTold};
 ghost use Rattle.acq_outside.specs.Word.{CanBegin, IsSoundWord, IsWord};
 ghost use Rattle.journal_model.specs.Names.{IsPutName};
 ghost use Rattle.journal_model.specs.Rest.{part_bytes};
-ghost use Rattle.job_fetch.specs.Fetched.{IsAnswer, IsCounted, IsKnown, IsSoundEnd, IsStagedBody, KeepsFront, LeavesFile, Staging};
+ghost use Rattle.job_fetch.specs.Fetched.{Comes, ComesWhole};
 ghost use Rattle.job_fetch.specs.Pieces.{AnswersOver, HasMore, IsFilling, fetch_at};
 
 use crate::closing::closed_of;
@@ -39,18 +38,7 @@ pub fn fetch_staged<D: Disk, M: Method>(
     requires keep { IsTold (D.trace disk.old) → job.now.from ≤ length (part_bytes (D.trace disk.old) name.now.0) }
 
     ensures frame { StaysCounting OutError.Fault D.Disk disk.old disk.new result }
-    ensures method { Fetches M.Method method.old method.new }
-    ensures method_dry { OnErr result (M.faults method.new ≡ M.faults method.old) }
-
-    ensures counted { IfOk result (IsCounted (M.faults method.old) (M.faults method.new)) }
-    ensures sound { IfOk result IsSoundEnd }
-
-    ensures staging { Staging name.now.0 (D.trace disk.old) (D.trace disk.new) }
-    ensures front { OnOk result (KeepsFront name.now.0 job.now.from (D.trace disk.old) (D.trace disk.new)) }
-    ensures left { IfOk result (LeavesFile job.now.from name.now.0 (D.trace disk.old) (D.trace disk.new)) }
-    ensures staged { IfOk result (IsStagedBody name.now.0 (D.trace disk.new)) }
-    ensures answer { IfOk result (λ closed. IsKnown (D.trace disk.new) closed
-        → IsAnswer (M.world method.old) (part_bytes (D.trace disk.old) name.now.0) true job.now closed) }
+    ensures comes { ComesWhole D.Disk M.Method name.now.0 job.now disk.old disk.new method.old method.new result }
 {
     prove!(job.from <= job.max);
     match method.begin(alloc, job) {
@@ -80,18 +68,7 @@ fn fill<D: Disk, M: Method>(
     requires word { IsWord (M.faults method.old) (M.faults method.old) (M.world method.old) (fetch_at job.now job.now.from) (M.under method.old) first }
 
     ensures frame { StaysCounting OutError.Fault D.Disk disk.old disk.new result }
-    ensures method { Fetches M.Method method.old method.new }
-    ensures method_dry { OnErr result (M.faults method.new ≡ M.faults method.old) }
-
-    ensures counted { IfOk result (IsCounted (M.faults method.old) (M.faults method.new)) }
-    ensures sound { IfOk result IsSoundEnd }
-
-    ensures staging { Staging name.now.0 (D.trace disk.old) (D.trace disk.new) }
-    ensures front { OnOk result (KeepsFront name.now.0 job.now.from (D.trace disk.old) (D.trace disk.new)) }
-    ensures left { IfOk result (LeavesFile job.now.from name.now.0 (D.trace disk.old) (D.trace disk.new)) }
-    ensures staged { IfOk result (IsStagedBody name.now.0 (D.trace disk.new)) }
-    ensures answer { IfOk result (λ closed. IsKnown (D.trace disk.new) closed
-        → IsAnswer (M.world method.old) (part_bytes (D.trace disk.old) name.now.0) true job.now closed) }
+    ensures comes { ComesWhole D.Disk M.Method name.now.0 job.now disk.old disk.new method.old method.new result }
 {
     let filling = open(disk, name, job.from)?;
     let closed = receive(alloc, disk, method, job, filling, first)?;
@@ -116,16 +93,9 @@ fn receive<D: Disk, M: Method>(
     requires word { IsWord (M.faults method.old) (M.faults method.old) (M.world method.old) (fetch_at job.now opened.part.len) (M.under method.old) first }
 
     ensures frame { StaysCounting OutError.Fault D.Disk disk.old disk.new result }
-    ensures method { Fetches M.Method method.old method.new }
-    ensures method_dry { OnErr result (M.faults method.new ≡ M.faults method.old) }
 
-    ensures counted { IfOk result (IsCounted (M.faults method.old) (M.faults method.new)) }
-    ensures sound { IfOk result IsSoundEnd }
-
-    ensures staging { Staging opened.part.name (D.trace disk.old) (D.trace disk.new) }
-    ensures front { OnOk result (KeepsFront opened.part.name job.now.from (D.trace disk.old) (D.trace disk.new)) }
+    ensures comes { Comes D.Disk M.Method opened.part.name job.now.from disk.old disk.new method.old method.new result }
     ensures more { IfOk result (HasMore job.now.from opened.part.name (D.trace disk.new)) }
-    ensures staged { IfOk result (IsStagedBody opened.part.name (D.trace disk.new)) }
     ensures answer { IfOk result (AnswersOver (M.world method.old) opened.part.name (D.trace disk.old) (D.trace disk.new) job.now) }
 {
     let mut filling = opened;

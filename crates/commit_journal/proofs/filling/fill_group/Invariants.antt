@@ -1,4 +1,4 @@
-use Rattle.std.proofs.Common.{◌≡◌, ◌≤◌, take}
+use Rattle.std.proofs.Common.{take}
 use Rattle.acq_outside.specs.Stays.{HasStayed}
 use Rattle.commit_journal.proofs.Fills.{WritesParts}
 use Rattle.commit_journal.proofs.filling.fill_group.Given as goal

@@ -8,14 +8,10 @@ use Rattle.commit_journal.proofs.making.cut_beside.Goals as goal
 pub cut-requires-clause-name : goal.cut-requires-clause-name
 cut-requires-clause-name g c = beside_named _ c.as_slice.ensures
 
-pub returns-clause-moments : goal.returns-clause-moments
-returns-clause-moments g c = (cut_goes _ _ _ c.cut.result c.as_slice.ensures (g.met.D.Disk.sound c.args.disk.now) c.requires c.cut.ensures.step).0
-
-pub returns-clause-done : goal.returns-clause-done
-returns-clause-done g c = (cut_goes _ _ _ c.cut.result c.as_slice.ensures (g.met.D.Disk.sound c.args.disk.now) c.requires c.cut.ensures.step).1
-
 pub returns-clause-told : goal.returns-clause-told
 returns-clause-told g c = λ told. subst (λ (n : List ℕ). OnOk c.cut.result (g.D.Disk.files c.cut.new.self ≡ after_cut (g.D.Disk.files c.args.disk.now) n 0)) c.as_slice.ensures (c.cut.ensures.ok told)
 
-pub returns-clause-others : goal.returns-clause-others
-returns-clause-others g c = beside_cut _ 0 _ _ c.cut.result c.as_slice.ensures (g.met.D.Disk.sound c.args.disk.now) c.cut.ensures.step
+pub returns-clause-moves : goal.returns-clause-moves
+returns-clause-moves g c =
+    let goes = cut_goes _ _ _ c.cut.result c.as_slice.ensures (g.met.D.Disk.sound c.args.disk.now) c.requires c.cut.ensures.step in
+    record { moments = goes.0; others = beside_cut _ 0 _ _ c.cut.result c.as_slice.ensures (g.met.D.Disk.sound c.args.disk.now) c.cut.ensures.step; done = goes.1 }

@@ -12,16 +12,12 @@ rename-requires-clause-from g c = literals.beside_named _ c.as_slice.ensures
 pub rename-requires-clause-to : goal.rename-requires-clause-to
 rename-requires-clause-to g c = literals.journal_named _ c.as_slice-2.ensures
 
-pub returns-clause-moments : goal.returns-clause-moments
-returns-clause-moments g c = (name_goes _ _ _ _ c.rename.result c.as_slice.ensures c.as_slice-2.ensures (g.met.D.Disk.sound c.args.disk.now) c.requires c.rename.ensures.step).0
-
-pub returns-clause-done : goal.returns-clause-done
-returns-clause-done g c = (name_goes _ _ _ _ c.rename.result c.as_slice.ensures c.as_slice-2.ensures (g.met.D.Disk.sound c.args.disk.now) c.requires c.rename.ensures.step).1
-
 pub returns-clause-told : goal.returns-clause-told
 returns-clause-told g c = λ told.
     subst (λ (n : List ℕ). OnOk c.rename.result (g.D.Disk.files c.rename.new.self ≡ after_rename (g.D.Disk.files c.args.disk.now) new_journal n)) c.as_slice-2.ensures
     (subst (λ (n : List ℕ). OnOk c.rename.result (g.D.Disk.files c.rename.new.self ≡ after_rename (g.D.Disk.files c.args.disk.now) n c.as_slice-2.result.now)) c.as_slice.ensures (c.rename.ensures.ok told))
 
-pub returns-clause-others : goal.returns-clause-others
-returns-clause-others g c = beside_named _ _ _ _ c.rename.result c.as_slice.ensures c.as_slice-2.ensures (g.met.D.Disk.sound c.args.disk.now) c.rename.ensures.step
+pub returns-clause-moves : goal.returns-clause-moves
+returns-clause-moves g c =
+    let goes = name_goes _ _ _ _ c.rename.result c.as_slice.ensures c.as_slice-2.ensures (g.met.D.Disk.sound c.args.disk.now) c.requires c.rename.ensures.step in
+    record { moments = goes.0; others = beside_named _ _ _ _ c.rename.result c.as_slice.ensures c.as_slice-2.ensures (g.met.D.Disk.sound c.args.disk.now) c.rename.ensures.step; done = goes.1 }

@@ -6,11 +6,7 @@ use Rattle.commit_journal.proofs.making.sync_beside.Goals as goal
 pub sync-requires : goal.sync-requires
 sync-requires g c = beside_named _ c.as_slice.ensures
 
-pub returns-clause-moments : goal.returns-clause-moments
-returns-clause-moments g c = (sync_goes _ _ _ c.sync.result c.as_slice.ensures (g.met.D.Disk.sound c.args.disk.now) c.requires c.sync.ensures.step).0
-
-pub returns-clause-done : goal.returns-clause-done
-returns-clause-done g c = (sync_goes _ _ _ c.sync.result c.as_slice.ensures (g.met.D.Disk.sound c.args.disk.now) c.requires c.sync.ensures.step).1
-
-pub returns-clause-others : goal.returns-clause-others
-returns-clause-others g c = beside_sync _ _ _ c.sync.result c.as_slice.ensures (g.met.D.Disk.sound c.args.disk.now) c.sync.ensures.step
+pub returns-clause-moves : goal.returns-clause-moves
+returns-clause-moves g c =
+    let goes = sync_goes _ _ _ c.sync.result c.as_slice.ensures (g.met.D.Disk.sound c.args.disk.now) c.requires c.sync.ensures.step in
+    record { moments = goes.0; others = beside_sync _ _ _ c.sync.result c.as_slice.ensures (g.met.D.Disk.sound c.args.disk.now) c.sync.ensures.step; done = goes.1 }

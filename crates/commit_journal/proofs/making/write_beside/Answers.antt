@@ -17,14 +17,10 @@ write_at-requires-clause-there g c = λ told.
     subst (λ (n : List ℕ). IsSomeAnd (g.D.Disk.files c.args.disk.now n) (λ content. 0 ≤ length content)) (sym c.as_slice.ensures)
     (there_in (HasNewJournal []) new_journal 0 beside_there (g.D.Disk.tells c.args.disk.now) (g.D.Disk.files c.args.disk.now) (g.D.Disk.trace c.args.disk.now) (g.met.D.Disk.shown c.args.disk.now) c.requires told)
 
-pub returns-clause-moments : goal.returns-clause-moments
-returns-clause-moments g c = (write_goes _ _ _ c.write_at.result c.as_slice.ensures (g.met.D.Disk.sound c.args.disk.now) c.requires c.write_at.ensures.step).0
-
-pub returns-clause-done : goal.returns-clause-done
-returns-clause-done g c = (write_goes _ _ _ c.write_at.result c.as_slice.ensures (g.met.D.Disk.sound c.args.disk.now) c.requires c.write_at.ensures.step).1
-
 pub returns-clause-told : goal.returns-clause-told
 returns-clause-told g c = λ told. subst (λ (n : List ℕ). OnOk c.write_at.result (g.D.Disk.files c.write_at.new.self ≡ after_write (g.D.Disk.files c.args.disk.now) n 0 (0 ∷ []))) c.as_slice.ensures (c.write_at.ensures.ok told)
 
-pub returns-clause-others : goal.returns-clause-others
-returns-clause-others g c = beside_write _ 0 (0 ∷ []) _ _ c.write_at.result c.as_slice.ensures (g.met.D.Disk.sound c.args.disk.now) c.write_at.ensures.step
+pub returns-clause-moves : goal.returns-clause-moves
+returns-clause-moves g c =
+    let goes = write_goes _ _ _ c.write_at.result c.as_slice.ensures (g.met.D.Disk.sound c.args.disk.now) c.requires c.write_at.ensures.step in
+    record { moments = goes.0; others = beside_write _ 0 (0 ∷ []) _ _ c.write_at.result c.as_slice.ensures (g.met.D.Disk.sound c.args.disk.now) c.write_at.ensures.step; done = goes.1 }

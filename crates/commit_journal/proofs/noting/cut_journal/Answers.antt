@@ -15,11 +15,7 @@ cut-requires-clause-within g c = λ told.
     subst (λ (n : List ℕ). 1 ≤ length (unwrap_or (g.D.Disk.files c.args.disk.now n) [])) (sym c.as_slice.ensures)
     (told_in IsIdleUnmoved (λ (f : Files). 1 ≤ length (unwrap_or (f journal) [])) long_enough (g.D.Disk.tells c.args.disk.now) (g.D.Disk.files c.args.disk.now) (g.D.Disk.trace c.args.disk.now) (g.met.D.Disk.shown c.args.disk.now) (g.met.D.Disk.sound c.args.disk.now) c.requires told)
 
-pub returns-clause-moments : goal.returns-clause-moments
-returns-clause-moments g c = (cut_noted _ _ _ c.cut.result c.as_slice.ensures (g.met.D.Disk.sound c.args.disk.now) c.requires c.cut.ensures.step).0
-
-pub returns-clause-others : goal.returns-clause-others
-returns-clause-others g c = journal_cut [] _ 1 _ _ c.cut.result c.as_slice.ensures (g.met.D.Disk.sound c.args.disk.now) c.cut.ensures.step
-
-pub returns-clause-done : goal.returns-clause-done
-returns-clause-done g c = (cut_noted _ _ _ c.cut.result c.as_slice.ensures (g.met.D.Disk.sound c.args.disk.now) c.requires c.cut.ensures.step).1
+pub returns-clause-moves : goal.returns-clause-moves
+returns-clause-moves g c =
+    let goes = cut_noted _ _ _ c.cut.result c.as_slice.ensures (g.met.D.Disk.sound c.args.disk.now) c.requires c.cut.ensures.step in
+    record { moments = goes.0; others = journal_cut [] _ 1 _ _ c.cut.result c.as_slice.ensures (g.met.D.Disk.sound c.args.disk.now) c.cut.ensures.step; done = goes.1 }

@@ -15,11 +15,7 @@ write_at-requires-clause-there g c = λ told.
     subst (λ (n : List ℕ). IsSomeAnd (g.D.Disk.files c.args.disk.now n) (λ content. 1 ≤ length content)) (sym c.as_slice.ensures)
     (told_in (HasRecordWritten (0 ∷ [])) (λ (f : Files). IsSomeAnd (f journal) (λ content. 1 ≤ length content)) noted_there (g.D.Disk.tells c.args.disk.now) (g.D.Disk.files c.args.disk.now) (g.D.Disk.trace c.args.disk.now) (g.met.D.Disk.shown c.args.disk.now) (g.met.D.Disk.sound c.args.disk.now) c.requires told)
 
-pub returns-clause-moments : goal.returns-clause-moments
-returns-clause-moments g c = (write_noted _ c.args.body.now _ _ c.write_at.result c.as_slice.ensures (g.met.D.Disk.sound c.args.disk.now) c.requires c.write_at.ensures.step).0
-
-pub returns-clause-others : goal.returns-clause-others
-returns-clause-others g c = journal_write [] _ 1 c.args.body.now _ _ c.write_at.result c.as_slice.ensures (g.met.D.Disk.sound c.args.disk.now) c.write_at.ensures.step
-
-pub returns-clause-done : goal.returns-clause-done
-returns-clause-done g c = (write_noted _ c.args.body.now _ _ c.write_at.result c.as_slice.ensures (g.met.D.Disk.sound c.args.disk.now) c.requires c.write_at.ensures.step).1
+pub returns-clause-moves : goal.returns-clause-moves
+returns-clause-moves g c =
+    let goes = write_noted _ c.args.body.now _ _ c.write_at.result c.as_slice.ensures (g.met.D.Disk.sound c.args.disk.now) c.requires c.write_at.ensures.step in
+    record { moments = goes.0; others = journal_write [] _ 1 c.args.body.now _ _ c.write_at.result c.as_slice.ensures (g.met.D.Disk.sound c.args.disk.now) c.write_at.ensures.step; done = goes.1 }

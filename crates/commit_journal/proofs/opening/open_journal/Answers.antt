@@ -2,10 +2,10 @@ use Rattle.commit_journal.proofs.Lists.{rests_told, stays_settled}
 use Rattle.commit_journal.proofs.opening.open_journal.Goals as goal
 
 pub returns-clause-settled : goal.returns-clause-settled
-returns-clause-settled g c = λ settled. stays_settled (g.D.Disk.trace c.args.disk.now) (g.D.Disk.trace c.open_whole.new.disk) c.open_whole.ensures.recovers settled
+returns-clause-settled g c = λ settled. stays_settled (g.D.Disk.trace c.args.disk.now) (g.D.Disk.trace c.open_whole.new.disk) c.open_whole.ensures.opens.recovers settled
 
 pub returns-clause-rests : goal.returns-clause-rests
 returns-clause-rests g c = λ settled.
     rests_told c.open_whole.result (g.D.Disk.tells c.args.disk.now) (g.D.Disk.tells c.open_whole.new.disk) (g.D.Disk.files c.args.disk.now) (g.D.Disk.files c.open_whole.new.disk) (g.D.Disk.trace c.args.disk.now) (g.D.Disk.trace c.open_whole.new.disk)
-    (g.met.D.Disk.shown c.args.disk.now) (g.met.D.Disk.shown c.open_whole.new.disk) (g.met.D.Disk.sound c.open_whole.new.disk) c.open_whole.ensures.frame.telling c.open_whole.ensures.lists c.open_whole.ensures.idle
-    (stays_settled (g.D.Disk.trace c.args.disk.now) (g.D.Disk.trace c.open_whole.new.disk) c.open_whole.ensures.recovers settled)
+    (g.met.D.Disk.shown c.args.disk.now) (g.met.D.Disk.shown c.open_whole.new.disk) (g.met.D.Disk.sound c.open_whole.new.disk) c.open_whole.ensures.frame.telling c.open_whole.ensures.opens.lists c.open_whole.ensures.opens.idle
+    (stays_settled (g.D.Disk.trace c.args.disk.now) (g.D.Disk.trace c.open_whole.new.disk) c.open_whole.ensures.opens.recovers settled)

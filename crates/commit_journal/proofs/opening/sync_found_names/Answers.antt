@@ -3,11 +3,7 @@ use Rattle.std.proofs.Common.{[]}
 use Rattle.commit_journal.proofs.Others.{names_sync}
 use Rattle.commit_journal.proofs.opening.sync_found_names.Goals as goal
 
-pub returns-clause-moments : goal.returns-clause-moments
-returns-clause-moments g c = (lay_names_goes _ _ c.sync_names.result (g.met.D.Disk.sound c.args.disk.now) c.sync_names.ensures.step).0
-
-pub returns-clause-done : goal.returns-clause-done
-returns-clause-done g c = (lay_names_goes _ _ c.sync_names.result (g.met.D.Disk.sound c.args.disk.now) c.sync_names.ensures.step).1
-
-pub returns-clause-others : goal.returns-clause-others
-returns-clause-others g c = names_sync [] _ _ c.sync_names.result (g.met.D.Disk.sound c.args.disk.now) c.sync_names.ensures.step
+pub returns-clause-moves : goal.returns-clause-moves
+returns-clause-moves g c =
+    let goes = lay_names_goes _ _ c.sync_names.result (g.met.D.Disk.sound c.args.disk.now) c.sync_names.ensures.step in
+    record { moments = goes.0; others = names_sync [] _ _ c.sync_names.result (g.met.D.Disk.sound c.args.disk.now) c.sync_names.ensures.step; done = goes.1 }

@@ -1,4 +1,4 @@
-use Rattle.std.proofs.Common.{◌≡◌, ◌≤◌, take, IsTrue}
+use Rattle.std.proofs.Common.{◌≡◌, take, IsTrue}
 use Rattle.journal_model.specs.Steps.{after_steps}
 use Rattle.acq_outside.specs.Stays.{HasStayed}
 use Rattle.acq_outside.specs.States.{IsNow, Since, From}

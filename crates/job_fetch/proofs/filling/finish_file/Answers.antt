@@ -1,4 +1,4 @@
-use Rattle.std.proofs.Common.{◌≡◌, sym}
+use Rattle.std.proofs.Common.{sym}
 use Rattle.journal_model.specs.Rest.{part_bytes}
 use Rattle.job_fetch.proofs.Fillings.{lasts_as, told_before}
 use Rattle.job_fetch.proofs.filling.finish_file.Goals as goal

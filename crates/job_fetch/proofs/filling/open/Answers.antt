@@ -1,8 +1,3 @@
-use Rattle.std.proofs.Common.{◌≡◌, ℕ, List, length, length-take, sym, ap, ◌∙◌, subst, arith}
-use Rattle.std.proofs.lemmas.List.{length-take-le}
-use Rattle.acq_outside.specs.States.{IsNow}
-use Rattle.hash_gate.specs.Pieces.{HasSummed}
-use Rattle.journal_model.specs.Rest.{IsPartThere, part_bytes}
 use Rattle.job_fetch.proofs.Fillings.{begun}
 use Rattle.job_fetch.proofs.filling.open.Goals as goal
 

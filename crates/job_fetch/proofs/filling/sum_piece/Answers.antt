@@ -1,4 +1,4 @@
-use Rattle.std.proofs.Common.{ℕ, List, drop, arith, rules, length-take}
+use Rattle.std.proofs.Common.{ℕ, arith, rules, length-take}
 use Rattle.std.proofs.lemmas.List.{length-replicate}
 use Rattle.journal_model.specs.Rest.{part_bytes}
 use Rattle.job_fetch.proofs.Sums.{sums_on}

@@ -1,5 +1,5 @@
-use Rattle.std.proofs.Common.{◌≡◌, ℕ, ◌+◌, List, [], ◌++◌, length, length-append, sym, ap, ◌∙◌, subst, arith}
-use Rattle.acq_outside.specs.Word.{IsPiece, IsOther, IsWord}
+use Rattle.std.proofs.Common.{◌≡◌, ◌+◌, [], ◌++◌, length, length-append, sym, ap, ◌∙◌, subst, arith}
+use Rattle.acq_outside.specs.Word.{IsWord}
 use Rattle.job_fetch.specs.Pieces.{fetch_at}
 use Rattle.job_fetch.proofs.Fronts.{more_came, HasCome}
 use Rattle.job_fetch.proofs.Words.{next_word}

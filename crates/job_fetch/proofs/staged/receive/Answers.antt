@@ -1,9 +1,8 @@
-use Rattle.std.proofs.Common.{◌≡◌, ◌<◌, ◌≤◌, ℕ, true, ◌+◌, List, ◌++◌, length, take, refl, sym, ap, ◌∙◌, subst, Option, IfSome, arith}
+use Rattle.std.proofs.Common.{rules, ◌≡◌, ◌<◌, true, ◌+◌, ◌++◌, length, sym, ap, ◌∙◌, subst, arith}
 use Rattle.acq_base.specs.Sum.{sum_of}
 use Rattle.acq_outside.proofs.Framed.{stayed_on}
-use Rattle.acq_outside.specs.Word.{HasSize, IsWord}
+use Rattle.acq_outside.specs.Word.{IsWord}
 use Rattle.journal_model.specs.Rest.{part_bytes}
-use Rattle.job_fetch.specs.Fetched.{IsAnswer}
 use Rattle.job_fetch.specs.Pieces.{fetch_at}
 use Rattle.job_fetch.proofs.Ends.{any_answers, any_more, on_err}
 use Rattle.job_fetch.proofs.Fillings.{bytes_named, longer, front_more, staging_more, staging_named, told_before}
@@ -16,18 +15,6 @@ add-requires-clause-room g c =
     let piece = rw c.in-Piece.is at c.loop-word.invariant.word in
     omega (arith, piece.within, ap length c.as_slice.ensures, c.requires.limit)
 
-pub returns-in_err-add-in-Piece-clause-staging : goal.returns-in_err-add-in-Piece-clause-staging
-returns-in_err-add-in-Piece-clause-staging g c =
-    staging_more _ _ _ _ c.loop-word.invariant.staging (staging_named _ _ _ _ c.loop-word.invariant.name c.add.ensures.staging)
-
-pub returns-in_err-sum-in-Done-clause-staging : goal.returns-in_err-sum-in-Done-clause-staging
-returns-in_err-sum-in-Done-clause-staging g c =
-    staging_more _ _ _ _ c.loop-word.invariant.staging (staging_named _ _ _ _ c.loop-word.invariant.name c.finish_file.ensures.staging)
-
-pub returns-in-Done-clause-staging : goal.returns-in-Done-clause-staging
-returns-in-Done-clause-staging g c =
-    staging_more _ _ _ _ c.loop-word.invariant.staging (staging_named _ _ _ _ c.loop-word.invariant.name c.finish_file.ensures.staging)
-
 pub returns-in-Done-clause-answer : goal.returns-in-Done-clause-answer
 returns-in-Done-clause-answer g c =
     let word = rw c.in-Done.is at c.loop-word.invariant.word in
@@ -36,16 +23,6 @@ returns-in-Done-clause-answer g c =
     c.loop-word.filling.part.len c.in-Done.size _
     (told_before _ _ c.finish_file.ensures.staging.moments) (λ told. c.in_ok-sum-in-Done.ensures.sum told ∙ ap sum_of named)
     word.reached word.told c.loop-word.invariant.come
-
-pub returns-in-Other-clause-counted : goal.returns-in-Other-clause-counted
-returns-in-Other-clause-counted g c =
-    let word = rw c.in-Other.is at c.loop-word.invariant.word in
-    c.in_ok-closed_of-in-Other.ensures.counted (g.M.Method.faults c.args.method.now) (g.M.Method.faults c.loop-word.method) word.counted
-
-pub returns-in-Other-clause-staged : goal.returns-in-Other-clause-staged
-returns-in-Other-clause-staged g c =
-    let word = rw c.in-Other.is at c.loop-word.invariant.word in
-    c.in_ok-closed_of-in-Other.ensures.staged (g.M.Method.faults c.args.method.now) (g.M.Method.faults c.loop-word.method) word.counted c.args.opened.part.name (g.D.Disk.trace c.loop-word.disk)
 
 pub loop-word-preserved : goal.loop-word-preserved
 loop-word-preserved g c =
@@ -89,7 +66,64 @@ returns-in-Other-clause-answer g c =
     any_answers (g.M.Method.world c.args.method.now) c.args.opened.part.name (g.D.Disk.trace c.args.disk.now) (g.D.Disk.trace c.loop-word.disk) c.args.job.now c.in_ok-closed_of-in-Other.field-0
     (λ part. c.in_ok-closed_of-in-Other.ensures.answer (g.M.Method.world c.args.method.now) part true c.args.job.now c.requires.from word.told)
 
-pub returns-in_err-closed_of-in-Other-clause-method_dry : goal.returns-in_err-closed_of-in-Other-clause-method_dry
-returns-in_err-closed_of-in-Other-clause-method_dry g c =
+pub returns-in_err-add-in-Piece-clause-comes : goal.returns-in_err-add-in-Piece-clause-comes
+returns-in_err-add-in-Piece-clause-comes g c =
+    record {
+      method = search rules;
+      method_dry = search rules;
+      counted = search rules;
+      sound = search rules;
+      staging = staging_more _ _ _ _ c.loop-word.invariant.staging (staging_named _ _ _ _ c.loop-word.invariant.name c.add.ensures.staging);
+      front = search rules;
+      staged = search rules;
+    }
+
+pub returns-in_err-sum-in-Done-clause-comes : goal.returns-in_err-sum-in-Done-clause-comes
+returns-in_err-sum-in-Done-clause-comes g c =
+    record {
+      method = search rules;
+      method_dry = search rules;
+      counted = search rules;
+      sound = search rules;
+      staging = staging_more _ _ _ _ c.loop-word.invariant.staging (staging_named _ _ _ _ c.loop-word.invariant.name c.finish_file.ensures.staging);
+      front = search rules;
+      staged = search rules;
+    }
+
+pub returns-in-Done-clause-comes : goal.returns-in-Done-clause-comes
+returns-in-Done-clause-comes g c =
+    record {
+      method = search rules;
+      method_dry = search rules;
+      counted = search rules;
+      sound = search rules;
+      staging = staging_more _ _ _ _ c.loop-word.invariant.staging (staging_named _ _ _ _ c.loop-word.invariant.name c.finish_file.ensures.staging);
+      front = search rules;
+      staged = search rules;
+    }
+
+pub returns-in-Other-clause-comes : goal.returns-in-Other-clause-comes
+returns-in-Other-clause-comes g c =
     let word = rw c.in-Other.is at c.loop-word.invariant.word in
-    on_err _ (c.in_err-closed_of-in-Other.ensures.dry (g.M.Method.faults c.args.method.now) (g.M.Method.faults c.loop-word.method) word.counted)
+    record {
+      method = search rules;
+      method_dry = search rules;
+      counted = c.in_ok-closed_of-in-Other.ensures.counted (g.M.Method.faults c.args.method.now) (g.M.Method.faults c.loop-word.method) word.counted;
+      sound = search rules;
+      staging = search rules;
+      front = search rules;
+      staged = c.in_ok-closed_of-in-Other.ensures.staged (g.M.Method.faults c.args.method.now) (g.M.Method.faults c.loop-word.method) word.counted c.args.opened.part.name (g.D.Disk.trace c.loop-word.disk);
+    }
+
+pub returns-in_err-closed_of-in-Other-clause-comes : goal.returns-in_err-closed_of-in-Other-clause-comes
+returns-in_err-closed_of-in-Other-clause-comes g c =
+    let word = rw c.in-Other.is at c.loop-word.invariant.word in
+    record {
+      method = search rules;
+      method_dry = on_err _ (c.in_err-closed_of-in-Other.ensures.dry (g.M.Method.faults c.args.method.now) (g.M.Method.faults c.loop-word.method) word.counted);
+      counted = search rules;
+      sound = search rules;
+      staging = search rules;
+      front = search rules;
+      staged = search rules;
+    }

@@ -1,6 +1,9 @@
 use Rattle.list_commits.proofs.Begins.{has_committed, is_ready}
 use Rattle.list_commits.proofs.committing.commit_groups.Goals as goal
 
+pub prepare-requires : goal.prepare-requires
+prepare-requires g c = record { changes = c.requires.changes; staged = c.requires.staged; idle = c.requires.idle }
+
 pub commit-requires : goal.commit-requires
 commit-requires g c = record { ready = is_ready c.args.groups _ _ c.in_ok-prepared.ensures.record c.in_ok-prepared.ensures.can_commit }
 
