@@ -3,7 +3,8 @@ use Rattle.std.specs.Prelude.{◌≢◌, Option, Some, None, All, AllPairs}
 use Rattle.acq_base.specs.declared.fetch.Answer.{Answer}
 use Rattle.acq_base.specs.declared.fetch.Answer.TheVariants.{Moved}
 use Rattle.acq_base.specs.declared.fetch.Reply.{Reply}
-use Rattle.acq_base.specs.declared.fetch.Reply.TheVariants.{Moved as moved}
+use Rattle.acq_base.specs.declared.fetch.NotServed.TheVariants as nots
+use Rattle.acq_base.specs.declared.fetch.Reply.TheVariants as replies
 use Rattle.acq_base.specs.declared.fetch.Mirror.{Mirror}
 use Rattle.acq_base.specs.declared.uri.Uri.{Uri}
 use Rattle.acq_base.specs.Uri.{IsSound as IsSoundUri}
@@ -18,7 +19,7 @@ IsSoundAnswer (Moved place) = IsSoundPlace place
 IsSoundAnswer _ = Unit {0}
 
 abbrev pub IsSoundReply : Reply → Type 0
-IsSoundReply (moved place) = IsSoundPlace place
+IsSoundReply (replies.Not (nots.Moved place)) = IsSoundPlace place
 IsSoundReply _ = Unit {0}
 
 -- a mirror has one answer for a URI

@@ -32,14 +32,12 @@ pub struct Mirror {
     pub rows: Row<(Uri, Answer)>,
 }
 
-/// What a method answers to a job.
+/// What comes to a job or an ask where no file was served.
 #[derive(Debug, PartialEq, Drop)]
-pub enum Reply {
-    /// The file's bytes.
-    Served(Bytes),
+pub enum NotServed {
     /// The place to ask instead, or `None` where that is no URI of this profile.
     Moved(Option<Uri>),
-    /// The status of the refusal.
+    /// The HTTP status of a refusal (RFC 9110, section 15).
     Absent(u16),
     /// More bytes than the job allows.
     TooBig,
@@ -47,6 +45,14 @@ pub enum Reply {
     Garbled(u64),
     /// The method failed, and its count of faults rose from `before` to `after`.
     Fault { before: u64, after: u64 },
+}
+
+/// What a method answers to a job.
+#[derive(Debug, PartialEq, Drop)]
+pub enum Reply {
+    /// The file's bytes.
+    Served(Bytes),
+    Not(NotServed),
     /// Memory ran out.
     NoMemory,
 }
@@ -68,6 +74,21 @@ impl TryCopy for Answer {
             Answer::Served(bytes) => Answer::Served(bytes.copy(alloc)?),
             Answer::Moved(place) => Answer::Moved(place.copy(alloc)?),
             Answer::Absent(status) => Answer::Absent(*status),
+        })
+    }
+}
+
+impl TryCopy for NotServed {
+    fn copy(&self, alloc: Global) -> Result<NotServed, NoMemory> {
+        Ok(match self {
+            NotServed::Moved(place) => NotServed::Moved(place.copy(alloc)?),
+            NotServed::Absent(status) => NotServed::Absent(*status),
+            NotServed::TooBig => NotServed::TooBig,
+            NotServed::Garbled(at) => NotServed::Garbled(*at),
+            NotServed::Fault { before, after } => NotServed::Fault {
+                before: *before,
+                after: *after,
+            },
         })
     }
 }

@@ -18,7 +18,7 @@
 pub use blank::{is_blank, listed_words, trim_blanks, trim_blanks_end, trim_blanks_start, words};
 pub use copying::TryCopy;
 pub use digits::read_digits;
-pub use fetch::{Answer, Job, Mirror, Reply};
+pub use fetch::{Answer, Job, Mirror, NotServed, Reply};
 pub use installed::Old;
 pub use memory::NoMemory;
 pub use plan::{ByHash, Kind, Plan, Source, Target, sources_are_planned};

@@ -4,21 +4,21 @@ use Rattle.std.proofs.lemmas.List.{length-take, take_min}
 use Rattle.std.proofs.lemmas.Bool.{ltb-true, ltb-false, leb-true, leb-false}
 use Rattle.acq_base.specs.declared.fetch.Answer.{Answer}
 use Rattle.acq_base.specs.declared.fetch.Answer.TheVariants as answers
-use Rattle.acq_base.specs.declared.fetch.Reply.TheVariants as replies
+use Rattle.acq_base.specs.declared.fetch.NotServed.TheVariants as nots
 use Rattle.acq_base.specs.Mirror.{MirrorMap, answer_at}
 use Rattle.acq_base.specs.Fetch.{IsSoundAnswer}
 use Rattle.acq_memory.specs.declared.failing.Failing.{Failing}
 use Rattle.acq_outside.specs.declared.word.Fetch.{Fetch}
 use Rattle.acq_outside.specs.declared.word.Word.{Word}
-use Rattle.acq_outside.specs.declared.word.Word.TheVariants.{Piece, Done, Other}
+use Rattle.acq_outside.specs.declared.word.Word.TheVariants.{Piece, Done, Not, NoMemory}
 use Rattle.acq_outside.specs.Word.{IsWord, IsPieceOf, IsSoundWord, IsWithinLimit, after_word, further}
 use Rattle.acq_memory.specs.MapMethod.{CanGoOn, HasSoundAnswers, all_faults, next_word, word_of}
 use Rattle.acq_memory.proofs.Worlds.{sound_answer}
 
 -- what a file says is one of four words
 served_cases : (P : Word → Type 0) (all : List ℕ) (fetch : Fetch)
-    → (fetch.job.max < length all → P (Other replies.TooBig))
-    → (length all ≤ fetch.job.max → 0 < fetch.job.from → length all ≤ fetch.job.from → P (Other (replies.Absent 416)))
+    → (fetch.job.max < length all → P (Not nots.TooBig))
+    → (length all ≤ fetch.job.max → 0 < fetch.job.from → length all ≤ fetch.job.from → P (Not (nots.Absent 416)))
     → (length all ≤ fetch.job.max → (fetch.job.from ≡ 0) ⊎ (fetch.job.from < length all) → length all ≤ fetch.at → P (Done fetch.at))
     → (length all ≤ fetch.job.max → fetch.at < length all → P (Piece fetch.at (take 65536 (drop fetch.at all))))
     → P (word_of (answers.Served all) fetch)
@@ -30,17 +30,17 @@ served_cases P all fetch big gone done piece = by_size (nat_lt fetch.job.max (le
     by_place false is small from = piece small (leb-false (length all) fetch.at is)
 
     by_end : (b : Bool) → nat_le (length all) fetch.job.from ≡ b → 0 < fetch.job.from → length all ≤ fetch.job.max
-        → P (if b then Other (replies.Absent 416) else if nat_le (length all) fetch.at then Done fetch.at else Piece fetch.at (take 65536 (drop fetch.at all)))
+        → P (if b then Not (nots.Absent 416) else if nat_le (length all) fetch.at then Done fetch.at else Piece fetch.at (take 65536 (drop fetch.at all)))
     by_end true is above small = gone small above (leb-true (length all) fetch.job.from is)
     by_end false is above small = by_place (nat_le (length all) fetch.at) refl small (inr (leb-false (length all) fetch.job.from is))
 
     by_from : (b : Bool) → nat_lt 0 fetch.job.from ≡ b → length all ≤ fetch.job.max
-        → P (if b && nat_le (length all) fetch.job.from then Other (replies.Absent 416) else if nat_le (length all) fetch.at then Done fetch.at else Piece fetch.at (take 65536 (drop fetch.at all)))
+        → P (if b && nat_le (length all) fetch.job.from then Not (nots.Absent 416) else if nat_le (length all) fetch.at then Done fetch.at else Piece fetch.at (take 65536 (drop fetch.at all)))
     by_from true is small = by_end (nat_le (length all) fetch.job.from) refl (ltb-true 0 fetch.job.from is) small
     by_from false is small = by_place (nat_le (length all) fetch.at) refl small (inl (let none : fetch.job.from ≤ 0 = ltb-false 0 fetch.job.from is in omega arith))
 
     by_size : (b : Bool) → nat_lt fetch.job.max (length all) ≡ b
-        → P (if b then Other replies.TooBig else if nat_lt 0 fetch.job.from && nat_le (length all) fetch.job.from then Other (replies.Absent 416) else if nat_le (length all) fetch.at then Done fetch.at else Piece fetch.at (take 65536 (drop fetch.at all)))
+        → P (if b then Not nots.TooBig else if nat_lt 0 fetch.job.from && nat_le (length all) fetch.job.from then Not (nots.Absent 416) else if nat_le (length all) fetch.at then Done fetch.at else Piece fetch.at (take 65536 (drop fetch.at all)))
     by_size true is = big (ltb-true fetch.job.max (length all) is)
     by_size false is = by_from (nat_lt 0 fetch.job.from) refl (ltb-false fetch.job.max (length all) is)
 
@@ -92,9 +92,9 @@ answered n world fetch (answers.Absent status) is stands = record { counted = re
 
 -- what a method over a map says, unless it is without memory
 pub record Says (world : MirrorMap) (fetch : Fetch) (word : Word) : Type 0 where
-  pub is : (word ≡ Other replies.NoMemory) ⊎ (word ≡ next_word world fetch)
+  pub is : (word ≡ NoMemory) ⊎ (word ≡ next_word world fetch)
 
-mapped : (n : ℕ) (world : MirrorMap) (fetch : Fetch) (word : Word) → CanGoOn (answer_at world fetch.job.uri) fetch → (word ≡ Other replies.NoMemory) ⊎ (word ≡ next_word world fetch)
+mapped : (n : ℕ) (world : MirrorMap) (fetch : Fetch) (word : Word) → CanGoOn (answer_at world fetch.job.uri) fetch → (word ≡ NoMemory) ⊎ (word ≡ next_word world fetch)
     → IsWord n n (Some world) fetch (after_word fetch word) word
 mapped n world fetch word stands (inl none) = rw none (record { counted = refl; ended = refl; told = tt })
 mapped n world fetch word stands (inr is) = rw is (answered n world fetch (answer_at world fetch.job.uri) refl stands)
@@ -112,7 +112,7 @@ sound_of (answers.Absent status) fetch sound = tt
 pub mapped_sound : (world : MirrorMap) (fetch : Fetch) (word : Word) → HasSoundAnswers world → Says world fetch word → IsSoundWord word
 mapped_sound world fetch word sound says = by says.is
   where
-    by : (word ≡ Other replies.NoMemory) ⊎ (word ≡ next_word world fetch) → IsSoundWord word
+    by : (word ≡ NoMemory) ⊎ (word ≡ next_word world fetch) → IsSoundWord word
     by (inl none) = rw none tt
     by (inr is) = rw is (sound_of (answer_at world fetch.job.uri) fetch (sound_answer world fetch.job.uri (answer_at world fetch.job.uri) sound refl))
 
@@ -120,7 +120,8 @@ mapped_sound world fetch word sound says = by says.is
 pub limit_of : (n : ℕ) (world : Option MirrorMap) (fetch : Fetch) (under : Option Fetch) (word : Word) → IsWord n n world fetch under word → IsWithinLimit fetch word
 limit_of n world fetch under (Piece place bytes) is = is.within
 limit_of n world fetch under (Done size) is = tt
-limit_of n world fetch under (Other reply) is = tt
+limit_of n world fetch under (Not end) is = tt
+limit_of n world fetch under NoMemory is = tt
 
 stands_on : (answer : Answer) (fetch : Fetch) (bytes : List ℕ) → IsPieceOf answer fetch.at bytes → CanGoOn answer (further fetch (length bytes))
 stands_on (answers.Served all) fetch bytes is = inl is.1
@@ -132,7 +133,8 @@ pub goes_on : (n : ℕ) (world : MirrorMap) (fetch : Fetch) (under : Option Fetc
     → IfSome under (λ later. CanGoOn (answer_at world later.job.uri) later)
 goes_on n world fetch under (Piece place bytes) is = rw is.under_way (stands_on (answer_at world fetch.job.uri) fetch bytes is.told)
 goes_on n world fetch under (Done size) is = rw is.ended tt
-goes_on n world fetch under (Other reply) is = rw is.ended tt
+goes_on n world fetch under (Not end) is = rw is.ended tt
+goes_on n world fetch under NoMemory is = rw is.ended tt
 
 -- the same word, with values that are equal
 pub same_word : (n m : ℕ) (world told : MirrorMap) (fetch job : Fetch) (under : Option Fetch) (word : Word) → m ≡ n → world ≡ told → fetch ≡ job → IsWord n n (Some world) fetch under word → IsWord n m (Some told) job under word

@@ -2,13 +2,13 @@
 use Rattle.std.specs.Prelude.{◌≡◌, ◌⊎◌, ℕ, ◌+◌, ◌-◌, ◌^◌, ◌≤◌, ◌&&◌, nat_le, nat_lt, if◌then◌else◌, min, length, take, drop, All, Option, Some, IfSome}
 use Rattle.acq_base.specs.declared.fetch.Answer.{Answer}
 use Rattle.acq_base.specs.declared.fetch.Answer.TheVariants as answers
-use Rattle.acq_base.specs.declared.fetch.Reply.TheVariants as replies
+use Rattle.acq_base.specs.declared.fetch.NotServed.TheVariants as nots
 use Rattle.acq_base.specs.Fetch.{IsSoundAnswer}
 use Rattle.acq_base.specs.Mirror.{MirrorMap, answer_at}
 use Rattle.acq_memory.specs.declared.failing.Failing.{Failing}
 use Rattle.acq_outside.specs.declared.word.Fetch.{Fetch}
 use Rattle.acq_outside.specs.declared.word.Word.{Word}
-use Rattle.acq_outside.specs.declared.word.Word.TheVariants.{Piece, Done, Other}
+use Rattle.acq_outside.specs.declared.word.Word.TheVariants.{Piece, Done, Not}
 
 pub record MapState : Type 0 where
   pub world : MirrorMap
@@ -35,12 +35,12 @@ HasSoundAnswers world = All (λ entry. IsSoundAnswer entry.1) world
 -- what it says next to a fetch: pieces of 65,536 bytes but for the last one
 abbrev pub word_of : Answer → Fetch → Word
 word_of (answers.Served all) fetch =
-    if nat_lt fetch.job.max (length all) then Other replies.TooBig
-    else if nat_lt 0 fetch.job.from && nat_le (length all) fetch.job.from then Other (replies.Absent 416)
+    if nat_lt fetch.job.max (length all) then Not nots.TooBig
+    else if nat_lt 0 fetch.job.from && nat_le (length all) fetch.job.from then Not (nots.Absent 416)
     else if nat_le (length all) fetch.at then Done fetch.at
     else Piece fetch.at (take 65536 (drop fetch.at all))
-word_of (answers.Moved place) fetch = Other (replies.Moved place)
-word_of (answers.Absent status) fetch = Other (replies.Absent status)
+word_of (answers.Moved place) fetch = Not (nots.Moved place)
+word_of (answers.Absent status) fetch = Not (nots.Absent status)
 
 abbrev pub next_word : MirrorMap → Fetch → Word
 next_word world fetch = word_of (answer_at world fetch.job.uri) fetch

@@ -6,7 +6,7 @@ ghost use Rattle.acq_memory.specs.MapMethod.{next_word, word_of};
 
 use crate::failing::Failing;
 use crate::front::front;
-use acq_base::{Answer, Job, Mirror, NoMemory, Reply, Row, TryCopy, Uri};
+use acq_base::{Answer, Job, Mirror, NoMemory, NotServed, Row, TryCopy, Uri};
 use acq_outside::{Fetch, Method, Word};
 use std::alloc::Global;
 use std::marker::Model;
@@ -65,7 +65,7 @@ impl MapMethod {
         ensures failing_more { self.new.failing_more ≡ self.old.failing_more }
         ensures sound { IsSoundWord result }
         ensures word { (n : ℕ) → IsWord n n (Some self.old.world) fetch self.new.under result }
-        ensures exact { (result ≡ Word.Other Reply.NoMemory) ⊎ (result ≡ next_word self.old.world fetch) }
+        ensures exact { (result ≡ Word.NoMemory) ⊎ (result ≡ next_word self.old.world fetch) }
     {
         let word = next_word(alloc, self.mirror.rows.as_slice(), &fetch);
         self.under = fetch.after(&word);
@@ -101,21 +101,21 @@ impl Method for MapMethod {
         // A listed call of `begin` fails, and no other one does.
         ensures counted { self.new.failing ≡ counted self.old.failing }
         ensures other_calls { self.new.failing_more ≡ self.old.failing_more }
-        ensures listed { IsTrue (is_listed self.old.failing) → result ≡ Word.Other (Reply.Fault (faults_of self.old) (faults_of self.new)) }
-        ensures others { is_listed self.old.failing ≡ false → (result ≡ Word.Other Reply.NoMemory) ⊎ (result ≡ next_word self.old.world (begun job.now)) }
+        ensures listed { IsTrue (is_listed self.old.failing) → result ≡ Word.Not (NotServed.Fault (faults_of self.old) (faults_of self.new)) }
+        ensures others { is_listed self.old.failing ≡ false → (result ≡ Word.NoMemory) ⊎ (result ≡ next_word self.old.world (begun job.now)) }
     {
         self.under = None;
         let before = self.faults();
         if self.failing.call().is_err() {
             let after = self.faults();
-            return Word::Other(Reply::Fault { before, after });
+            return Word::Not(NotServed::Fault { before, after });
         }
         match job.copy(alloc) {
             Ok(job) => {
                 let at = job.from;
                 self.go_on(alloc, Fetch { job, at })
             }
-            Err(NoMemory) => Word::Other(Reply::NoMemory),
+            Err(NoMemory) => Word::NoMemory,
         }
     }
 
@@ -128,8 +128,8 @@ impl Method for MapMethod {
         // A listed call of `more` fails, and no other one does.
         ensures counted { self.new.failing_more ≡ counted self.old.failing_more }
         ensures other_calls { self.new.failing ≡ self.old.failing }
-        ensures listed { IsTrue (is_listed self.old.failing_more) → result ≡ Word.Other (Reply.Fault (faults_of self.old) (faults_of self.new)) }
-        ensures others { is_listed self.old.failing_more ≡ false → IfSome self.old.under (λ fetch. (result ≡ Word.Other Reply.NoMemory) ⊎ (result ≡ next_word self.old.world fetch)) }
+        ensures listed { IsTrue (is_listed self.old.failing_more) → result ≡ Word.Not (NotServed.Fault (faults_of self.old) (faults_of self.new)) }
+        ensures others { is_listed self.old.failing_more ≡ false → IfSome self.old.under (λ fetch. (result ≡ Word.NoMemory) ⊎ (result ≡ next_word self.old.world fetch)) }
     {
         let Some(fetch) = self.under.take() else {
             unreachable!()
@@ -137,7 +137,7 @@ impl Method for MapMethod {
         let before = self.faults();
         if self.failing_more.call().is_err() {
             let after = self.faults();
-            return Word::Other(Reply::Fault { before, after });
+            return Word::Not(NotServed::Fault { before, after });
         }
         self.go_on(alloc, fetch)
     }
@@ -145,11 +145,11 @@ impl Method for MapMethod {
 
 /// What comes next to a fetch.
 fn next_word(alloc: Global, rows: &[(Uri, Answer)], fetch: &Fetch) -> Word
-    ensures { (result ≡ Word.Other Reply.NoMemory) ⊎ (result ≡ next_word rows.now fetch.now) }
+    ensures { (result ≡ Word.NoMemory) ⊎ (result ≡ next_word rows.now fetch.now) }
 {
     match find(rows, &fetch.job.uri) {
         Some(answer) => word_of(alloc, answer, fetch),
-        None => Word::Other(Reply::Absent(404)),
+        None => Word::Not(NotServed::Absent(404)),
     }
 }
 
@@ -167,28 +167,28 @@ fn find<'a>(rows: &'a [(Uri, Answer)], uri: &Uri) -> Option<&'a Answer>
 
 /// What this answer says next to a fetch.
 fn word_of(alloc: Global, answer: &Answer, fetch: &Fetch) -> Word
-    ensures { (result ≡ Word.Other Reply.NoMemory) ⊎ (result ≡ word_of answer.now fetch.now) }
+    ensures { (result ≡ Word.NoMemory) ⊎ (result ≡ word_of answer.now fetch.now) }
 {
     match answer {
         Answer::Served(all) => served(alloc, all.as_slice(), fetch),
         Answer::Moved(place) => match place.copy(alloc) {
-            Ok(place) => Word::Other(Reply::Moved(place)),
-            Err(NoMemory) => Word::Other(Reply::NoMemory),
+            Ok(place) => Word::Not(NotServed::Moved(place)),
+            Err(NoMemory) => Word::NoMemory,
         },
-        Answer::Absent(status) => Word::Other(Reply::Absent(*status)),
+        Answer::Absent(status) => Word::Not(NotServed::Absent(*status)),
     }
 }
 
 /// What a file says next to a fetch.
 fn served(alloc: Global, all: &[u8], fetch: &Fetch) -> Word
-    ensures { (result ≡ Word.Other Reply.NoMemory) ⊎ (result ≡ word_of (Served all.now) fetch.now) }
+    ensures { (result ≡ Word.NoMemory) ⊎ (result ≡ word_of (Served all.now) fetch.now) }
 {
     let size = all.len() as u64;
     if size > fetch.job.max {
-        return Word::Other(Reply::TooBig);
+        return Word::Not(NotServed::TooBig);
     }
     if fetch.job.from > 0 && size <= fetch.job.from {
-        return Word::Other(Reply::Absent(416));
+        return Word::Not(NotServed::Absent(416));
     }
     if size <= fetch.at {
         return Word::Done { size: fetch.at };
@@ -199,6 +199,6 @@ fn served(alloc: Global, all: &[u8], fetch: &Fetch) -> Word
             at: fetch.at,
             bytes,
         },
-        Err(NoMemory) => Word::Other(Reply::NoMemory),
+        Err(NoMemory) => Word::NoMemory,
     }
 }

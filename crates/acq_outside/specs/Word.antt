@@ -4,12 +4,13 @@ use Rattle.acq_base.specs.declared.fetch.Job.{Job}
 use Rattle.acq_base.specs.declared.fetch.Answer.{Answer}
 use Rattle.acq_base.specs.declared.fetch.Answer.TheVariants as answers
 use Rattle.acq_base.specs.declared.fetch.Reply.{Reply}
+use Rattle.acq_base.specs.declared.fetch.NotServed.TheVariants as nots
 use Rattle.acq_base.specs.declared.fetch.Reply.TheVariants as replies
 use Rattle.acq_base.specs.Fetch.{IsSoundReply}
 use Rattle.acq_base.specs.Mirror.{MirrorMap, answer_at}
 use Rattle.acq_outside.specs.declared.word.Fetch.{Fetch}
 use Rattle.acq_outside.specs.declared.word.Word.{Word}
-use Rattle.acq_outside.specs.declared.word.Word.TheVariants.{Piece, Done, Other}
+use Rattle.acq_outside.specs.declared.word.Word.TheVariants.{Piece, Done, Not, NoMemory}
 use Rattle.acq_outside.specs.Count.{Rose}
 
 -- a fetch before its first piece
@@ -24,13 +25,15 @@ further fetch n = record { job = fetch.job; at = fetch.at + n }
 abbrev pub after_word : Fetch → Word → Option Fetch
 after_word fetch (Piece place bytes) = Some (further fetch (length bytes))
 after_word fetch (Done size) = None
-after_word fetch (Other reply) = None
+after_word fetch (Not end) = None
+after_word fetch NoMemory = None
 
 -- a piece ends within its job's limit
 abbrev pub IsWithinLimit : Fetch → Word → Type 0
 IsWithinLimit fetch (Piece place bytes) = fetch.at + length bytes ≤ fetch.job.max
 IsWithinLimit fetch (Done size) = Unit {0}
-IsWithinLimit fetch (Other reply) = Unit {0}
+IsWithinLimit fetch (Not end) = Unit {0}
+IsWithinLimit fetch NoMemory = Unit {0}
 
 -- what a job leaves out is within its limit, if it leaves out anything
 abbrev pub CanBegin : Job → Type 0
@@ -52,29 +55,29 @@ HasSize (answers.Absent status) job size = ⊥
 -- what else is said to a job: of a file, that it is longer than the job's limit, or ends within what the job leaves out
 -- (RFC 9110, section 15.5.17); or else what the mirror answers. A fault and want of memory say nothing of the mirror
 abbrev pub IsReplyOf : Answer → Job → Reply → Type 0
-IsReplyOf (answers.Served all) job replies.TooBig = job.max < length all
-IsReplyOf (answers.Served all) job (replies.Absent status) = (status ≡ 416) × (0 < job.from) × (length all ≤ job.from)
-IsReplyOf (answers.Served all) job (replies.Moved place) = ⊥
-IsReplyOf (answers.Moved to) job (replies.Moved place) = place ≡ to
-IsReplyOf (answers.Moved to) job (replies.Absent status) = ⊥
-IsReplyOf (answers.Moved to) job replies.TooBig = ⊥
-IsReplyOf (answers.Absent code) job (replies.Absent status) = status ≡ code
-IsReplyOf (answers.Absent code) job (replies.Moved place) = ⊥
-IsReplyOf (answers.Absent code) job replies.TooBig = ⊥
+IsReplyOf (answers.Served all) job (replies.Not nots.TooBig) = job.max < length all
+IsReplyOf (answers.Served all) job (replies.Not (nots.Absent status)) = (status ≡ 416) × (0 < job.from) × (length all ≤ job.from)
+IsReplyOf (answers.Served all) job (replies.Not (nots.Moved place)) = ⊥
+IsReplyOf (answers.Moved to) job (replies.Not (nots.Moved place)) = place ≡ to
+IsReplyOf (answers.Moved to) job (replies.Not (nots.Absent status)) = ⊥
+IsReplyOf (answers.Moved to) job (replies.Not nots.TooBig) = ⊥
+IsReplyOf (answers.Absent code) job (replies.Not (nots.Absent status)) = status ≡ code
+IsReplyOf (answers.Absent code) job (replies.Not (nots.Moved place)) = ⊥
+IsReplyOf (answers.Absent code) job (replies.Not nots.TooBig) = ⊥
 IsReplyOf answer job (replies.Served bytes) = ⊥
-IsReplyOf answer job (replies.Garbled at) = ⊥
-IsReplyOf answer job (replies.Fault before after) = Unit {0}
+IsReplyOf answer job (replies.Not (nots.Garbled at)) = ⊥
+IsReplyOf answer job (replies.Not (nots.Fault before after)) = Unit {0}
 IsReplyOf answer job replies.NoMemory = Unit {0}
 
 -- a fault tells the count of faults before and after the call, and comes only where it rose in that very call; anything
 -- else leaves the count. A file comes in pieces, and never so
 abbrev pub IsCounted : ℕ → ℕ → Reply → Type 0
-IsCounted before after (replies.Fault told_before told_after) = (told_before ≡ before) × (told_after ≡ after) × Rose before after
+IsCounted before after (replies.Not (nots.Fault told_before told_after)) = (told_before ≡ before) × (told_after ≡ after) × Rose before after
 IsCounted before after (replies.Served bytes) = ⊥
-IsCounted before after (replies.Moved place) = after ≡ before
-IsCounted before after (replies.Absent status) = after ≡ before
-IsCounted before after replies.TooBig = after ≡ before
-IsCounted before after (replies.Garbled at) = after ≡ before
+IsCounted before after (replies.Not (nots.Moved place)) = after ≡ before
+IsCounted before after (replies.Not (nots.Absent status)) = after ≡ before
+IsCounted before after (replies.Not nots.TooBig) = after ≡ before
+IsCounted before after (replies.Not (nots.Garbled at)) = after ≡ before
 IsCounted before after replies.NoMemory = after ≡ before
 
 -- A piece goes on where the fetch stands and stays within its job's limit; the fetch is under way behind it.
@@ -104,10 +107,12 @@ pub record IsOther (before after : ℕ) (world : Option MirrorMap) (fetch : Fetc
 abbrev pub IsWord : ℕ → ℕ → Option MirrorMap → Fetch → Option Fetch → Word → Type 0
 IsWord before after world fetch under (Piece place bytes) = IsPiece before after world fetch under place bytes
 IsWord before after world fetch under (Done size) = IsDone before after world fetch under size
-IsWord before after world fetch under (Other reply) = IsOther before after world fetch under reply
+IsWord before after world fetch under (Not end) = IsOther before after world fetch under (replies.Not end)
+IsWord before after world fetch under NoMemory = IsOther before after world fetch under replies.NoMemory
 
 -- a place that a word moves to can be fetched in turn
 abbrev pub IsSoundWord : Word → Type 0
 IsSoundWord (Piece place bytes) = Unit {0}
 IsSoundWord (Done size) = Unit {0}
-IsSoundWord (Other reply) = IsSoundReply reply
+IsSoundWord (Not end) = IsSoundReply (replies.Not end)
+IsSoundWord NoMemory = IsSoundReply replies.NoMemory

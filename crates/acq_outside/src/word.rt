@@ -3,7 +3,7 @@
 ghost use Rattle.std.specs.Prelude.{◌≡◌};
 ghost use Rattle.acq_outside.specs.Word.{IsWithinLimit, after_word};
 
-use acq_base::{Bytes, Job, Reply};
+use acq_base::{Bytes, Job, NotServed};
 
 /// One answer of a method to a fetch under way.
 #[derive(Debug, PartialEq, Drop)]
@@ -19,8 +19,10 @@ pub enum Word {
         /// The length of the whole file in bytes.
         size: u64,
     },
-    /// Anything but bytes of the file. It is never `Served`.
-    Other(Reply),
+    /// No file was served.
+    Not(NotServed),
+    /// Memory ran out.
+    NoMemory,
 }
 
 /// A fetch under way.
@@ -42,7 +44,7 @@ impl Fetch {
                 job: self.job,
                 at: self.at + bytes.len() as u64,
             }),
-            Word::Done { size: _ } | Word::Other(_) => None,
+            Word::Done { size: _ } | Word::Not(_) | Word::NoMemory => None,
         }
     }
 }

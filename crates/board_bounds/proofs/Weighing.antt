@@ -20,7 +20,8 @@ use Rattle.update_model.specs.declared.ask.Ask.{Ask}
 use Rattle.update_model.specs.declared.ask.Body.{Body}
 use Rattle.update_model.specs.declared.ask.Body.TheVariants.{Bytes, Staged}
 use Rattle.update_model.specs.declared.ask.Closed.{Closed}
-use Rattle.update_model.specs.declared.ask.Closed.TheVariants.{Served, Moved, Absent, TooBig, Garbled, Fault}
+use Rattle.update_model.specs.declared.ask.Closed.TheVariants.{Served, Not}
+use Rattle.acq_base.specs.declared.fetch.NotServed.TheVariants.{Moved, Absent, TooBig, Garbled, Fault}
 use Rattle.update_model.specs.declared.ask.Ending.{Ending}
 use Rattle.update_model.specs.declared.ask.Ending.TheVariants as endings
 use Rattle.update_model.specs.declared.end.End.{End}
@@ -105,14 +106,14 @@ moved-room Q retries (suc left) faults most ask next to h = one (may_move ask.ur
 led-room : (Q : List ℕ → Type 0) (retries : ℕ) (ask : Ask) (left : ℕ) (next : Ending → Walk) (lane : ℕ) (closed : Closed) (faults most : ℕ) → Brings Q closed
     → HasTrails Q retries left faults next (suc most)
     → HasRoom Q retries (Leads left ask.uri lane closed faults (λ n. At ask left n next) (λ w. lead retries ask left next w)) most
-led-room Q retries ask left next lane (Fault before after) zero most brings h = next-room Q retries left zero most next (endings.Dead lane before after) h (λ bytes is. absurd (cc))
-led-room Q retries ask left next lane (Fault before after) (suc n) most brings h = let room = h.room in record { trails = h.trails; brief = h.brief; room = omega (arith, room) }
+led-room Q retries ask left next lane (Not (Fault before after)) zero most brings h = next-room Q retries left zero most next (endings.Dead lane before after) h (λ bytes is. absurd (cc))
+led-room Q retries ask left next lane (Not (Fault before after)) (suc n) most brings h = let room = h.room in record { trails = h.trails; brief = h.brief; room = omega (arith, room) }
 led-room Q retries ask left next lane (Served body) faults most brings h = next-room Q retries left faults most next (endings.Served body) h (served-ends Q body brings)
-led-room Q retries ask left next lane (Moved None) faults most brings h = next-room Q retries left faults most next endings.Lost h (λ bytes is. absurd (cc))
-led-room Q retries ask left next lane (Moved (Some to)) faults most brings h = moved-room Q retries left faults most ask next to h
-led-room Q retries ask left next lane (Absent status) faults most brings h = next-room Q retries left faults most next (endings.Absent status) h (λ bytes is. absurd (cc))
-led-room Q retries ask left next lane TooBig faults most brings h = next-room Q retries left faults most next endings.TooBig h (λ bytes is. absurd (cc))
-led-room Q retries ask left next lane (Garbled place) faults most brings h = next-room Q retries left faults most next (endings.Garbled place) h (λ bytes is. absurd (cc))
+led-room Q retries ask left next lane (Not (Moved None)) faults most brings h = next-room Q retries left faults most next endings.Lost h (λ bytes is. absurd (cc))
+led-room Q retries ask left next lane (Not (Moved (Some to))) faults most brings h = moved-room Q retries left faults most ask next to h
+led-room Q retries ask left next lane (Not (Absent status)) faults most brings h = next-room Q retries left faults most next (endings.Absent status) h (λ bytes is. absurd (cc))
+led-room Q retries ask left next lane (Not TooBig) faults most brings h = next-room Q retries left faults most next endings.TooBig h (λ bytes is. absurd (cc))
+led-room Q retries ask left next lane (Not (Garbled place)) faults most brings h = next-room Q retries left faults most next (endings.Garbled place) h (λ bytes is. absurd (cc))
 
 over-none : (retries source : ℕ) (path : List ℕ) (end : End) (ts : List LaneAnswer) → length (ran retries source path (Over end) ts) ≡ 0
 over-none retries source path end [] = refl
@@ -253,11 +254,11 @@ list-weighs retries source path installed part w ts most few =
     one : (closed : Closed) → links_by installed w closed ≤ most → Brings (LinksWithin installed w most) closed
     one (Served (Bytes bytes)) h = h
     one (Served (Staged sum)) h = tt
-    one (Moved place) h = tt
-    one (Absent status) h = tt
-    one TooBig h = tt
-    one (Garbled at) h = tt
-    one (Fault before after) h = tt
+    one (Not (Moved place)) h = tt
+    one (Not (Absent status)) h = tt
+    one (Not TooBig) h = tt
+    one (Not (Garbled at)) h = tt
+    one (Not (Fault before after)) h = tt
 
     all : (ts : List LaneAnswer) → Each (λ (t : LaneAnswer). links_by installed w t.closed ≤ most) ts → Each (λ (t : LaneAnswer). Brings (LinksWithin installed w most) t.closed) ts
     all [] h = tt

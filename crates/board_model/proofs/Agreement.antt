@@ -19,7 +19,8 @@ use Rattle.update_model.specs.Trails.{IsFaultOr, Leads, answered}
 use Rattle.update_model.specs.Walks.{Walk, Finish, Try, IsRoute, release_walk, target_walk}
 use Rattle.update_model.specs.declared.ask.Ask.{Ask}
 use Rattle.update_model.specs.declared.ask.Closed.{Closed as Answer}
-use Rattle.update_model.specs.declared.ask.Closed.TheVariants.{Served, Moved, Absent, TooBig, Garbled, Fault}
+use Rattle.update_model.specs.declared.ask.Closed.TheVariants.{Served, Not}
+use Rattle.acq_base.specs.declared.fetch.NotServed.TheVariants.{Moved, Absent, TooBig, Garbled, Fault}
 use Rattle.update_model.specs.declared.ask.Ending.{Ending}
 use Rattle.update_model.specs.declared.end.End.{End}
 use Rattle.update_model.specs.declared.settled.Held.{Held}
@@ -87,18 +88,18 @@ lives-along retries (At ask left faults next) (note ∷ notes) h live = one note
         → ((q : Point) → AreAsked retries q notes → IsAnswered retries (left_at retries q) notes → LivesAlong retries q (lane_answers notes))
         → LivesAt (At ask left faults next) (record { lane = note.told.lane; closed = closed })
         × LivesAlong retries (Leads left ask.uri note.told.lane closed faults (λ n. At ask left n next) (λ w. lead retries ask left next w)) (lane_answers notes)
-    one (Fault from to) zero live asks later = absurd live
-    one (Fault from to) (suc n) live asks later = (tt, later (At ask left n next) asks live)
+    one (Not (Fault from to)) zero live asks later = absurd live
+    one (Not (Fault from to)) (suc n) live asks later = (tt, later (At ask left n next) asks live)
     one (Served body) zero live asks later = (tt, goes (way left ask.uri (Served body)) live asks later)
     one (Served body) (suc n) live asks later = (tt, goes (way left ask.uri (Served body)) live asks later)
-    one (Moved place) zero live asks later = (tt, goes (way left ask.uri (Moved place)) live asks later)
-    one (Moved place) (suc n) live asks later = (tt, goes (way left ask.uri (Moved place)) live asks later)
-    one (Absent status) zero live asks later = (tt, goes (way left ask.uri (Absent status)) live asks later)
-    one (Absent status) (suc n) live asks later = (tt, goes (way left ask.uri (Absent status)) live asks later)
-    one TooBig zero live asks later = (tt, goes (way left ask.uri TooBig) live asks later)
-    one TooBig (suc n) live asks later = (tt, goes (way left ask.uri TooBig) live asks later)
-    one (Garbled at) zero live asks later = (tt, goes (way left ask.uri (Garbled at)) live asks later)
-    one (Garbled at) (suc n) live asks later = (tt, goes (way left ask.uri (Garbled at)) live asks later)
+    one (Not (Moved place)) zero live asks later = (tt, goes (way left ask.uri (Not (Moved place))) live asks later)
+    one (Not (Moved place)) (suc n) live asks later = (tt, goes (way left ask.uri (Not (Moved place))) live asks later)
+    one (Not (Absent status)) zero live asks later = (tt, goes (way left ask.uri (Not (Absent status))) live asks later)
+    one (Not (Absent status)) (suc n) live asks later = (tt, goes (way left ask.uri (Not (Absent status))) live asks later)
+    one (Not TooBig) zero live asks later = (tt, goes (way left ask.uri (Not TooBig)) live asks later)
+    one (Not TooBig) (suc n) live asks later = (tt, goes (way left ask.uri (Not TooBig)) live asks later)
+    one (Not (Garbled at)) zero live asks later = (tt, goes (way left ask.uri (Not (Garbled at))) live asks later)
+    one (Not (Garbled at)) (suc n) live asks later = (tt, goes (way left ask.uri (Not (Garbled at))) live asks later)
 
 -- the notes of one item
 said-by : (mirror : MirrorMap) (parts : PartFiles) (sources : List Source) (key : Key) (part : List ℕ) (notes : List Note) → part_at parts sources key ≡ part → Agrees mirror parts sources notes

@@ -18,6 +18,7 @@ use Rattle.update_model.specs.declared.ask.Ask.{Ask}
 use Rattle.update_model.specs.declared.ask.Body.{Body}
 use Rattle.update_model.specs.declared.ask.Body.TheVariants.{Bytes}
 use Rattle.update_model.specs.declared.ask.Closed.{Closed}
+use Rattle.acq_base.specs.declared.fetch.NotServed.TheVariants as nots
 use Rattle.update_model.specs.declared.ask.Closed.TheVariants as closings
 use Rattle.update_model.specs.declared.ask.Ending.{Ending}
 use Rattle.update_model.specs.declared.ask.Ending.TheVariants.{Served, TooBig, Absent, Lost, Garbled, Dead}
@@ -67,23 +68,23 @@ step-shows R retries ask left faults next t h = one t.closed faults
     ends : (closed : Closed) (e : Ending) → closing t.lane closed ≡ e → Shown R (record { lane = t.lane; closed = closed }) (start retries (next e))
     ends closed e is = start-shows R retries (record { lane = t.lane; closed = closed }) (next e) (subst (λ (x : Ending). LastIs R x (next e)) (sym is) (h e).0) (h e).1
 
-    follows : (l : ℕ) (to : Uri) (go : Bool) → Shown R (record { lane = t.lane; closed = closings.Moved (Some to) }) (lead retries ask left next (if go then On to else Stop Lost))
-    follows l to true = at-shows R (record { lane = t.lane; closed = closings.Moved (Some to) }) (record ask { uri = to }) (less left) retries next h
-    follows l to false = ends (closings.Moved (Some to)) Lost refl
+    follows : (l : ℕ) (to : Uri) (go : Bool) → Shown R (record { lane = t.lane; closed = (closings.Not (nots.Moved (Some to))) }) (lead retries ask left next (if go then On to else Stop Lost))
+    follows l to true = at-shows R (record { lane = t.lane; closed = (closings.Not (nots.Moved (Some to))) }) (record ask { uri = to }) (less left) retries next h
+    follows l to false = ends (closings.Not (nots.Moved (Some to))) Lost refl
 
-    goes : (l : ℕ) (to : Uri) → Shown R (record { lane = t.lane; closed = closings.Moved (Some to) }) (lead retries ask left next (moved l ask.uri to))
-    goes zero to = ends (closings.Moved (Some to)) Lost refl
+    goes : (l : ℕ) (to : Uri) → Shown R (record { lane = t.lane; closed = (closings.Not (nots.Moved (Some to))) }) (lead retries ask left next (moved l ask.uri to))
+    goes zero to = ends (closings.Not (nots.Moved (Some to))) Lost refl
     goes (suc l) to = follows l to (may_move ask.uri.scheme to.scheme)
 
     one : (closed : Closed) (faults : ℕ) → Shown R (record { lane = t.lane; closed = closed }) (Leads left ask.uri t.lane closed faults (λ n. At ask left n next) (λ w. lead retries ask left next w))
-    one (closings.Fault from to) zero = ends (closings.Fault from to) (Dead t.lane from to) refl
-    one (closings.Fault from to) (suc n) = at-shows R (record { lane = t.lane; closed = closings.Fault from to }) ask left n next h
+    one (closings.Not (nots.Fault from to)) zero = ends (closings.Not (nots.Fault from to)) (Dead t.lane from to) refl
+    one (closings.Not (nots.Fault from to)) (suc n) = at-shows R (record { lane = t.lane; closed = (closings.Not (nots.Fault from to)) }) ask left n next h
     one (closings.Served body) faults = ends (closings.Served body) (Served body) refl
-    one (closings.Moved None) faults = ends (closings.Moved None) Lost refl
-    one (closings.Moved (Some to)) faults = goes left to
-    one (closings.Absent status) faults = ends (closings.Absent status) (Absent status) refl
-    one closings.TooBig faults = ends closings.TooBig TooBig refl
-    one (closings.Garbled at) faults = ends (closings.Garbled at) (Garbled at) refl
+    one (closings.Not (nots.Moved None)) faults = ends (closings.Not (nots.Moved None)) Lost refl
+    one (closings.Not (nots.Moved (Some to))) faults = goes left to
+    one (closings.Not (nots.Absent status)) faults = ends (closings.Not (nots.Absent status)) (Absent status) refl
+    one (closings.Not nots.TooBig) faults = ends (closings.Not nots.TooBig) TooBig refl
+    one (closings.Not (nots.Garbled at)) faults = ends (closings.Not (nots.Garbled at)) (Garbled at) refl
 
 -- what was heard last, if anything was
 run-shows : (R : Shows) (retries : ℕ) (p : Point) (notes : List Note) (end : End) → ShowsAt R p → AreAsked retries p notes → run retries p (lane_answers notes) ≡ Over end

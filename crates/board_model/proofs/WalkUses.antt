@@ -20,6 +20,7 @@ use Rattle.update_model.specs.declared.ask.Ask.{Ask}
 use Rattle.update_model.specs.declared.ask.Body.{Body}
 use Rattle.update_model.specs.declared.ask.Body.TheVariants.{Bytes, Staged}
 use Rattle.update_model.specs.declared.ask.Closed.{Closed}
+use Rattle.acq_base.specs.declared.fetch.NotServed.TheVariants as nots
 use Rattle.update_model.specs.declared.ask.Closed.TheVariants as closings
 use Rattle.update_model.specs.declared.ask.Ending.{Ending}
 use Rattle.update_model.specs.declared.ask.Ending.TheVariants.{Served, TooBig, Absent, Lost, Garbled, Dead}
@@ -198,23 +199,23 @@ step-uses size retries before (At ask left faults next) t h = one t.closed fault
     ends : (closed : Closed) (e : Ending) → ((sum : Sum) → e ≡ Served (Staged sum) → closed ≡ closings.Served (Staged sum)) → Led size before (use_while size ask) closed (start retries (next e))
     ends closed e told = stop-led size retries before ask closed e (next e) h.0.falls (h.1 e).0 (h.1 e).1 told
 
-    follows : (l : ℕ) (to : Uri) (go : Bool) → Led size before (use_while size ask) (closings.Moved (Some to)) (lead retries ask left next (if go then On to else Stop Lost))
-    follows l to true = on-led size left retries before ask to next (closings.Moved (Some to)) h (less left)
-    follows l to false = ends (closings.Moved (Some to)) Lost (λ sum e. absurd (cc))
+    follows : (l : ℕ) (to : Uri) (go : Bool) → Led size before (use_while size ask) (closings.Not (nots.Moved (Some to))) (lead retries ask left next (if go then On to else Stop Lost))
+    follows l to true = on-led size left retries before ask to next (closings.Not (nots.Moved (Some to))) h (less left)
+    follows l to false = ends (closings.Not (nots.Moved (Some to))) Lost (λ sum e. absurd (cc))
 
-    goes : (l : ℕ) (to : Uri) → Led size before (use_while size ask) (closings.Moved (Some to)) (lead retries ask left next (moved l ask.uri to))
-    goes zero to = ends (closings.Moved (Some to)) Lost (λ sum e. absurd (cc))
+    goes : (l : ℕ) (to : Uri) → Led size before (use_while size ask) (closings.Not (nots.Moved (Some to))) (lead retries ask left next (moved l ask.uri to))
+    goes zero to = ends (closings.Not (nots.Moved (Some to))) Lost (λ sum e. absurd (cc))
     goes (suc l) to = follows l to (may_move ask.uri.scheme to.scheme)
 
     one : (closed : Closed) (faults : ℕ) → Led size before (use_while size ask) closed (Leads left ask.uri t.lane closed faults (λ n. At ask left n next) (λ w. lead retries ask left next w))
-    one (closings.Fault from to) zero = ends (closings.Fault from to) (Dead t.lane from to) (λ sum e. absurd (cc))
-    one (closings.Fault from to) (suc n) = record { now = before; lower = inl refl; uses = h; falls = inl (inl refl) }
+    one (closings.Not (nots.Fault from to)) zero = ends (closings.Not (nots.Fault from to)) (Dead t.lane from to) (λ sum e. absurd (cc))
+    one (closings.Not (nots.Fault from to)) (suc n) = record { now = before; lower = inl refl; uses = h; falls = inl (inl refl) }
     one (closings.Served body) faults = ends (closings.Served body) (Served body) (λ sum e. let same : body ≡ Staged sum = cc in ap closings.Served same)
-    one (closings.Moved None) faults = ends (closings.Moved None) Lost (λ sum e. absurd (cc))
-    one (closings.Moved (Some to)) faults = goes left to
-    one (closings.Absent status) faults = ends (closings.Absent status) (Absent status) (λ sum e. absurd (cc))
-    one closings.TooBig faults = ends closings.TooBig TooBig (λ sum e. absurd (cc))
-    one (closings.Garbled at) faults = ends (closings.Garbled at) (Garbled at) (λ sum e. absurd (cc))
+    one (closings.Not (nots.Moved None)) faults = ends (closings.Not (nots.Moved None)) Lost (λ sum e. absurd (cc))
+    one (closings.Not (nots.Moved (Some to))) faults = goes left to
+    one (closings.Not (nots.Absent status)) faults = ends (closings.Not (nots.Absent status)) (Absent status) (λ sum e. absurd (cc))
+    one (closings.Not nots.TooBig) faults = ends (closings.Not nots.TooBig) TooBig (λ sum e. absurd (cc))
+    one (closings.Not (nots.Garbled at)) faults = ends (closings.Not (nots.Garbled at)) (Garbled at) (λ sum e. absurd (cc))
 
 pub falls-on : (a b c : WantedPart) → Falls a b → Falls b c → Falls a c
 falls-on a b c h (inr free) = inr free

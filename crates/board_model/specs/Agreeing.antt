@@ -7,7 +7,8 @@ use Rattle.acq_base.specs.declared.uri.ListName.{ListName}
 use Rattle.update_model.specs.Outcomes.{PartFiles}
 use Rattle.update_model.specs.Trails.{IsFaultOr, answered}
 use Rattle.update_model.specs.declared.ask.Closed.{Closed}
-use Rattle.update_model.specs.declared.ask.Closed.TheVariants.{Fault}
+use Rattle.update_model.specs.declared.ask.Closed.TheVariants.{Not}
+use Rattle.acq_base.specs.declared.fetch.NotServed.TheVariants.{Fault}
 use Rattle.board_model.specs.Keys.{name_at}
 use Rattle.board_model.specs.Runs.{Note}
 use Rattle.board_model.specs.Stands.{of_key}
@@ -31,8 +32,8 @@ Agrees mirror parts sources notes = Each (IsMirrors mirror parts sources) notes
 
 -- one answer: a fault where as many may follow, or any other
 abbrev pub AfterAnswer : Closed → ℕ → (ℕ → Type 0) → Type 0 → Type 0
-AfterAnswer (Fault before after) zero again other = ⊥
-AfterAnswer (Fault before after) (suc left) again other = again left
+AfterAnswer (Not (Fault before after)) zero again other = ⊥
+AfterAnswer (Not (Fault before after)) (suc left) again other = again left
 AfterAnswer closed left again other = other
 
 -- of these answers to one item no more than `retries` faults follow one another, and at most `left` come first

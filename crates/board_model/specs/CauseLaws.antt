@@ -9,7 +9,8 @@ use Rattle.update_model.specs.Releases.{release_end}
 use Rattle.update_model.specs.Trails.{LaneAnswer}
 use Rattle.update_model.specs.Walks.{release_walk, target_walk}
 use Rattle.update_model.specs.declared.ask.Closed.{Closed}
-use Rattle.update_model.specs.declared.ask.Closed.TheVariants.{Served, Moved, Absent, TooBig, Garbled, Fault}
+use Rattle.update_model.specs.declared.ask.Closed.TheVariants.{Served, Not}
+use Rattle.acq_base.specs.declared.fetch.NotServed.TheVariants.{Moved, Absent, TooBig, Garbled, Fault}
 use Rattle.update_model.specs.declared.ask.Ending.{Ending}
 use Rattle.update_model.specs.declared.ask.Ending.TheVariants as endings
 use Rattle.update_model.specs.declared.cause.Cause.{Cause}
@@ -25,11 +26,11 @@ use Rattle.board_model.specs.Stands.{ItemHasHeard, History}
 -- how a trail has ended whose last answer this is: a move that isn't followed is lost, and a fault that isn't asked again dead
 abbrev pub closing : ℕ → Closed → Ending
 closing lane (Served body) = endings.Served body
-closing lane (Moved place) = endings.Lost
-closing lane (Absent status) = endings.Absent status
-closing lane TooBig = endings.TooBig
-closing lane (Garbled at) = endings.Garbled at
-closing lane (Fault before after) = endings.Dead lane before after
+closing lane (Not (Moved place)) = endings.Lost
+closing lane (Not (Absent status)) = endings.Absent status
+closing lane (Not TooBig) = endings.TooBig
+closing lane (Not (Garbled at)) = endings.Garbled at
+closing lane (Not (Fault before after)) = endings.Dead lane before after
 
 abbrev pub ending_of : LaneAnswer → Ending
 ending_of told = closing told.lane told.closed

@@ -1,11 +1,12 @@
 -- A method's word is said under one's own count.
 use Rattle.std.proofs.Common.{◌≡◌, ◌∙◌, ℕ, Option, Some, None, IfSome, refl, sym, ap, subst}
 use Rattle.acq_base.specs.declared.fetch.Answer.{Answer}
+use Rattle.acq_base.specs.declared.fetch.NotServed.TheVariants as nots
 use Rattle.acq_base.specs.declared.fetch.Reply.TheVariants as replies
 use Rattle.acq_base.specs.Mirror.{MirrorMap, answer_at}
 use Rattle.acq_outside.specs.declared.word.Fetch.{Fetch}
 use Rattle.acq_outside.specs.declared.word.Word.{Word}
-use Rattle.acq_outside.specs.declared.word.Word.TheVariants.{Piece, Done, Other}
+use Rattle.acq_outside.specs.declared.word.Word.TheVariants.{Piece, Done, Not, NoMemory}
 use Rattle.acq_outside.specs.Word.{HasSize, IsPieceOf, IsWord, IsReplyOf}
 use Rattle.acq_outside.proofs.Framed.{rises}
 use Rattle.acq_base.specs.declared.uri.Scheme.{Scheme}
@@ -20,7 +21,7 @@ Carries world all fetch = (P : Answer → Type 0) → IfSome world (λ entries. 
 own_quiet : (n m : ℕ) (all : Option MirrorMap) (fetch : Fetch) (under : Option Fetch) (word : Word) → m ≡ n → IsWord n n all fetch under word → IsWord n m all fetch under word
 own_quiet n m all fetch under word same is = subst (λ k. IsWord n k all fetch under word) (sym same) is
 
-fault_told : (all : Option MirrorMap) (fetch : Fetch) (n m : ℕ) → IfSome all (λ entries. IsReplyOf (answer_at entries fetch.job.uri) fetch.job (replies.Fault n m))
+fault_told : (all : Option MirrorMap) (fetch : Fetch) (n m : ℕ) → IfSome all (λ entries. IsReplyOf (answer_at entries fetch.job.uri) fetch.job (replies.Not (nots.Fault n m)))
 fault_told None fetch n m = tt
 fault_told (Some entries) fetch n m = tt
 
@@ -36,18 +37,17 @@ own_says x y n m world all fetch under (Piece place bytes) carries is counted = 
 })
 own_says x y n m world all fetch under (Done size) carries is counted =
     own_quiet n m all fetch under (Done size) counted (record { quiet = refl; reached = is.reached; ended = is.ended; told = carries (λ answer. HasSize answer fetch.job size) is.told })
-own_says x y n m world all fetch under (Other (replies.Served bytes)) carries is counted = absurd is.counted
-own_says x y n m world all fetch under (Other (replies.Moved place)) carries is counted =
-    own_quiet n m all fetch under (Other (replies.Moved place)) counted (record { counted = refl; ended = is.ended; told = carries (λ answer. IsReplyOf answer fetch.job (replies.Moved place)) is.told })
-own_says x y n m world all fetch under (Other (replies.Absent status)) carries is counted =
-    own_quiet n m all fetch under (Other (replies.Absent status)) counted (record { counted = refl; ended = is.ended; told = carries (λ answer. IsReplyOf answer fetch.job (replies.Absent status)) is.told })
-own_says x y n m world all fetch under (Other replies.TooBig) carries is counted =
-    own_quiet n m all fetch under (Other replies.TooBig) counted (record { counted = refl; ended = is.ended; told = carries (λ answer. IsReplyOf answer fetch.job replies.TooBig) is.told })
-own_says x y n m world all fetch under (Other (replies.Garbled at)) carries is counted =
-    own_quiet n m all fetch under (Other (replies.Garbled at)) counted (record { counted = refl; ended = is.ended; told = carries (λ answer. IsReplyOf answer fetch.job (replies.Garbled at)) is.told })
-own_says x y n m world all fetch under (Other (replies.Fault a b)) carries is counted = record { counted = (refl, refl, rises n m counted); ended = is.ended; told = fault_told all fetch n m }
-own_says x y n m world all fetch under (Other replies.NoMemory) carries is counted =
-    own_quiet n m all fetch under (Other replies.NoMemory) counted (record { counted = refl; ended = is.ended; told = carries (λ answer. IsReplyOf answer fetch.job replies.NoMemory) is.told })
+own_says x y n m world all fetch under (Not (nots.Moved place)) carries is counted =
+    own_quiet n m all fetch under (Not (nots.Moved place)) counted (record { counted = refl; ended = is.ended; told = carries (λ answer. IsReplyOf answer fetch.job (replies.Not (nots.Moved place))) is.told })
+own_says x y n m world all fetch under (Not (nots.Absent status)) carries is counted =
+    own_quiet n m all fetch under (Not (nots.Absent status)) counted (record { counted = refl; ended = is.ended; told = carries (λ answer. IsReplyOf answer fetch.job (replies.Not (nots.Absent status))) is.told })
+own_says x y n m world all fetch under (Not nots.TooBig) carries is counted =
+    own_quiet n m all fetch under (Not nots.TooBig) counted (record { counted = refl; ended = is.ended; told = carries (λ answer. IsReplyOf answer fetch.job (replies.Not nots.TooBig)) is.told })
+own_says x y n m world all fetch under (Not (nots.Garbled at)) carries is counted =
+    own_quiet n m all fetch under (Not (nots.Garbled at)) counted (record { counted = refl; ended = is.ended; told = carries (λ answer. IsReplyOf answer fetch.job (replies.Not (nots.Garbled at))) is.told })
+own_says x y n m world all fetch under (Not (nots.Fault a b)) carries is counted = record { counted = (refl, refl, rises n m counted); ended = is.ended; told = fault_told all fetch n m }
+own_says x y n m world all fetch under NoMemory carries is counted =
+    own_quiet n m all fetch under NoMemory counted (record { counted = refl; ended = is.ended; told = carries (λ answer. IsReplyOf answer fetch.job replies.NoMemory) is.told })
 
 pub file_word : (x y n k m : ℕ) (seen files peers : Option MirrorMap) (fetch : Fetch) (under other : Option Fetch) (turn : Option Scheme) (word result : Word) → k ≡ n → seen ≡ files → turn ≡ Some File → fetch.job.uri.scheme ≡ File
     → IsWord x y seen fetch under word → result ≡ own_word k m word → m ≡ own_count k word → IsWord n m (joined files peers) fetch (under_of turn under other) result

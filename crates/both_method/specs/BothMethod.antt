@@ -1,6 +1,6 @@
 -- What a method for both schemes shows.
 use Rattle.std.specs.Prelude.{◌≡◌, ℕ, ◌==◌, Bool, true, false, if◌then◌else◌, [], ◌∷◌, ◌++◌, Option, Some, None, IfSome}
-use Rattle.acq_base.specs.declared.fetch.Reply.TheVariants as replies
+use Rattle.acq_base.specs.declared.fetch.NotServed.TheVariants as nots
 use Rattle.acq_base.specs.declared.uri.Scheme.{Scheme}
 use Rattle.acq_base.specs.declared.uri.Scheme.TheVariants.{Http, File}
 use Rattle.acq_base.specs.Mirror.{MirrorMap}
@@ -9,7 +9,7 @@ use Rattle.acq_outside.specs.Count.{one_more}
 use Rattle.acq_outside.specs.declared.method.Method.{Ghosts}
 use Rattle.acq_outside.specs.declared.word.Fetch.{Fetch}
 use Rattle.acq_outside.specs.declared.word.Word.{Word}
-use Rattle.acq_outside.specs.declared.word.Word.TheVariants.{Other}
+use Rattle.acq_outside.specs.declared.word.Word.TheVariants.{Not}
 use Rattle.acq_outside.specs.Word.{IsWord}
 
 pub record BothState (F H : Type 0) : Type 0 where
@@ -41,12 +41,12 @@ joined (Some files) None = None
 joined (Some files) (Some peers) = Some (entries_of File files ++ entries_of Http peers)
 
 abbrev pub is_fault : Word → Bool
-is_fault (Other (replies.Fault before after)) = true
+is_fault (Not (nots.Fault before after)) = true
 is_fault word = false
 
 -- a fault tells the counts of the method that says it
 abbrev pub own_word : ℕ → ℕ → Word → Word
-own_word before after (Other (replies.Fault their_before their_after)) = Other (replies.Fault before after)
+own_word before after (Not (nots.Fault their_before their_after)) = Not (nots.Fault before after)
 own_word before after word = word
 
 abbrev pub own_count : ℕ → Word → ℕ

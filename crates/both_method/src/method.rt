@@ -2,7 +2,7 @@
 ghost use Rattle.std.specs.Prelude.{◌≡◌};
 ghost use Rattle.both_method.specs.BothMethod.{own_count, own_word};
 
-use acq_base::{Job, Reply, Scheme};
+use acq_base::{Job, NotServed, Scheme};
 use acq_outside::{Method, Word};
 use std::alloc::Global;
 use std::marker::Model;
@@ -129,8 +129,8 @@ fn own(faults: &mut u64, word: Word) -> Word
     ensures counted { faults.new ≡ own_count faults.old word }
 {
     match word {
-        Word::Other(
-            Reply::Fault {
+        Word::Not(
+            NotServed::Fault {
                 before: _,
                 after: _,
             },
@@ -138,7 +138,7 @@ fn own(faults: &mut u64, word: Word) -> Word
             let before = *faults;
             *faults = faults.saturating_add(1);
             let after = *faults;
-            Word::Other(Reply::Fault { before, after })
+            Word::Not(NotServed::Fault { before, after })
         }
         other => other,
     }

@@ -4,13 +4,14 @@ use Rattle.acq_base.specs.declared.uri.Uri.{Uri}
 use Rattle.acq_base.specs.declared.uri.Scheme.TheVariants.{Http, File}
 use Rattle.acq_base.specs.declared.fetch.Job.{Job}
 use Rattle.acq_base.specs.declared.fetch.Answer.{Answer}
+use Rattle.acq_base.specs.declared.fetch.NotServed.TheVariants as nots
 use Rattle.acq_base.specs.declared.fetch.Reply.TheVariants as replies
 use Rattle.acq_base.specs.Mirror.{answer_at}
 use Rattle.acq_base.specs.Uri.{IsSound}
 use Rattle.acq_outside.specs.Tree.{TreeFiles, file_at}
 use Rattle.acq_outside.specs.declared.word.Fetch.{Fetch}
 use Rattle.acq_outside.specs.declared.word.Word.{Word}
-use Rattle.acq_outside.specs.declared.word.Word.TheVariants.{Other}
+use Rattle.acq_outside.specs.declared.word.Word.TheVariants.{Not}
 use Rattle.acq_outside.specs.Word.{HasSize, IsPieceOf, IsWord, IsReplyOf, after_word, begun}
 use Rattle.file_method.specs.TreeMirror.{file_uri, mirror_of}
 use Rattle.file_method.specs.FileMethod.{FileState, IsFetchOf, world_of}
@@ -79,51 +80,51 @@ read_word n files size fetch (byte ∷ bytes) is small short part = record {
 
 -- the file is longer than the job's limit
 pub long_word : (n size : ℕ) (files : Option TreeFiles) (job : Job) → IsSound job.uri → job.uri.scheme ≡ File → job.max < size → IfSome files (λ all. option_map length (file_at all job.uri.path) ≡ Some size)
-    → IsWord n n (world_of files) (begun job) None (Other replies.TooBig)
+    → IsWord n n (world_of files) (begun job) None (Not nots.TooBig)
 long_word n size files job sound file long is = record { counted = refl; ended = refl; told = by files is }
   where
-    of : (content : Option (List ℕ)) → option_map length content ≡ Some size → IsReplyOf (answer_of content) job replies.TooBig
+    of : (content : Option (List ℕ)) → option_map length content ≡ Some size → IsReplyOf (answer_of content) job (replies.Not nots.TooBig)
     of None none = absurd cc
     of (Some all) same = let len : length all ≡ size = size_is all size same in omega arith
 
-    by : (files : Option TreeFiles) → IfSome files (λ all. option_map length (file_at all job.uri.path) ≡ Some size) → IfSome (world_of files) (λ entries. IsReplyOf (answer_at entries job.uri) job replies.TooBig)
+    by : (files : Option TreeFiles) → IfSome files (λ all. option_map length (file_at all job.uri.path) ≡ Some size) → IfSome (world_of files) (λ entries. IsReplyOf (answer_at entries job.uri) job (replies.Not nots.TooBig))
     by None is = tt
-    by (Some all) is = at_path (λ answer. IsReplyOf answer job replies.TooBig) all job.uri (is_file_uri job.uri sound file) (of (file_at all job.uri.path) is)
+    by (Some all) is = at_path (λ answer. IsReplyOf answer job (replies.Not nots.TooBig)) all job.uri (is_file_uri job.uri sound file) (of (file_at all job.uri.path) is)
 
 -- the file ends within what the job leaves out
 pub short_word : (n size : ℕ) (files : Option TreeFiles) (job : Job) → IsSound job.uri → job.uri.scheme ≡ File → 0 < job.from → size ≤ job.from
-    → IfSome files (λ all. option_map length (file_at all job.uri.path) ≡ Some size) → IsWord n n (world_of files) (begun job) None (Other (replies.Absent 416))
+    → IfSome files (λ all. option_map length (file_at all job.uri.path) ≡ Some size) → IsWord n n (world_of files) (begun job) None (Not (nots.Absent 416))
 short_word n size files job sound file some short is = record { counted = refl; ended = refl; told = by files is }
   where
-    of : (content : Option (List ℕ)) → option_map length content ≡ Some size → IsReplyOf (answer_of content) job (replies.Absent 416)
+    of : (content : Option (List ℕ)) → option_map length content ≡ Some size → IsReplyOf (answer_of content) job (replies.Not (nots.Absent 416))
     of None none = absurd cc
     of (Some all) same = let len : length all ≡ size = size_is all size same in (refl, some, omega arith)
 
     by : (files : Option TreeFiles) → IfSome files (λ all. option_map length (file_at all job.uri.path) ≡ Some size)
-        → IfSome (world_of files) (λ entries. IsReplyOf (answer_at entries job.uri) job (replies.Absent 416))
+        → IfSome (world_of files) (λ entries. IsReplyOf (answer_at entries job.uri) job (replies.Not (nots.Absent 416)))
     by None is = tt
-    by (Some all) is = at_path (λ answer. IsReplyOf answer job (replies.Absent 416)) all job.uri (is_file_uri job.uri sound file) (of (file_at all job.uri.path) is)
+    by (Some all) is = at_path (λ answer. IsReplyOf answer job (replies.Not (nots.Absent 416))) all job.uri (is_file_uri job.uri sound file) (of (file_at all job.uri.path) is)
 
 -- there is no such file
 pub absent_word : (n : ℕ) (files : Option TreeFiles) (job : Job) → IsSound job.uri → job.uri.scheme ≡ File → IfSome files (λ all. None ≡ option_map length (file_at all job.uri.path))
-    → IsWord n n (world_of files) (begun job) None (Other (replies.Absent 404))
+    → IsWord n n (world_of files) (begun job) None (Not (nots.Absent 404))
 absent_word n files job sound file is = record { counted = refl; ended = refl; told = by files is }
   where
-    of : (content : Option (List ℕ)) → None ≡ option_map length content → IsReplyOf (answer_of content) job (replies.Absent 404)
+    of : (content : Option (List ℕ)) → None ≡ option_map length content → IsReplyOf (answer_of content) job (replies.Not (nots.Absent 404))
     of None none = refl
     of (Some all) same = absurd cc
 
-    by : (files : Option TreeFiles) → IfSome files (λ all. None ≡ option_map length (file_at all job.uri.path)) → IfSome (world_of files) (λ entries. IsReplyOf (answer_at entries job.uri) job (replies.Absent 404))
+    by : (files : Option TreeFiles) → IfSome files (λ all. None ≡ option_map length (file_at all job.uri.path)) → IfSome (world_of files) (λ entries. IsReplyOf (answer_at entries job.uri) job (replies.Not (nots.Absent 404)))
     by None is = tt
-    by (Some all) is = at_path (λ answer. IsReplyOf answer job (replies.Absent 404)) all job.uri (is_file_uri job.uri sound file) (of (file_at all job.uri.path) is)
+    by (Some all) is = at_path (λ answer. IsReplyOf answer job (replies.Not (nots.Absent 404))) all job.uri (is_file_uri job.uri sound file) (of (file_at all job.uri.path) is)
 
 -- there is nothing of another scheme
-pub elsewhere_word : (n : ℕ) (files : Option TreeFiles) (job : Job) → job.uri.scheme ≡ Http → IsWord n n (world_of files) (begun job) None (Other (replies.Absent 404))
+pub elsewhere_word : (n : ℕ) (files : Option TreeFiles) (job : Job) → job.uri.scheme ≡ Http → IsWord n n (world_of files) (begun job) None (Not (nots.Absent 404))
 elsewhere_word n files job other = record { counted = refl; ended = refl; told = by files }
   where
-    by : (files : Option TreeFiles) → IfSome (world_of files) (λ entries. IsReplyOf (answer_at entries job.uri) job (replies.Absent 404))
+    by : (files : Option TreeFiles) → IfSome (world_of files) (λ entries. IsReplyOf (answer_at entries job.uri) job (replies.Not (nots.Absent 404)))
     by None = tt
-    by (Some all) = let P : Answer → Type 0 = λ answer. IsReplyOf answer job (replies.Absent 404) in subst P (sym (elsewhere all job.uri other)) refl
+    by (Some all) = let P : Answer → Type 0 = λ answer. IsReplyOf answer job (replies.Not (nots.Absent 404)) in subst P (sym (elsewhere all job.uri other)) refl
 
 -- a word after which nothing is under way, with values that are equal
 pub idle_word : (n m : ℕ) (files : Option TreeFiles) (fetch : Fetch) (under : Option Fetch) (word : Word) → m ≡ n → under ≡ None → IsWord n n (world_of files) fetch None word → IsWord n m (world_of files) fetch under word
@@ -133,11 +134,11 @@ idle_word n m files fetch under word counted idle is =
     subst P (sym counted) (subst Q (sym idle) is)
 
 pub absent_said : (n m : ℕ) (files seen : Option TreeFiles) (job : Job) (under : Option Fetch) (size : Option ℕ) → m ≡ n → under ≡ None → seen ≡ files → size ≡ None → IsSound job.uri → job.uri.scheme ≡ File
-    → IfSome seen (λ all. size ≡ option_map length (file_at all job.uri.path)) → IsWord n m (world_of files) (begun job) under (Other (replies.Absent 404))
+    → IfSome seen (λ all. size ≡ option_map length (file_at all job.uri.path)) → IsWord n m (world_of files) (begun job) under (Not (nots.Absent 404))
 absent_said n m files seen job under size counted idle same none sound file is =
     let P : Option TreeFiles → Type 0 = λ one. IfSome one (λ all. size ≡ option_map length (file_at all job.uri.path)) in
     let Q : Option ℕ → Type 0 = λ given. IfSome files (λ all. given ≡ option_map length (file_at all job.uri.path)) in
-    idle_word n m files (begun job) under (Other (replies.Absent 404)) counted idle (absent_word n files job sound file (subst Q none (subst P same is)))
+    idle_word n m files (begun job) under (Not (nots.Absent 404)) counted idle (absent_word n files job sound file (subst Q none (subst P same is)))
 
 pub said : (n m left size : ℕ) (files seen : Option TreeFiles) (fetch : Fetch) (bytes : List ℕ) (word : Word) → m ≡ n → seen ≡ files → left ≡ size - fetch.at → word ≡ word_of fetch.at bytes → IsFetchOf files size fetch
     → length bytes ≤ 65536 → length bytes ≤ left → IfSome seen (λ all. IsPart (file_at all fetch.job.uri.path) fetch.at left bytes) → IsWord n m (world_of files) fetch (after_word fetch word) word

@@ -1,14 +1,14 @@
 -- What a method over a tree shows.
 use Rattle.std.specs.Prelude.{◌≡◌, ◌⊎◌, ℕ, ◌<◌, ◌≤◌, length, Option, Some, IfSome, option_map}
 use Rattle.acq_base.specs.Mirror.{MirrorMap}
-use Rattle.acq_base.specs.declared.fetch.Reply.TheVariants as replies
+use Rattle.acq_base.specs.declared.fetch.NotServed.TheVariants as nots
 use Rattle.acq_outside.specs.Count.{Rose}
 use Rattle.acq_outside.specs.Frame.{FetchesBy}
 use Rattle.acq_outside.specs.Tree.{TreeFiles, file_at}
 use Rattle.acq_outside.specs.declared.tree.Tree.{Ghosts}
 use Rattle.acq_outside.specs.declared.word.Fetch.{Fetch}
 use Rattle.acq_outside.specs.declared.word.Word.{Word}
-use Rattle.acq_outside.specs.declared.word.Word.TheVariants.{Piece, Done, Other}
+use Rattle.acq_outside.specs.declared.word.Word.TheVariants.{Piece, Done, Not, NoMemory}
 use Rattle.file_method.specs.TreeMirror.{file_uri, mirror_of}
 
 pub record FileState (T : Type 0) : Type 0 where
@@ -33,15 +33,14 @@ pub record IsFetchOf (files : Option TreeFiles) (size : ℕ) (fetch : Fetch) : T
 
 -- how often the tree failed: a fault comes exactly where its count rose
 abbrev pub CountsFault : ℕ → ℕ → Word → Type 0
-CountsFault before after (Other (replies.Fault told_before told_after)) = Rose before after
+CountsFault before after (Not (nots.Fault told_before told_after)) = Rose before after
 CountsFault before after (Piece place bytes) = after ≡ before
 CountsFault before after (Done size) = after ≡ before
-CountsFault before after (Other (replies.Served bytes)) = after ≡ before
-CountsFault before after (Other (replies.Moved place)) = after ≡ before
-CountsFault before after (Other (replies.Absent status)) = after ≡ before
-CountsFault before after (Other replies.TooBig) = after ≡ before
-CountsFault before after (Other (replies.Garbled at)) = after ≡ before
-CountsFault before after (Other replies.NoMemory) = after ≡ before
+CountsFault before after (Not (nots.Moved place)) = after ≡ before
+CountsFault before after (Not (nots.Absent status)) = after ≡ before
+CountsFault before after (Not nots.TooBig) = after ≡ before
+CountsFault before after (Not (nots.Garbled at)) = after ≡ before
+CountsFault before after NoMemory = after ≡ before
 
 -- how often it failed
 abbrev pub faults_of : {T : Type 0} → FileState T → ℕ

@@ -2,7 +2,7 @@
 ghost use Rattle.std.specs.Prelude.{◌≡◌, ◌≤◌};
 
 use crate::piece::{read_piece, word_of};
-use acq_base::{Job, NoMemory, Reply, Scheme, TryCopy};
+use acq_base::{Job, NoMemory, NotServed, Scheme, TryCopy};
 use acq_outside::{Fault, Fetch, Method, OutError, Tree, Word};
 use std::alloc::Global;
 use std::marker::Model;
@@ -57,12 +57,12 @@ impl<T: Tree> FileMethod<T> {
         ensures under { self.new.under ≡ self.old.under }
         ensures size { self.new.size ≡ self.old.size }
         ensures counted { self.new.faults ≡ one_more self.old.faults }
-        ensures word { result ≡ Word.Other (Reply.Fault self.old.faults self.new.faults) }
+        ensures word { result ≡ Word.Not (NotServed.Fault self.old.faults self.new.faults) }
     {
         let before = self.faults;
         self.faults = self.faults.saturating_add(1);
         let after = self.faults;
-        Word::Other(Reply::Fault { before, after })
+        Word::Not(NotServed::Fault { before, after })
     }
 
     /// Starts a fetch of what stands at the path of a `file` URI.
@@ -77,7 +77,7 @@ impl<T: Tree> FileMethod<T> {
     {
         match self.tree.size(&job.uri.path) {
             Ok(Some(size)) => self.start(alloc, job, size),
-            Ok(None) => Word::Other(Reply::Absent(404)),
+            Ok(None) => Word::Not(NotServed::Absent(404)),
             Err(Fault) => self.fault(),
         }
     }
@@ -94,10 +94,10 @@ impl<T: Tree> FileMethod<T> {
         ensures word { IsWord self.old.faults self.new.faults (world_of (T.files self.old.tree)) (begun job.now) self.new.under result }
     {
         if size > job.max {
-            return Word::Other(Reply::TooBig);
+            return Word::Not(NotServed::TooBig);
         }
         if job.from > 0 && size <= job.from {
-            return Word::Other(Reply::Absent(416));
+            return Word::Not(NotServed::Absent(416));
         }
         match job.copy(alloc) {
             Ok(job) => {
@@ -105,7 +105,7 @@ impl<T: Tree> FileMethod<T> {
                 let at = job.from;
                 self.go_on(alloc, Fetch { job, at })
             }
-            Err(NoMemory) => Word::Other(Reply::NoMemory),
+            Err(NoMemory) => Word::NoMemory,
         }
     }
 
@@ -137,7 +137,7 @@ impl<T: Tree> FileMethod<T> {
         match read_piece(alloc, &mut self.tree, path, fetch.at, left) {
             Ok(bytes) => word_of(fetch.at, bytes),
             Err(OutError::Fault) => self.fault(),
-            Err(OutError::NoMemory) => Word::Other(Reply::NoMemory),
+            Err(OutError::NoMemory) => Word::NoMemory,
         }
     }
 }
@@ -168,11 +168,11 @@ impl<T: Tree> Method for FileMethod<T> {
         ensures frame { FetchesOver T.Tree self.old self.new result }
         ensures sound { IsSoundWord result }
         ensures word { IsWord self.old.faults self.new.faults (world_of (T.files self.old.tree)) (begun job.now) self.new.under result }
-        ensures elsewhere { job.now.uri.scheme ≡ Http → (result ≡ Word.Other (Reply.Absent 404)) × (self.new.tree ≡ self.old.tree) }
+        ensures elsewhere { job.now.uri.scheme ≡ Http → (result ≡ Word.Not (NotServed.Absent 404)) × (self.new.tree ≡ self.old.tree) }
     {
         self.under = None;
         match job.uri.scheme {
-            Scheme::Http => Word::Other(Reply::Absent(404)),
+            Scheme::Http => Word::Not(NotServed::Absent(404)),
             Scheme::File => self.begin_file(alloc, job),
         }
     }

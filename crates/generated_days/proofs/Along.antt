@@ -18,7 +18,8 @@ use Rattle.update_model.specs.Walks.{Walk, Finish, Try}
 use Rattle.update_model.specs.declared.ask.Ask.{Ask}
 use Rattle.update_model.specs.declared.ask.Body.TheVariants.{Bytes, Staged}
 use Rattle.update_model.specs.declared.ask.Closed.{Closed}
-use Rattle.update_model.specs.declared.ask.Closed.TheVariants.{Served, Moved, Absent, TooBig, Garbled, Fault}
+use Rattle.update_model.specs.declared.ask.Closed.TheVariants.{Served, Not}
+use Rattle.acq_base.specs.declared.fetch.NotServed.TheVariants.{Moved, Absent, TooBig, Garbled, Fault}
 use Rattle.update_model.specs.declared.ask.Ending.{Ending}
 use Rattle.update_model.specs.declared.ask.Ending.TheVariants as endings
 use Rattle.update_model.specs.declared.end.End.{End}
@@ -102,19 +103,19 @@ module _ (mirror : MirrorMap) (part : List ℕ) (retries : ℕ) where
   led : (left faults lane : ℕ) (ask : Ask) (next : Ending → Walk) (closed : Closed) → NoFault closed
       → Leads left ask.uri lane closed faults (λ n. At ask left n next) (λ w. lead retries ask left next w) ≡ lead retries ask left next (way left ask.uri closed)
   led left faults lane ask next (Served body) quiet = refl
-  led left faults lane ask next (Moved place) quiet = refl
-  led left faults lane ask next (Absent status) quiet = refl
-  led left faults lane ask next TooBig quiet = refl
-  led left faults lane ask next (Garbled at) quiet = refl
-  led left faults lane ask next (Fault from to) quiet = absurd quiet
+  led left faults lane ask next (Not (Moved place)) quiet = refl
+  led left faults lane ask next (Not (Absent status)) quiet = refl
+  led left faults lane ask next (Not TooBig) quiet = refl
+  led left faults lane ask next (Not (Garbled at)) quiet = refl
+  led left faults lane ask next (Not (Fault from to)) quiet = absurd quiet
 
   says-it : (closed said : Closed) → NoFault closed → IsFaultOr closed said → closed ≡ said
   says-it (Served body) said quiet says = says
-  says-it (Moved place) said quiet says = says
-  says-it (Absent status) said quiet says = says
-  says-it TooBig said quiet says = says
-  says-it (Garbled at) said quiet says = says
-  says-it (Fault from to) said quiet says = absurd quiet
+  says-it (Not (Moved place)) said quiet says = says
+  says-it (Not (Absent status)) said quiet says = says
+  says-it (Not TooBig) said quiet says = says
+  says-it (Not (Garbled at)) said quiet says = says
+  says-it (Not (Fault from to)) said quiet says = absurd quiet
 
   pub counts : (p : Point) (notes : List Note) (end : End) → AreAsked retries p notes → run retries p (lane_answers notes) ≡ Over end
       → Each (Said mirror part) notes → Each (λ note. NoFault note.told.closed) notes → length notes ≡ rest_of p

@@ -9,10 +9,11 @@ use Rattle.update_model.specs.Points.{Point, Over, At, point_after}
 use Rattle.update_model.specs.Trails.{IsFaultOr, LaneAnswer, answered}
 use Rattle.update_model.specs.declared.ask.Ask.{Ask}
 use Rattle.update_model.specs.declared.ask.Closed.{Closed}
-use Rattle.update_model.specs.declared.ask.Closed.TheVariants.{Served, Moved, Absent, TooBig, Garbled, Fault}
+use Rattle.update_model.specs.declared.ask.Closed.TheVariants.{Served, Not}
+use Rattle.acq_base.specs.declared.fetch.NotServed.TheVariants.{Moved, Absent, TooBig, Garbled, Fault}
 
 abbrev pub NoFault : Closed → Type 0
-NoFault (Fault from to) = ⊥
+NoFault (Not (Fault from to)) = ⊥
 NoFault closed = Unit {0}
 
 -- an answer to an item is a fault, or the mirror's
@@ -40,11 +41,11 @@ lives-at (At ask left zero next) t quiet = by t.closed quiet
   where
     by : (closed : Closed) → NoFault closed → LivesAt (At ask left zero next) (record { lane = t.lane; closed = closed })
     by (Served body) q = tt
-    by (Moved place) q = tt
-    by (Absent status) q = tt
-    by TooBig q = tt
-    by (Garbled at) q = tt
-    by (Fault from to) q = absurd q
+    by (Not (Moved place)) q = tt
+    by (Not (Absent status)) q = tt
+    by (Not TooBig) q = tt
+    by (Not (Garbled at)) q = tt
+    by (Not (Fault from to)) q = absurd q
 
 pub lives-along : (retries : ℕ) (p : Point) (notes : List Note) → Each (λ note. NoFault note.told.closed) notes → LivesAlong retries p (lane_answers notes)
 lives-along retries p [] quiet = tt

@@ -15,11 +15,12 @@ use Rattle.update_model.specs.declared.ask.Closed.{Closed}
 use Rattle.update_model.specs.declared.ask.Closed.TheVariants as closed
 use Rattle.update_model.specs.declared.log.Asked.{Asked}
 use Rattle.update_model.specs.declared.log.Heard.{Heard}
-use Rattle.update_model.specs.declared.log.Heard.TheVariants.{Absent, Fault, Garbled, Moved, Served, TooBig}
+use Rattle.update_model.specs.declared.log.Heard.TheVariants.{Served, Not}
+use Rattle.acq_base.specs.declared.fetch.NotServed.TheVariants.{Moved, Absent, TooBig, Garbled, Fault}
 use Rattle.run_jobs.proofs.Telling.{counts_rise}
 
 abbrev pub IsQuietHeard : Heard → Type 0
-IsQuietHeard (Fault before after) = ⊥
+IsQuietHeard (Not (Fault before after)) = ⊥
 IsQuietHeard heard = Unit {0}
 
 -- ---- a log
@@ -35,11 +36,11 @@ none-told first (e ∷ entries) counts = by e.heard (λ count on. none-told coun
     by : (heard : Heard) → ((count : ℕ) → CountsUp count 0 entries → Each (λ e. IsQuietHeard e.heard) entries) → CountsOn heard first (λ count. CountsUp count 0 entries)
         → IsQuietHeard heard × Each (λ e. IsQuietHeard e.heard) entries
     by (Served sum) more c = (tt, more first c)
-    by (Moved place) more c = (tt, more first c)
-    by (Absent status) more c = (tt, more first c)
-    by TooBig more c = (tt, more first c)
-    by (Garbled at) more c = (tt, more first c)
-    by (Fault before after) more c = absurd (not-risen before after c.1 (counts_rise after 0 entries c.3))
+    by (Not (Moved place)) more c = (tt, more first c)
+    by (Not (Absent status)) more c = (tt, more first c)
+    by (Not TooBig) more c = (tt, more first c)
+    by (Not (Garbled at)) more c = (tt, more first c)
+    by (Not (Fault before after)) more c = absurd (not-risen before after c.1 (counts_rise after 0 entries c.3))
 
 -- where there is one lane, all entries are its
 quiet-entries : (asks : List Asked) → Each (λ e. e.lane < 1) asks → Each (λ e. IsQuietHeard e.heard) (asks_of_lane 0 asks) → Each (λ e. IsQuietHeard e.heard) asks
@@ -58,11 +59,11 @@ quiet-asks asks faults = quiet-entries asks faults.lanes (none-told 0 (asks_of_l
 
 quiet-answer : (answer : Closed) → IsQuietHeard (heard_of answer) → NoFault answer
 quiet-answer (closed.Served body) quiet = tt
-quiet-answer (closed.Moved place) quiet = tt
-quiet-answer (closed.Absent status) quiet = tt
-quiet-answer closed.TooBig quiet = tt
-quiet-answer (closed.Garbled at) quiet = tt
-quiet-answer (closed.Fault before after) quiet = absurd quiet
+quiet-answer (closed.Not (Not (Moved place))) quiet = tt
+quiet-answer (closed.Not (Not (Absent status))) quiet = tt
+quiet-answer (closed.Not (Not TooBig)) quiet = tt
+quiet-answer (closed.Not (Not (Garbled at))) quiet = tt
+quiet-answer (closed.Not (Not (Fault before after))) quiet = absurd quiet
 
 pub quiet-notes : (notes : List Note) → Each (λ e. IsQuietHeard e.heard) (entries_of notes) → Each (λ note. NoFault note.told.closed) notes
 quiet-notes [] quiet = tt
@@ -82,11 +83,11 @@ answered retries left (note ∷ notes) quiet = by note.told.closed quiet.0 (answ
   where
     by : (answer : Closed) → NoFault answer → IsAnswered retries retries notes → AfterAnswer answer left (λ n. IsAnswered retries n notes) (IsAnswered retries retries notes)
     by (closed.Served body) q rest = rest
-    by (closed.Moved place) q rest = rest
-    by (closed.Absent status) q rest = rest
-    by closed.TooBig q rest = rest
-    by (closed.Garbled at) q rest = rest
-    by (closed.Fault before after) q rest = absurd q
+    by (closed.Not (Not (Moved place))) q rest = rest
+    by (closed.Not (Not (Absent status))) q rest = rest
+    by (closed.Not (Not TooBig)) q rest = rest
+    by (closed.Not (Not (Garbled at))) q rest = rest
+    by (closed.Not (Not (Fault before after))) q rest = absurd q
 
 pub none-dead : (retries : ℕ) (notes : List Note) → Each (λ note. NoFault note.told.closed) notes → NoneIsDead retries notes
 none-dead retries notes quiet = λ key. answered retries retries (of_key key notes) (quiet-key key notes quiet)

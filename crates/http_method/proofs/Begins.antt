@@ -1,10 +1,9 @@
 -- How a response begins behind its request.
 use Rattle.std.proofs.Common.{◌≡◌, ◌∙◌, ℕ, ◌+◌, Bool, true, false, List, [], ◌++◌, Option, Some, None, IfSome, option_map, unwrap_or, ⊎_elim, inl, inr, refl, sym, ap, subst, arith, append-nil}
 use Rattle.acq_base.specs.declared.fetch.Job.{Job}
-use Rattle.acq_base.specs.declared.fetch.Reply.TheVariants as replies
 use Rattle.acq_base.specs.Uri.{IsSound}
 use Rattle.acq_outside.specs.declared.word.Fetch.{Fetch}
-use Rattle.acq_outside.specs.declared.word.Word.TheVariants.{Other}
+use Rattle.acq_outside.specs.declared.word.Word.TheVariants.{NoMemory}
 use Rattle.acq_outside.specs.Word.{CanBegin, begun}
 use Rattle.acq_base.specs.declared.uri.Uri.{Uri}
 use Rattle.acq_base.specs.declared.uri.Scheme.TheVariants.{Http}
@@ -112,8 +111,8 @@ anew_on line kept later job said anew = record { is = inr anew.is }
 pub again_on : (line : Line) (kept : Option Place) (later : Line) (job : Job) (said : Said) → is_for kept job.uri ≡ true → BeginsAgain line later job said → BeginsOn line kept later job said
 again_on line kept later job said for_it again = record { is = ⊎_elim (λ (old : HearsSo later job (unwrap_or line.talk silent) [] said). inl (for_it, old)) (λ (new : HearsSo later job silent [] said). inr new) again.is }
 
-dry_hears : (later : Line) (job : Job) (said : Said) → said.word ≡ Other replies.NoMemory → HearsSo later job silent [] said
+dry_hears : (later : Line) (job : Job) (said : Said) → said.word ≡ NoMemory → HearsSo later job silent [] said
 dry_hears later job said dry = subst (λ w. Hears later job silent [] w said.kept said.reading) (sym dry) tt
 
-pub dry_anew : (later : Line) (job : Job) (said : Said) → said.word ≡ Other replies.NoMemory → BeginsAnew later job said
+pub dry_anew : (later : Line) (job : Job) (said : Said) → said.word ≡ NoMemory → BeginsAnew later job said
 dry_anew later job said dry = record { is = dry_hears later job said dry }

@@ -1,12 +1,14 @@
 -- The last word to a fetch is what is heard of the bytes received since its request.
 use Rattle.std.proofs.Common.{◌≡◌, ◌≢◌, ◌∙◌, ◌⊎◌, ℕ, ◌+◌, ◌<◌, ◌≤◌, Bool, true, false, not, ◌&&◌, List, [], ◌∷◌, ◌++◌, Option, Some, None, IfSome, ⊎_elim, inl, inr, refl, sym, ap, subst, arith, length, append-nil, length-append}
 use Rattle.acq_base.specs.declared.fetch.Job.{Job}
+use Rattle.acq_base.specs.declared.fetch.NotServed.{NotServed}
 use Rattle.acq_base.specs.declared.fetch.Reply.{Reply}
+use Rattle.acq_base.specs.declared.fetch.NotServed.TheVariants as nots
 use Rattle.acq_base.specs.declared.fetch.Reply.TheVariants as replies
 use Rattle.acq_base.specs.declared.uri.Uri.{Uri}
 use Rattle.acq_outside.specs.declared.word.Fetch.{Fetch}
 use Rattle.acq_outside.specs.declared.word.Word.{Word}
-use Rattle.acq_outside.specs.declared.word.Word.TheVariants.{Piece, Done, Other}
+use Rattle.acq_outside.specs.declared.word.Word.TheVariants.{Piece, Done, Other, NoMemory}
 use Rattle.acq_outside.specs.Word.{CanBegin, IsWord}
 use Rattle.acq_base.specs.Mirror.{MirrorMap, answer_at}
 use Rattle.acq_net.specs.declared.link.Link.{Ghosts}
@@ -70,11 +72,11 @@ served_ending (Some (Moved place)) uri given body bytes is = absurd cc
 served_ending (Some TooBig) uri given body bytes is = absurd cc
 served_ending (Some (Garbled at)) uri given body bytes is = absurd cc
 
-no_fault : (e : Option Response) (uri : Uri) (given body : List ℕ) (before after : ℕ) → IsReply uri given e body (replies.Fault before after) → ⊥
+no_fault : (e : Option Response) (uri : Uri) (given body : List ℕ) (before after : ℕ) → IsReply uri given e body (replies.Not (nots.Fault before after)) → ⊥
 no_fault None uri given body before after is = is
 no_fault (Some (Served keep)) uri given body before after is = absurd (fault_served before after is.0 is.1)
   where
-    fault_served : (before after : ℕ) (bytes : List ℕ) → replies.Fault before after ≡ replies.Served bytes → ⊥
+    fault_served : (before after : ℕ) (bytes : List ℕ) → (replies.Not (nots.Fault before after)) ≡ replies.Served bytes → ⊥
     fault_served before after bytes e = cc
 no_fault (Some (Absent status)) uri given body before after is = cc
 no_fault (Some (Moved place)) uri given body before after is = cc
@@ -155,13 +157,13 @@ file_ends stays line later r before given bytes reads same all answer =
     big_is keep e = cc
 
 -- anything else
-other_ends : (stays : Stays) (line later : Line) (r : Reading) (before : Talk) (given : List ℕ) (reply : Reply) (reads : Reads line r before given) → later ≡ line → is_file reply ≡ false → reply ≢ replies.NoMemory
-    → Answer r given reads.bytes reply → Ends later r.fetch.job before given (Other reply) None
-other_ends stays line later r before given reply reads same other wet answer =
+other_ends : (stays : Stays) (line later : Line) (r : Reading) (before : Talk) (given : List ℕ) (end : NotServed) (reads : Reads line r before given) → later ≡ line
+    → Answer r given reads.bytes (replies.Not end) → Ends later r.fetch.job before given (Not end) None
+other_ends stays line later r before given end reads same answer =
     let t = answer.tells in
     let x = t.heard in
-    let is : IsReply r.fetch.job.uri given x.ending x.body reply = ⊎_elim (λ (dry : reply ≡ replies.NoMemory). absurd (wet dry)) (λ (found : IsReply r.fetch.job.uri given x.ending x.body reply). found) answer.is in
-    let shut : leaves_open x.ending ≡ false = not_open x.ending r.fetch.job.uri given x.body reply other is in
+    let is : IsReply r.fetch.job.uri given x.ending x.body (replies.Not end) = ⊎_elim (λ (dry : replies.Not end ≡ replies.NoMemory). absurd (cc)) (λ (found : IsReply r.fetch.job.uri given x.ending x.body (replies.Not end)). found) answer.is in
+    let shut : leaves_open x.ending ≡ false = not_open x.ending r.fetch.job.uri given x.body (replies.Not end) refl is in
     record {
       heard = followed x reads.rest;
       bytes = reads.bytes ++ reads.rest;
@@ -182,11 +184,11 @@ saying word kept = record { word = word; kept = kept; reading = None }
 hears_last : (stays : Stays) (line later : Line) (r : Reading) (before : Talk) (given : List ℕ) (reply : Reply) (reads : Reads line r before given) → later ≡ line → (IsDone (wire_state r.wire) → held r.wire ≡ [])
     → Answer r given reads.bytes reply → Hears later r.fetch.job before given (word_of r.fetch.at reply) (kept_if (is_file reply && is_kept r.behind (wire_state r.wire)) r.fetch.job.uri) None
 hears_last stays line later r before given (replies.Served bytes) reads same all answer = file_ends stays line later r before given bytes reads same all answer
-hears_last stays line later r before given (replies.Moved place) reads same all answer = other_ends stays line later r before given (replies.Moved place) reads same refl (λ e. cc) answer
-hears_last stays line later r before given (replies.Absent status) reads same all answer = other_ends stays line later r before given (replies.Absent status) reads same refl (λ e. cc) answer
-hears_last stays line later r before given replies.TooBig reads same all answer = other_ends stays line later r before given replies.TooBig reads same refl (λ e. cc) answer
-hears_last stays line later r before given (replies.Garbled at) reads same all answer = other_ends stays line later r before given (replies.Garbled at) reads same refl (λ e. cc) answer
-hears_last stays line later r before given (replies.Fault a b) reads same all answer = tt
+hears_last stays line later r before given (replies.Not (nots.Moved place)) reads same all answer = other_ends stays line later r before given (nots.Moved place) reads same answer
+hears_last stays line later r before given (replies.Not (nots.Absent status)) reads same all answer = other_ends stays line later r before given (nots.Absent status) reads same answer
+hears_last stays line later r before given (replies.Not nots.TooBig) reads same all answer = other_ends stays line later r before given nots.TooBig reads same answer
+hears_last stays line later r before given (replies.Not (nots.Garbled at)) reads same all answer = other_ends stays line later r before given (nots.Garbled at) reads same answer
+hears_last stays line later r before given (replies.Not (nots.Fault a b)) reads same all answer = tt
 hears_last stays line later r before given replies.NoMemory reads same all answer = tt
 
 pub last_says : (one : OneReading) (stays : Stays) (tells : AllTell) (line later : Line) (r : Reading) (reply : Reply) → later ≡ line → wire_state r.wire ≢ states.More → (IsDone (wire_state r.wire) → held r.wire ≡ [])
@@ -195,13 +197,13 @@ last_says one stays tells line later r reply same over all says = record {
   is = λ before given reads. hears_last stays line later r before given reply reads same all (answered one tells r given reads.bytes reply over says reads.follows);
 }
 
-told_last : (n at : ℕ) (fetch : Fetch) (reply : Reply) → at ≡ fetch.at → ((a b : ℕ) → reply ≡ replies.Fault a b → ⊥) → IsWord n n None fetch None (word_of at reply)
+told_last : (n at : ℕ) (fetch : Fetch) (reply : Reply) → at ≡ fetch.at → ((a b : ℕ) → reply ≡ (replies.Not (nots.Fault a b)) → ⊥) → IsWord n n None fetch None (word_of at reply)
 told_last n at fetch (replies.Served bytes) same never = record { quiet = refl; reached = same; ended = refl; told = tt }
-told_last n at fetch (replies.Moved place) same never = record { counted = refl; ended = refl; told = tt }
-told_last n at fetch (replies.Absent status) same never = record { counted = refl; ended = refl; told = tt }
-told_last n at fetch replies.TooBig same never = record { counted = refl; ended = refl; told = tt }
-told_last n at fetch (replies.Garbled place) same never = record { counted = refl; ended = refl; told = tt }
-told_last n at fetch (replies.Fault a b) same never = absurd (never a b refl)
+told_last n at fetch (replies.Not (nots.Moved place)) same never = record { counted = refl; ended = refl; told = tt }
+told_last n at fetch (replies.Not (nots.Absent status)) same never = record { counted = refl; ended = refl; told = tt }
+told_last n at fetch (replies.Not nots.TooBig) same never = record { counted = refl; ended = refl; told = tt }
+told_last n at fetch (replies.Not (nots.Garbled place)) same never = record { counted = refl; ended = refl; told = tt }
+told_last n at fetch (replies.Not (nots.Fault a b)) same never = absurd (never a b refl)
 told_last n at fetch replies.NoMemory same never = record { counted = refl; ended = refl; told = tt }
 
 last_untold : (one : OneReading) (tells : AllTell) (line : Line) (r : Reading) (reply : Reply) (n : ℕ) → IsReading line r [] → wire_state r.wire ≢ states.More → AllReply r.fetch.job.uri r.wire reply → IsWord n n None r.fetch None (word_of r.fetch.at reply)
@@ -212,7 +214,7 @@ last_untold one tells line r reply n is over says =
     ⊎_elim (λ (dry : reply ≡ replies.NoMemory). fault_dry a b (sym e ∙ dry))
     (λ (found : IsReply r.fetch.job.uri (is.given ++ []) x.ending x.body reply). no_fault x.ending r.fetch.job.uri (is.given ++ []) x.body a b (subst (λ y. IsReply r.fetch.job.uri (is.given ++ []) x.ending x.body y) e found)) answer.is)
   where
-    fault_dry : (a b : ℕ) → replies.Fault a b ≡ replies.NoMemory → ⊥
+    fault_dry : (a b : ℕ) → (replies.Not (nots.Fault a b)) ≡ replies.NoMemory → ⊥
     fault_dry a b e = cc
 
 -- what is heard last of a reading
@@ -236,11 +238,11 @@ last_told one stays till tells line later r reply same is over all says = record
 keeps_last : (one : OneReading) (stays : Stays) (till : StaysAtEnd) (line : Line) (job : Job) (before : Talk) (given : List ℕ) (at : ℕ) (reply : Reply) (keep : Bool) → CanBegin job
     → Hears line job before given (word_of at reply) (kept_if (is_file reply && keep) job.uri) None → IfSome (kept_if (is_file reply && keep) job.uri) (IsOpen line)
 keeps_last one stays till line job before given at (replies.Served bytes) keep can hears = ends_open one stays till line job before given (Done at) (kept_if keep job.uri) can hears
-keeps_last one stays till line job before given at (replies.Moved place) keep can hears = tt
-keeps_last one stays till line job before given at (replies.Absent status) keep can hears = tt
-keeps_last one stays till line job before given at replies.TooBig keep can hears = tt
-keeps_last one stays till line job before given at (replies.Garbled place) keep can hears = tt
-keeps_last one stays till line job before given at (replies.Fault a b) keep can hears = tt
+keeps_last one stays till line job before given at (replies.Not (nots.Moved place)) keep can hears = tt
+keeps_last one stays till line job before given at (replies.Not (nots.Absent status)) keep can hears = tt
+keeps_last one stays till line job before given at (replies.Not nots.TooBig) keep can hears = tt
+keeps_last one stays till line job before given at (replies.Not (nots.Garbled place)) keep can hears = tt
+keeps_last one stays till line job before given at (replies.Not (nots.Fault a b)) keep can hears = tt
 keeps_last one stays till line job before given at replies.NoMemory keep can hears = tt
 
 last_keeps : (one : OneReading) (stays : Stays) (till : StaysAtEnd) (tells : AllTell) (line later : Line) (r : Reading) (reply : Reply) → later ≡ line → IsReading line r [] → wire_state r.wire ≢ states.More → (IsDone (wire_state r.wire) → held r.wire ≡ [])
@@ -306,7 +308,7 @@ part_is line r bytes is = record {
 pub part_keeps : (line : Line) (r : Reading) (bytes : List ℕ) (said : Said) → said ≡ part_of r bytes → IsReading line r bytes → Keeps line said.kept said.reading
 part_keeps line r bytes said said_is is = subst (λ (s : Said). Keeps line s.kept s.reading) (sym said_is) (record { reads = part_is line r bytes is; open_is = tt; one = λ some. refl })
 
-pub dry_says : (line later : Line) (r : Reading) (said : Said) → said.word ≡ Other replies.NoMemory → SaysOn line r later said
+pub dry_says : (line later : Line) (r : Reading) (said : Said) → said.word ≡ NoMemory → SaysOn line r later said
 dry_says line later r said dry = record { is = λ before given reads. subst (λ w. Hears later r.fetch.job before given w said.kept said.reading) (sym dry) tt }
 
 pub goes_says : (line middle later : Line) (r next : Reading) (bytes : List ℕ) (said : Said) → Goes line r middle next bytes → next.fetch ≡ r.fetch → GivesOn middle next later bytes said → SaysOn line r later said

@@ -5,13 +5,15 @@ use Rattle.std.proofs.lemmas.Bool.{not-true, and_parts}
 use Rattle.acq_base.specs.declared.fetch.Answer.{Answer}
 use Rattle.acq_base.specs.declared.fetch.Answer.TheVariants as answers
 use Rattle.acq_base.specs.declared.fetch.Job.{Job}
+use Rattle.acq_base.specs.declared.fetch.NotServed.{NotServed}
 use Rattle.acq_base.specs.declared.fetch.Reply.{Reply}
+use Rattle.acq_base.specs.declared.fetch.NotServed.TheVariants as nots
 use Rattle.acq_base.specs.declared.fetch.Reply.TheVariants as replies
 use Rattle.acq_base.specs.declared.uri.Uri.{Uri}
 use Rattle.acq_base.specs.Mirror.{MirrorMap, answer_at}
 use Rattle.acq_outside.specs.declared.word.Fetch.{Fetch}
 use Rattle.acq_outside.specs.declared.word.Word.{Word}
-use Rattle.acq_outside.specs.declared.word.Word.TheVariants.{Piece, Done, Other}
+use Rattle.acq_outside.specs.declared.word.Word.TheVariants.{Piece, Done, Other, Not, NoMemory}
 use Rattle.acq_outside.specs.Word.{CanBegin, HasSize, IsPieceOf, IsWord, IsReplyOf}
 use Rattle.acq_net.specs.Due.{Due, HeardAnswer, HeardFile, Big, Short, Whole, owing}
 use Rattle.acq_net.specs.Talk.{Talk, is_none}
@@ -90,55 +92,58 @@ no_file reply bytes other e = let file : is_file reply ≡ true = ap is_file e i
 
 means_other : (answer : Answer) (job : Job) (x : Heard) (rest given : List ℕ) (keep : Bool) (reply : Reply) → is_file reply ≡ false → IsReply job.uri given x.ending x.body reply → HeardAnswer answer job.uri job.max job.from keep (followed x rest) → IsReplyOf answer job reply
 means_other (answers.Served all) job x rest given keep reply other says (Big over is) =
-    let reply_is : reply ≡ replies.TooBig = subst (λ (e : Option Response). IsReply job.uri given e x.body reply) is says in
+    let reply_is : reply ≡ (replies.Not nots.TooBig) = subst (λ (e : Option Response). IsReply job.uri given e x.body reply) is says in
     subst (IsReplyOf (answers.Served all) job) (sym reply_is) over
 means_other (answers.Served all) job x rest given keep reply other says (Short left_out ends is) =
-    let reply_is : reply ≡ replies.Absent 416 = subst (λ (e : Option Response). IsReply job.uri given e x.body reply) is says in
+    let reply_is : reply ≡ (replies.Not (nots.Absent 416)) = subst (λ (e : Option Response). IsReply job.uri given e x.body reply) is says in
     subst (IsReplyOf (answers.Served all) job) (sym reply_is) (refl, left_out, ends)
 means_other (answers.Served all) job x rest given keep reply other says (Whole begins fits is) =
     let e : x.ending ≡ Some (Served keep) = ap (λ z. z.ending) is in
     let served : IsReply job.uri given (Some (Served keep)) x.body reply = subst (λ (e : Option Response). IsReply job.uri given e x.body reply) e says in
     absurd (no_file reply served.0 other served.1)
 means_other (answers.Moved to) job x rest given keep reply other says h =
-    let reply_is : reply ≡ replies.Moved _ = subst (λ (e : Option Response). IsReply job.uri given e x.body reply) h.1 says in
+    let reply_is : reply ≡ (replies.Not (nots.Moved _)) = subst (λ (e : Option Response). IsReply job.uri given e x.body reply) h.1 says in
     subst (IsReplyOf (answers.Moved to) job) (sym reply_is) h.2
 means_other (answers.Absent status) job x rest given keep reply other says h =
-    let reply_is : reply ≡ replies.Absent status = subst (λ (e : Option Response). IsReply job.uri given e x.body reply) h says in
+    let reply_is : reply ≡ (replies.Not (nots.Absent status)) = subst (λ (e : Option Response). IsReply job.uri given e x.body reply) h says in
     subst (IsReplyOf (answers.Absent status) job) (sym reply_is) refl
 
 -- what a word says of an answer
 abbrev pub Means : Answer → Fetch → Word → Type 0
 Means answer fetch (Piece place bytes) = IsPieceOf answer fetch.at bytes
 Means answer fetch (Done size) = HasSize answer fetch.job size
-Means answer fetch (Other reply) = IsReplyOf answer fetch.job reply
+Means answer fetch (Not end) = IsReplyOf answer fetch.job (replies.Not end)
+Means answer fetch NoMemory = IsReplyOf answer fetch.job replies.NoMemory
 
 pub told_word : (n m : ℕ) (world : Option MirrorMap) (fetch : Fetch) (under : Option Fetch) (word : Word) → IsWord n m None fetch under word → IfSome world (λ entries. Means (answer_at entries fetch.job.uri) fetch word) → IsWord n m world fetch under word
 told_word n m world fetch under (Piece place bytes) is told =
     record { quiet = is.quiet; goes_on = is.goes_on; nonempty = is.nonempty; small = is.small; within = is.within; under_way = is.under_way; told = told }
 told_word n m world fetch under (Done size) is told = record { quiet = is.quiet; reached = is.reached; ended = is.ended; told = told }
-told_word n m world fetch under (Other reply) is told = record { counted = is.counted; ended = is.ended; told = told }
+told_word n m world fetch under (Not end) is told = record { counted = is.counted; ended = is.ended; told = told }
+told_word n m world fetch under NoMemory is told = record { counted = is.counted; ended = is.ended; told = told }
 
 pub untold_word : (n m : ℕ) (world : Option MirrorMap) (fetch : Fetch) (under : Option Fetch) (word : Word) → IsWord n m world fetch under word → IsWord n m None fetch under word
 untold_word n m world fetch under (Piece place bytes) is =
     record { quiet = is.quiet; goes_on = is.goes_on; nonempty = is.nonempty; small = is.small; within = is.within; under_way = is.under_way; told = tt }
 untold_word n m world fetch under (Done size) is = record { quiet = is.quiet; reached = is.reached; ended = is.ended; told = tt }
-untold_word n m world fetch under (Other reply) is = record { counted = is.counted; ended = is.ended; told = tt }
+untold_word n m world fetch under (Not end) is = record { counted = is.counted; ended = is.ended; told = tt }
+untold_word n m world fetch under NoMemory is = record { counted = is.counted; ended = is.ended; told = tt }
 
 tells_dry : (answer : Answer) (job : Job) → IsReplyOf answer job replies.NoMemory
 tells_dry (answers.Served all) job = tt
 tells_dry (answers.Moved to) job = tt
 tells_dry (answers.Absent status) job = tt
 
-tells_fault : (answer : Answer) (job : Job) (a b : ℕ) → IsReplyOf answer job (replies.Fault a b)
+tells_fault : (answer : Answer) (job : Job) (a b : ℕ) → IsReplyOf answer job (replies.Not (nots.Fault a b))
 tells_fault (answers.Served all) job a b = tt
 tells_fault (answers.Moved to) job a b = tt
 tells_fault (answers.Absent status) job a b = tt
 
-pub means_dry : (world : Option MirrorMap) (fetch : Fetch) → IfSome world (λ entries. Means (answer_at entries fetch.job.uri) fetch (Other replies.NoMemory))
+pub means_dry : (world : Option MirrorMap) (fetch : Fetch) → IfSome world (λ entries. Means (answer_at entries fetch.job.uri) fetch NoMemory)
 means_dry None fetch = tt
 means_dry (Some entries) fetch = tells_dry (answer_at entries fetch.job.uri) fetch.job
 
-pub means_fault : (world : Option MirrorMap) (fetch : Fetch) (a b : ℕ) → IfSome world (λ entries. Means (answer_at entries fetch.job.uri) fetch (Other (replies.Fault a b)))
+pub means_fault : (world : Option MirrorMap) (fetch : Fetch) (a b : ℕ) → IfSome world (λ entries. Means (answer_at entries fetch.job.uri) fetch (Not (nots.Fault a b)))
 means_fault None fetch a b = tt
 means_fault (Some entries) fetch a b = tells_fault (answer_at entries fetch.job.uri) fetch.job a b
 
@@ -159,25 +164,24 @@ ends_done one stays till line fetch before given size kept can at e =
     (λ entries owed. means_done (answer_at entries fetch.job.uri) fetch.job e.heard owed.rest given owed.keep size e.says.0 e.says.1 at
     (answer_heard one stays till entries line.due fetch.job e.bytes e.ended e.heard can (over_of e.heard.ending e.says.0) e.is owed)) e.told.owed
 
-ends_other : (one : OneReading) (stays : Stays) (till : StaysAtEnd) (line : Line) (fetch : Fetch) (before : Talk) (given : List ℕ) (reply : Reply) (kept : Option Place) → CanBegin fetch.job → is_file reply ≡ false → Ends line fetch.job before given (Other reply) kept
-    → IfSome line.world (λ entries. IsReplyOf (answer_at entries fetch.job.uri) fetch.job reply)
-ends_other one stays till line fetch before given reply kept can other e =
+ends_other : (one : OneReading) (stays : Stays) (till : StaysAtEnd) (line : Line) (fetch : Fetch) (before : Talk) (given : List ℕ) (end : NotServed) (kept : Option Place) → CanBegin fetch.job → Ends line fetch.job before given (Not end) kept
+    → IfSome line.world (λ entries. IsReplyOf (answer_at entries fetch.job.uri) fetch.job (replies.Not end))
+ends_other one stays till line fetch before given end kept can e =
     of_owed line.world line.due fetch.job e.bytes e.ended _
-    (λ entries owed. means_other (answer_at entries fetch.job.uri) fetch.job e.heard owed.rest given owed.keep reply other e.says
-    (answer_heard one stays till entries line.due fetch.job e.bytes e.ended e.heard can (reply_over fetch.job.uri given e.heard.ending e.heard.body reply e.says) e.is owed)) e.told.owed
+    (λ entries owed. means_other (answer_at entries fetch.job.uri) fetch.job e.heard owed.rest given owed.keep (replies.Not end) refl e.says
+    (answer_heard one stays till entries line.due fetch.job e.bytes e.ended e.heard can (reply_over fetch.job.uri given e.heard.ending e.heard.body (replies.Not end) e.says) e.is owed)) e.told.owed
 
 -- the last word to a fetch
 pub means_last : (one : OneReading) (stays : Stays) (till : StaysAtEnd) (line : Line) (fetch : Fetch) (before : Talk) (given : List ℕ) (word : Word) (kept : Option Place) (n : ℕ) → CanBegin fetch.job → fetch.at ≡ fetch.job.from + length given
     → IsWord n n None fetch None word → Hears line fetch.job before given word kept None → IfSome line.world (λ entries. Means (answer_at entries fetch.job.uri) fetch word)
 means_last one stays till line fetch before given (Piece place bytes) kept n can at is hears = absurd hears
 means_last one stays till line fetch before given (Done size) kept n can at is hears = ends_done one stays till line fetch before given size kept can (is.reached ∙ at) hears
-means_last one stays till line fetch before given (Other (replies.Served bytes)) kept n can at is hears = absurd hears
-means_last one stays till line fetch before given (Other (replies.Moved place)) kept n can at is hears = ends_other one stays till line fetch before given (replies.Moved place) kept can refl hears
-means_last one stays till line fetch before given (Other (replies.Absent status)) kept n can at is hears = ends_other one stays till line fetch before given (replies.Absent status) kept can refl hears
-means_last one stays till line fetch before given (Other replies.TooBig) kept n can at is hears = ends_other one stays till line fetch before given replies.TooBig kept can refl hears
-means_last one stays till line fetch before given (Other (replies.Garbled place)) kept n can at is hears = ends_other one stays till line fetch before given (replies.Garbled place) kept can refl hears
-means_last one stays till line fetch before given (Other (replies.Fault a b)) kept n can at is hears = means_fault line.world fetch a b
-means_last one stays till line fetch before given (Other replies.NoMemory) kept n can at is hears = means_dry line.world fetch
+means_last one stays till line fetch before given (Not (nots.Moved place)) kept n can at is hears = ends_other one stays till line fetch before given (nots.Moved place) kept can hears
+means_last one stays till line fetch before given (Not (nots.Absent status)) kept n can at is hears = ends_other one stays till line fetch before given (nots.Absent status) kept can hears
+means_last one stays till line fetch before given (Not nots.TooBig) kept n can at is hears = ends_other one stays till line fetch before given nots.TooBig kept can hears
+means_last one stays till line fetch before given (Not (nots.Garbled place)) kept n can at is hears = ends_other one stays till line fetch before given (nots.Garbled place) kept can hears
+means_last one stays till line fetch before given (Not (nots.Fault a b)) kept n can at is hears = means_fault line.world fetch a b
+means_last one stays till line fetch before given NoMemory kept n can at is hears = means_dry line.world fetch
 
 -- ---- what is kept
 

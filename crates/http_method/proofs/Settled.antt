@@ -1,12 +1,13 @@
 -- What a method shows behind a word or a fault of its link.
 use Rattle.std.proofs.Common.{◌≡◌, ◌∙◌, ℕ, ◌==◌, ◌&&◌, Bool, true, false, bytes_eq, if◌then◌else◌, [], ◌∷◌, Option, Some, None, IfSome, Result, Ok, Err, IfOk, OnOk, OnErr, refl, sym, ap, subst, arith}
 use Rattle.std.proofs.lemmas.Bool.{and_parts}
+use Rattle.acq_base.specs.declared.fetch.NotServed.TheVariants as nots
 use Rattle.acq_base.specs.declared.fetch.Reply.TheVariants as replies
 use Rattle.acq_outside.specs.Count.{Rose, one_more}
 use Rattle.acq_outside.specs.declared.fault.Fault.{Fault}
 use Rattle.acq_outside.specs.declared.word.Fetch.{Fetch}
 use Rattle.acq_outside.specs.declared.word.Word.{Word}
-use Rattle.acq_outside.specs.declared.word.Word.TheVariants.{Piece, Done, Other}
+use Rattle.acq_outside.specs.declared.word.Word.TheVariants.{Piece, Done, Not, NoMemory}
 use Rattle.acq_base.specs.declared.fetch.Job.{Job}
 use Rattle.acq_base.specs.declared.uri.Uri.{Uri}
 use Rattle.acq_base.specs.declared.uri.Scheme.{Scheme}
@@ -25,19 +26,19 @@ use Rattle.http_method.specs.HttpMethod.{HttpState, CountsFault}
 use Rattle.http_method.specs.Reading.{Hears, IsMirrorsWord, SaysOn, has_no_file, is_http, under_of, world_of}
 use Rattle.http_method.proofs.Mirrors.{means_fault, told_word, untold_word}
 
-fault_word : (world : Option MirrorMap) (n k m : ℕ) (fetch : Fetch) → k ≡ n → m ≡ one_more n → IsWord n m world fetch None (Other (replies.Fault k m))
+fault_word : (world : Option MirrorMap) (n k m : ℕ) (fetch : Fetch) → k ≡ n → m ≡ one_more n → IsWord n m world fetch None (Not (nots.Fault k m))
 fault_word world n k m fetch same rose =
-    let is : IsWord n m None fetch None (Other (replies.Fault k m)) = record { counted = (same, refl, rises n m rose); ended = refl; told = tt } in
-    told_word n m world fetch None (Other (replies.Fault k m)) is (means_fault world fetch k m)
+    let is : IsWord n m None fetch None (Not (nots.Fault k m)) = record { counted = (same, refl, rises n m rose); ended = refl; told = tt } in
+    told_word n m world fetch None (Not (nots.Fault k m)) is (means_fault world fetch k m)
 
 pub settled_word : (world : Option MirrorMap) (n k m : ℕ) (fetch : Fetch) (said : Result Said Fault) (word : Word) (reading : Option Reading) → k ≡ n → IfOk said (IsMirrorsWord world fetch) → IfOk said (λ one. word ≡ one.word) → IfOk said (λ one. reading ≡ one.reading)
-    → OnOk said (m ≡ k) → OnErr said (word ≡ Other (replies.Fault k m)) → OnErr said (reading ≡ None) → OnErr said (m ≡ one_more k) → IsWord n m world fetch (under_of reading) word
+    → OnOk said (m ≡ k) → OnErr said (word ≡ Not (nots.Fault k m)) → OnErr said (reading ≡ None) → OnErr said (m ≡ one_more k) → IsWord n m world fetch (under_of reading) word
 settled_word world n k m fetch (Ok one) word reading same told word_is reading_is quiet fault over counted =
     subst (λ w. IsWord n m world fetch (under_of reading) w) (sym word_is)
     (subst (λ r. IsWord n m world fetch (under_of r) one.word) (sym reading_is) (subst (λ j. IsWord n j world fetch (under_of one.reading) one.word) (sym (quiet ∙ same)) (told.is n)))
 settled_word world n k m fetch (Err error) word reading same told word_is reading_is quiet fault over counted =
     subst (λ w. IsWord n m world fetch (under_of reading) w) (sym fault)
-    (subst (λ r. IsWord n m world fetch (under_of r) (Other (replies.Fault k m))) (sym over) (fault_word world n k m fetch same (counted ∙ ap one_more same)))
+    (subst (λ r. IsWord n m world fetch (under_of r) (Not (nots.Fault k m))) (sym over) (fault_word world n k m fetch same (counted ∙ ap one_more same)))
 
 never_rises : Rose 0 0 → ⊥
 never_rises rose = omega (arith, rose)
@@ -45,23 +46,22 @@ never_rises rose = omega (arith, rose)
 quiet_word : (a b : ℕ) (fetch : Fetch) (under : Option Fetch) (word : Word) → b ≡ a → IsWord 0 0 None fetch under word → CountsFault a b word
 quiet_word a b fetch under (Piece place bytes) same is = same
 quiet_word a b fetch under (Done size) same is = same
-quiet_word a b fetch under (Other (replies.Served bytes)) same is = same
-quiet_word a b fetch under (Other (replies.Moved place)) same is = same
-quiet_word a b fetch under (Other (replies.Absent status)) same is = same
-quiet_word a b fetch under (Other replies.TooBig) same is = same
-quiet_word a b fetch under (Other (replies.Garbled at)) same is = same
-quiet_word a b fetch under (Other (replies.Fault x y)) same is = absurd (never_rises is.counted.2)
-quiet_word a b fetch under (Other replies.NoMemory) same is = same
+quiet_word a b fetch under (Not (nots.Moved place)) same is = same
+quiet_word a b fetch under (Not (nots.Absent status)) same is = same
+quiet_word a b fetch under (Not nots.TooBig) same is = same
+quiet_word a b fetch under (Not (nots.Garbled at)) same is = same
+quiet_word a b fetch under (Not (nots.Fault x y)) same is = absurd (never_rises is.counted.2)
+quiet_word a b fetch under NoMemory same is = same
 
 pub settled_link : (world : Option MirrorMap) (a i b c x y : ℕ) (fetch : Fetch) (said : Result Said Fault) (word : Word) → i ≡ a → b ≡ c → IfOk said (IsMirrorsWord world fetch) → OnErr said (Rose i c) → OnOk said (c ≡ i) → IfOk said (λ one. word ≡ one.word)
-    → OnErr said (word ≡ Other (replies.Fault x y)) → CountsFault a b word
+    → OnErr said (word ≡ Not (nots.Fault x y)) → CountsFault a b word
 settled_link world a i b c x y fetch (Ok one) word before after told rose quiet word_is fault =
     subst (λ w. CountsFault a b w) (sym word_is) (quiet_word a b fetch (under_of one.reading) one.word (after ∙ quiet ∙ before) (untold_word 0 0 world fetch (under_of one.reading) one.word (told.is 0)))
 settled_link world a i b c x y fetch (Err error) word before after told rose quiet word_is fault =
     subst (λ w. CountsFault a b w) (sym fault) (subst (λ n. Rose n b) before (subst (λ n. Rose i n) (sym after) rose))
 
 pub settled_says : (line first later last : Line) (r : Reading) (said : Result Said Fault) (word : Word) (kept : Option Place) (reading : Option Reading) (x y : ℕ) → first ≡ line → last ≡ later → IfOk said (SaysOn first r later)
-    → IfOk said (λ one. word ≡ one.word) → IfOk said (λ one. kept ≡ one.kept) → IfOk said (λ one. reading ≡ one.reading) → OnErr said (word ≡ Other (replies.Fault x y)) → SaysOn line r last (record { word = word; kept = kept; reading = reading })
+    → IfOk said (λ one. word ≡ one.word) → IfOk said (λ one. kept ≡ one.kept) → IfOk said (λ one. reading ≡ one.reading) → OnErr said (word ≡ Not (nots.Fault x y)) → SaysOn line r last (record { word = word; kept = kept; reading = reading })
 settled_says line first later last r (Ok one) word kept reading x y before after says word_is kept_is reading_is fault =
     let P : Word → Type 0 = λ w. SaysOn first r later (record { word = w; kept = kept; reading = reading }) in
     let Q : Option Place → Type 0 = λ k. SaysOn first r later (record { word = one.word; kept = k; reading = reading }) in
@@ -114,16 +114,16 @@ file_absent uri is (entry ∷ entries) none =
     let both = and_parts (is_http entry.0.scheme) (has_no_file entries) none in
     ap (λ b. if b then entry.1 else answer_at entries uri) (other_uri entry.0 uri is both.0) ∙ file_absent uri is entries both.1
 
-tells_absent : (answer : Answer) (job : Job) → answer ≡ answers.Absent 404 → IsReplyOf answer job (replies.Absent 404)
-tells_absent answer job is = subst (λ a. IsReplyOf a job (replies.Absent 404)) (sym is) refl
+tells_absent : (answer : Answer) (job : Job) → answer ≡ answers.Absent 404 → IsReplyOf answer job (replies.Not (nots.Absent 404))
+tells_absent answer job is = subst (λ a. IsReplyOf a job (replies.Not (nots.Absent 404))) (sym is) refl
 
-file_told : (entries : MirrorMap) (test : Bool) (job : Job) → has_no_file entries ≡ test → job.uri.scheme ≡ File → IfSome (if test then Some entries else None) (λ some. IsReplyOf (answer_at some job.uri) job (replies.Absent 404))
+file_told : (entries : MirrorMap) (test : Bool) (job : Job) → has_no_file entries ≡ test → job.uri.scheme ≡ File → IfSome (if test then Some entries else None) (λ some. IsReplyOf (answer_at some job.uri) job (replies.Not (nots.Absent 404)))
 file_told entries true job none is = tells_absent (answer_at entries job.uri) job (file_absent job.uri is entries none)
 file_told entries false job none is = tt
 
-file_means : (world : Option MirrorMap) (job : Job) → job.uri.scheme ≡ File → IfSome (world_of world) (λ some. IsReplyOf (answer_at some job.uri) job (replies.Absent 404))
+file_means : (world : Option MirrorMap) (job : Job) → job.uri.scheme ≡ File → IfSome (world_of world) (λ some. IsReplyOf (answer_at some job.uri) job (replies.Not (nots.Absent 404)))
 file_means None job is = tt
 file_means (Some entries) job is = file_told entries (has_no_file entries) job refl is
 
-pub file_word : (n m : ℕ) (world : Option MirrorMap) (job : Job) (under : Option Fetch) → m ≡ n → under ≡ None → job.uri.scheme ≡ File → IsWord n m (world_of world) (begun job) under (Other (replies.Absent 404))
+pub file_word : (n m : ℕ) (world : Option MirrorMap) (job : Job) (under : Option Fetch) → m ≡ n → under ≡ None → job.uri.scheme ≡ File → IsWord n m (world_of world) (begun job) under (Not (nots.Absent 404))
 file_word n m world job under same none is = record { counted = same; ended = none; told = file_means world job is }

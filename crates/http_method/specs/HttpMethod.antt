@@ -1,11 +1,11 @@
 -- What a method over HTTP shows.
 use Rattle.std.specs.Prelude.{◌≡◌, ◌≤◌, ℕ, Option}
-use Rattle.acq_base.specs.declared.fetch.Reply.TheVariants as replies
+use Rattle.acq_base.specs.declared.fetch.NotServed.TheVariants as nots
 use Rattle.acq_base.specs.Mirror.{MirrorMap}
 use Rattle.acq_outside.specs.Count.{Rose}
 use Rattle.acq_outside.specs.Frame.{FetchesBy}
 use Rattle.acq_outside.specs.declared.word.Word.{Word}
-use Rattle.acq_outside.specs.declared.word.Word.TheVariants.{Piece, Done, Other}
+use Rattle.acq_outside.specs.declared.word.Word.TheVariants.{Piece, Done, Not, NoMemory}
 use Rattle.acq_net.specs.declared.link.Link.{Ghosts}
 use Rattle.http_method.specs.Reading.{world_of}
 use Rattle.http_method.specs.declared.reading.Place.{Place}
@@ -26,15 +26,14 @@ said_of word method = record { word = word; kept = method.kept; reading = method
 
 -- how often the link failed: a fault comes exactly where its count rose
 abbrev pub CountsFault : ℕ → ℕ → Word → Type 0
-CountsFault before after (Other (replies.Fault told_before told_after)) = Rose before after
+CountsFault before after (Not (nots.Fault told_before told_after)) = Rose before after
 CountsFault before after (Piece place bytes) = after ≡ before
 CountsFault before after (Done size) = after ≡ before
-CountsFault before after (Other (replies.Served bytes)) = after ≡ before
-CountsFault before after (Other (replies.Moved place)) = after ≡ before
-CountsFault before after (Other (replies.Absent status)) = after ≡ before
-CountsFault before after (Other replies.TooBig) = after ≡ before
-CountsFault before after (Other (replies.Garbled at)) = after ≡ before
-CountsFault before after (Other replies.NoMemory) = after ≡ before
+CountsFault before after (Not (nots.Moved place)) = after ≡ before
+CountsFault before after (Not (nots.Absent status)) = after ≡ before
+CountsFault before after (Not nots.TooBig) = after ≡ before
+CountsFault before after (Not (nots.Garbled at)) = after ≡ before
+CountsFault before after NoMemory = after ≡ before
 
 -- how often it failed
 abbrev pub faults_of : {L : Type 0} → HttpState L → ℕ

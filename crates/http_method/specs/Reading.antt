@@ -2,6 +2,7 @@
 use Rattle.std.specs.Prelude.{◌≡◌, ◌≢◌, ◌⊎◌, ℕ, ◌+◌, ◌≤◌, length, ◌∷◌, [], ◌==◌, ◌&&◌, nat_lt, not, Bool, true, false, if◌then◌else◌, List, ◌++◌, bytes_eq, Option, Some, None, IfSome, IsSome, option_map, unwrap_or}
 use Rattle.acq_base.specs.declared.fetch.Job.{Job}
 use Rattle.acq_base.specs.declared.fetch.Reply.{Reply}
+use Rattle.acq_base.specs.declared.fetch.NotServed.TheVariants as nots
 use Rattle.acq_base.specs.declared.fetch.Reply.TheVariants as replies
 use Rattle.acq_base.specs.declared.uri.Uri.{Uri}
 use Rattle.acq_base.specs.declared.uri.Scheme.{Scheme}
@@ -10,7 +11,7 @@ use Rattle.acq_base.specs.Mirror.{MirrorMap}
 use Rattle.acq_base.specs.Uri.{IsSound}
 use Rattle.acq_outside.specs.declared.word.Fetch.{Fetch}
 use Rattle.acq_outside.specs.declared.word.Word.{Word}
-use Rattle.acq_outside.specs.declared.word.Word.TheVariants.{Piece, Done, Other}
+use Rattle.acq_outside.specs.declared.word.Word.TheVariants.{Piece, Done, Not, NoMemory}
 use Rattle.acq_outside.specs.Word.{CanBegin, IsWord}
 use Rattle.acq_net.specs.Due.{Due, IsAnswerOf, fresh, owing}
 use Rattle.acq_net.specs.Talk.{Talk, silent, is_none}
@@ -139,7 +140,8 @@ IsServed _ = ⊥
 abbrev pub IsSaid : Uri → List ℕ → Heard → Word → Type 0
 IsSaid uri given heard (Piece place bytes) = ⊥
 IsSaid uri given heard (Done size) = IsServed heard.ending × (heard.body ≡ given)
-IsSaid uri given heard (Other reply) = IsReply uri given heard.ending heard.body reply
+IsSaid uri given heard (Not end) = IsReply uri given heard.ending heard.body (replies.Not end)
+IsSaid uri given heard NoMemory = IsReply uri given heard.ending heard.body replies.NoMemory
 
 -- The last word: what is heard of all bytes received since the request, and of whether a `receive` gave 0. The body is
 -- what was given out. The connection is kept exactly behind a whole response that leaves it open, with nothing behind it.
@@ -161,13 +163,12 @@ GoesOn line job before given (Some reading) = (reading.fetch.job ≡ job) × Rea
 abbrev pub Hears : Line → Job → Talk → List ℕ → Word → Option Place → Option Reading → Type 0
 Hears line job before given (Piece place bytes) kept reading = GoesOn line job before (given ++ bytes) reading
 Hears line job before given (Done size) kept reading = Ends line job before given (Done size) kept
-Hears line job before given (Other (replies.Served bytes)) kept reading = ⊥
-Hears line job before given (Other (replies.Moved place)) kept reading = Ends line job before given (Other (replies.Moved place)) kept
-Hears line job before given (Other (replies.Absent status)) kept reading = Ends line job before given (Other (replies.Absent status)) kept
-Hears line job before given (Other replies.TooBig) kept reading = Ends line job before given (Other replies.TooBig) kept
-Hears line job before given (Other (replies.Garbled at)) kept reading = Ends line job before given (Other (replies.Garbled at)) kept
-Hears line job before given (Other (replies.Fault told_before told_after)) kept reading = Unit {0}
-Hears line job before given (Other replies.NoMemory) kept reading = Unit {0}
+Hears line job before given (Not (nots.Moved place)) kept reading = Ends line job before given (Not (nots.Moved place)) kept
+Hears line job before given (Not (nots.Absent status)) kept reading = Ends line job before given (Not (nots.Absent status)) kept
+Hears line job before given (Not nots.TooBig) kept reading = Ends line job before given (Not nots.TooBig) kept
+Hears line job before given (Not (nots.Garbled at)) kept reading = Ends line job before given (Not (nots.Garbled at)) kept
+Hears line job before given (Not (nots.Fault told_before told_after)) kept reading = Unit {0}
+Hears line job before given NoMemory kept reading = Unit {0}
 
 abbrev pub HearsSo : Line → Job → Talk → List ℕ → Said → Type 0
 HearsSo line job before given said = Hears line job before given said.word said.kept said.reading
@@ -228,12 +229,8 @@ world_of (Some entries) = if has_no_file entries then Some entries else None
 -- a whole file ends in its size, and what else is heard is said
 abbrev pub word_of : ℕ → Reply → Word
 word_of size (replies.Served bytes) = Done size
-word_of size (replies.Moved place) = Other (replies.Moved place)
-word_of size (replies.Absent status) = Other (replies.Absent status)
-word_of size replies.TooBig = Other replies.TooBig
-word_of size (replies.Garbled at) = Other (replies.Garbled at)
-word_of size (replies.Fault before after) = Other (replies.Fault before after)
-word_of size replies.NoMemory = Other replies.NoMemory
+word_of size (replies.Not end) = Not end
+word_of size replies.NoMemory = NoMemory
 
 abbrev pub is_file : Reply → Bool
 is_file (replies.Served bytes) = true
@@ -243,7 +240,8 @@ is_file reply = false
 abbrev pub IsKeptBehind : Word → Option Place → Type 0
 IsKeptBehind (Piece place bytes) kept = kept ≡ None
 IsKeptBehind (Done size) kept = Unit {0}
-IsKeptBehind (Other reply) kept = kept ≡ None
+IsKeptBehind (Not end) kept = kept ≡ None
+IsKeptBehind NoMemory kept = kept ≡ None
 
 -- what is said, and kept, where a piece was given out
 abbrev pub part_of : Reading → List ℕ → Said

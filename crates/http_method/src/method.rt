@@ -4,7 +4,7 @@ ghost use Rattle.std.specs.Prelude.{◌≡◌};
 use crate::asking::ask;
 use crate::reading::{Place, Reading, Said};
 use crate::saying::next_word;
-use acq_base::{Job, Reply, Scheme};
+use acq_base::{Job, NotServed, Scheme};
 use acq_net::Link;
 use acq_outside::{Fault, Method, Word};
 use std::alloc::Global;
@@ -75,7 +75,7 @@ impl<L: Link> HttpMethod<L> {
         ensures word { IfOk said (λ one. result ≡ one.word) }
         ensures kept { IfOk said (λ one. self.new.kept ≡ one.kept) }
         ensures reading { IfOk said (λ one. self.new.reading ≡ one.reading) }
-        ensures fault { OnErr said (result ≡ Word.Other (Reply.Fault self.old.faults self.new.faults)) }
+        ensures fault { OnErr said (result ≡ Word.Not (NotServed.Fault self.old.faults self.new.faults)) }
         ensures none { OnErr said (self.new.kept ≡ None) }
         ensures over { OnErr said (self.new.reading ≡ None) }
         ensures counted { OnErr said (self.new.faults ≡ one_more self.old.faults) }
@@ -90,7 +90,7 @@ impl<L: Link> HttpMethod<L> {
                 let before = self.faults;
                 self.faults = self.faults.saturating_add(1);
                 let after = self.faults;
-                Word::Other(Reply::Fault { before, after })
+                Word::Not(NotServed::Fault { before, after })
             }
         }
     }
@@ -132,11 +132,11 @@ impl<L: Link> Method for HttpMethod<L> {
         ensures anew { (L.made self.new.link ≡ L.made self.old.link) ⊎ (L.former self.new.link ≡ before_anew self.old.kept job.now (L.talk self.old.link)) }
         ensures says { job.now.uri.scheme ≡ Http → BeginsOn (line_of L.Link self.old.link) self.old.kept (line_of L.Link self.new.link) job.now (said_of result self.new) }
         ensures behind { job.now.uri.scheme ≡ Http → IsKeptBehind result self.new.kept }
-        ensures elsewhere { job.now.uri.scheme ≡ File → (result ≡ Word.Other (Reply.Absent 404)) × (self.new.link ≡ self.old.link) × (self.new.kept ≡ self.old.kept) }
+        ensures elsewhere { job.now.uri.scheme ≡ File → (result ≡ Word.Not (NotServed.Absent 404)) × (self.new.link ≡ self.old.link) × (self.new.kept ≡ self.old.kept) }
     {
         self.reading = None;
         match job.uri.scheme {
-            Scheme::File => Word::Other(Reply::Absent(404)),
+            Scheme::File => Word::Not(NotServed::Absent(404)),
             Scheme::Http => {
                 let kept = self.kept.take();
                 let said = ask(alloc, &mut self.link, kept, job);

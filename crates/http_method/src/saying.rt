@@ -18,12 +18,12 @@ use std::alloc::Global;
 
 /// Memory ran out, and nothing is kept.
 pub fn starved() -> Said
-    ensures word { result.word ≡ Word.Other Reply.NoMemory }
+    ensures word { result.word ≡ Word.NoMemory }
     ensures kept { result.kept ≡ None }
     ensures reading { result.reading ≡ None }
 {
     Said {
-        word: Word::Other(Reply::NoMemory),
+        word: Word::NoMemory,
         kept: None,
         reading: None,
     }
@@ -154,7 +154,8 @@ fn word_of(size: u64, reply: Reply) -> Word
 {
     match reply {
         Reply::Served(_) => Word::Done { size },
-        other => Word::Other(other),
+        Reply::Not(end) => Word::Not(end),
+        Reply::NoMemory => Word::NoMemory,
     }
 }
 

@@ -2,6 +2,7 @@
 use Rattle.std.specs.Prelude.{◌≡◌, ◌≢◌, ◌⊎◌, ℕ, ◌+◌, ◌-◌, ◌<◌, ◌≤◌, Bool, true, false, List, [], ◌∷◌, ◌++◌, length, Option, Some, None}
 use Rattle.httparse.specs.Grammar.{LineEnd, print_blank}
 use Rattle.acq_base.specs.declared.fetch.Reply.{Reply}
+use Rattle.acq_base.specs.declared.fetch.NotServed.TheVariants as nots
 use Rattle.acq_base.specs.declared.fetch.Reply.TheVariants as replies
 use Rattle.acq_base.specs.declared.uri.Uri.{Uri}
 use Rattle.uri_names.specs.Redirect.{resolve_of}
@@ -135,19 +136,19 @@ pub record IsStateOf (w : WireState) (max from : ℕ) (given bytes : List ℕ) (
 -- the reply for an ending, with what is held of the body
 abbrev pub reply_of : Uri → Option Response → List ℕ → Reply
 reply_of uri (Some (Served keep)) bytes = replies.Served bytes
-reply_of uri (Some (Absent status)) bytes = replies.Absent status
-reply_of uri (Some (Moved place)) bytes = replies.Moved (resolve_of uri place)
-reply_of uri (Some TooBig) bytes = replies.TooBig
-reply_of uri (Some (Garbled at)) bytes = replies.Garbled at
+reply_of uri (Some (Absent status)) bytes = replies.Not (nots.Absent status)
+reply_of uri (Some (Moved place)) bytes = replies.Not (nots.Moved (resolve_of uri place))
+reply_of uri (Some TooBig) bytes = replies.Not nots.TooBig
+reply_of uri (Some (Garbled at)) bytes = replies.Not (nots.Garbled at)
 reply_of uri None bytes = replies.NoMemory
 
 -- The reply to the asker; a body's part that was given out before isn't in it.
 abbrev pub IsReply : Uri → List ℕ → Option Response → List ℕ → Reply → Type 0
 IsReply uri given (Some (Served keep)) body reply = (held : List ℕ) × (reply ≡ replies.Served held) × (given ++ held ≡ body)
-IsReply uri given (Some (Absent status)) body reply = reply ≡ replies.Absent status
-IsReply uri given (Some (Moved place)) body reply = reply ≡ replies.Moved (resolve_of uri place)
-IsReply uri given (Some TooBig) body reply = reply ≡ replies.TooBig
-IsReply uri given (Some (Garbled at)) body reply = reply ≡ replies.Garbled at
+IsReply uri given (Some (Absent status)) body reply = reply ≡ (replies.Not (nots.Absent status))
+IsReply uri given (Some (Moved place)) body reply = reply ≡ (replies.Not (nots.Moved (resolve_of uri place)))
+IsReply uri given (Some TooBig) body reply = reply ≡ (replies.Not nots.TooBig)
+IsReply uri given (Some (Garbled at)) body reply = reply ≡ (replies.Not (nots.Garbled at))
 IsReply uri given None body reply = ⊥
 
 -- the reply is that of the one thing that is heard

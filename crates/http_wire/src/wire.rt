@@ -8,7 +8,7 @@ ghost use Rattle.http_wire.specs.Steps.{Moves};
 ghost use Rattle.http_wire.specs.Wire.{Follows, IsDone, wire_state, is_going, is_refused, held, starts_at, Takes, Finishes, Gives, Replies, reply_of};
 
 use crate::{Phase, Response, State};
-use acq_base::{Bytes, NoMemory, Reply, Uri};
+use acq_base::{Bytes, NoMemory, NotServed, Reply, Uri};
 use std::alloc::Global;
 use std::marker::Model;
 use std::mem;
@@ -232,10 +232,10 @@ fn answer(alloc: Global, uri: &Uri, ending: Option<Response>, body: Vec<u8>) -> 
 {
     match ending {
         Some(Response::Served(_keep)) => Reply::Served(Bytes::from(body)),
-        Some(Response::Absent(status)) => Reply::Absent(status),
+        Some(Response::Absent(status)) => Reply::Not(NotServed::Absent(status)),
         Some(Response::Moved(place)) => moved(alloc, uri, place.as_slice()),
-        Some(Response::TooBig) => Reply::TooBig,
-        Some(Response::Garbled(at)) => Reply::Garbled(at),
+        Some(Response::TooBig) => Reply::Not(NotServed::TooBig),
+        Some(Response::Garbled(at)) => Reply::Not(NotServed::Garbled(at)),
         None => Reply::NoMemory,
     }
 }
@@ -244,10 +244,10 @@ fn answer(alloc: Global, uri: &Uri, ending: Option<Response>, body: Vec<u8>) -> 
 fn moved(alloc: Global, uri: &Uri, place: &[u8]) -> Reply
     requires { IsSound uri.now }
     ensures sound { IsSoundReply result }
-    ensures reply { (result ≡ Reply.NoMemory) ⊎ (result ≡ Reply.Moved (resolve_of uri.now place.now)) }
+    ensures reply { (result ≡ Reply.NoMemory) ⊎ (result ≡ Reply.Not (NotServed.Moved (resolve_of uri.now place.now))) }
 {
     match resolve(alloc, uri, place) {
-        Ok(uri) => Reply::Moved(uri),
+        Ok(uri) => Reply::Not(NotServed::Moved(uri)),
         Err(NoMemory) => Reply::NoMemory,
     }
 }

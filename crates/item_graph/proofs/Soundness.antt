@@ -13,7 +13,8 @@ use Rattle.update_model.specs.Trails.{LaneAnswer, Trail, Position, Leads, IsTrai
 use Rattle.update_model.specs.Walks.{Walk, Finish, Try, IsRoute, target_walk}
 use Rattle.update_model.specs.declared.ask.Ask.{Ask}
 use Rattle.update_model.specs.declared.ask.Closed.{Closed}
-use Rattle.update_model.specs.declared.ask.Closed.TheVariants.{Served, Moved, Absent, TooBig, Garbled, Fault}
+use Rattle.update_model.specs.declared.ask.Closed.TheVariants.{Served, Not}
+use Rattle.acq_base.specs.declared.fetch.NotServed.TheVariants.{Moved, Absent, TooBig, Garbled, Fault}
 use Rattle.update_model.specs.declared.ask.Ending.{Ending}
 use Rattle.update_model.specs.declared.ask.Ending.TheVariants as endings
 use Rattle.update_model.specs.declared.end.End.{End}
@@ -46,14 +47,14 @@ moved-sound (suc left) from to sound = one (may_move from.scheme to.scheme)
 led-sound : (retries : ℕ) (ask : Ask) (left : ℕ) (next : Ending → Walk) (lane : ℕ) (closed : Closed) (faults : ℕ) → IsSoundAnswer closed
     → IsSound ask.uri → ((e : Ending) → AsksSoundly (next e))
     → IsSoundAt (Leads left ask.uri lane closed faults (λ n. At ask left n next) (λ w. lead retries ask left next w))
-led-sound retries ask left next lane (Fault from to) zero sound at h = start-sound retries (next (endings.Dead lane from to)) (h (endings.Dead lane from to))
-led-sound retries ask left next lane (Fault from to) (suc n) sound at h = (at, h)
+led-sound retries ask left next lane (Not (Fault from to)) zero sound at h = start-sound retries (next (endings.Dead lane from to)) (h (endings.Dead lane from to))
+led-sound retries ask left next lane (Not (Fault from to)) (suc n) sound at h = (at, h)
 led-sound retries ask left next lane (Served body) faults sound at h = lead-sound retries ask left next (Stop (endings.Served body)) tt h
-led-sound retries ask left next lane (Moved None) faults sound at h = lead-sound retries ask left next (Stop endings.Lost) tt h
-led-sound retries ask left next lane (Moved (Some to)) faults sound at h = lead-sound retries ask left next (moved left ask.uri to) (moved-sound left ask.uri to sound) h
-led-sound retries ask left next lane (Absent status) faults sound at h = lead-sound retries ask left next (Stop (endings.Absent status)) tt h
-led-sound retries ask left next lane TooBig faults sound at h = lead-sound retries ask left next (Stop endings.TooBig) tt h
-led-sound retries ask left next lane (Garbled at_byte) faults sound at h = lead-sound retries ask left next (Stop (endings.Garbled at_byte)) tt h
+led-sound retries ask left next lane (Not (Moved None)) faults sound at h = lead-sound retries ask left next (Stop endings.Lost) tt h
+led-sound retries ask left next lane (Not (Moved (Some to))) faults sound at h = lead-sound retries ask left next (moved left ask.uri to) (moved-sound left ask.uri to sound) h
+led-sound retries ask left next lane (Not (Absent status)) faults sound at h = lead-sound retries ask left next (Stop (endings.Absent status)) tt h
+led-sound retries ask left next lane (Not TooBig) faults sound at h = lead-sound retries ask left next (Stop endings.TooBig) tt h
+led-sound retries ask left next lane (Not (Garbled at_byte)) faults sound at h = lead-sound retries ask left next (Stop (endings.Garbled at_byte)) tt h
 
 pub step-sound : (retries : ℕ) (p : Point) (t : LaneAnswer) → IsSoundAt p → IsSoundAnswer t.closed → IsSoundAt (point_after retries p t)
 step-sound retries (Over end) t h sound = tt
@@ -64,11 +65,11 @@ step-sound retries (At ask left faults next) t h sound = led-sound retries ask l
 -- an answer without a fault before it, by which a trail ends so
 answer_for : Ending → LaneAnswer
 answer_for (endings.Served body) = record { lane = 0; closed = Served body }
-answer_for endings.TooBig = record { lane = 0; closed = TooBig }
-answer_for (endings.Absent status) = record { lane = 0; closed = Absent status }
-answer_for endings.Lost = record { lane = 0; closed = Moved None }
-answer_for (endings.Garbled at) = record { lane = 0; closed = Garbled at }
-answer_for (endings.Dead lane before after) = record { lane = lane; closed = Fault before after }
+answer_for endings.TooBig = record { lane = 0; closed = (Not TooBig) }
+answer_for (endings.Absent status) = record { lane = 0; closed = (Not (Absent status)) }
+answer_for endings.Lost = record { lane = 0; closed = (Not (Moved None)) }
+answer_for (endings.Garbled at) = record { lane = 0; closed = (Not (Garbled at)) }
+answer_for (endings.Dead lane before after) = record { lane = lane; closed = (Not (Fault before after)) }
 
 trail_for : Ask → Ending → Trail
 trail_for ask e = record { ask = ask; positions = record { uri = ask.uri; told = answer_for e ∷ [] } ∷ []; ending = e }

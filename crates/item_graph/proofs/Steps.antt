@@ -8,20 +8,21 @@ use Rattle.update_model.specs.Trails.{LaneAnswer, Leads, less}
 use Rattle.update_model.specs.Walks.{Walk}
 use Rattle.update_model.specs.declared.ask.Ask.{Ask}
 use Rattle.update_model.specs.declared.ask.Closed.{Closed}
-use Rattle.update_model.specs.declared.ask.Closed.TheVariants.{Served, Moved, Absent, TooBig, Garbled, Fault}
+use Rattle.update_model.specs.declared.ask.Closed.TheVariants.{Served, Not}
+use Rattle.acq_base.specs.declared.fetch.NotServed.TheVariants.{Moved, Absent, TooBig, Garbled, Fault}
 use Rattle.update_model.specs.declared.ask.Ending.{Ending}
 
 abbrev IsNoFault : Closed → Type 0
-IsNoFault closed = (before after : ℕ) → closed ≡ Fault before after → ⊥
+IsNoFault closed = (before after : ℕ) → closed ≡ (Not (Fault before after)) → ⊥
 
 leads-on : (retries : ℕ) (ask : Ask) (left faults lane : ℕ) (next : Ending → Walk) (closed : Closed) → IsNoFault closed
     → point_after retries (At ask left faults next) (record { lane = lane; closed = closed }) ≡ lead retries ask left next (way left ask.uri closed)
 leads-on retries ask left faults lane next (Served body) h = refl
-leads-on retries ask left faults lane next (Moved place) h = refl
-leads-on retries ask left faults lane next (Absent status) h = refl
-leads-on retries ask left faults lane next TooBig h = refl
-leads-on retries ask left faults lane next (Garbled at) h = refl
-leads-on retries ask left faults lane next (Fault before after) h = absurd (h before after refl)
+leads-on retries ask left faults lane next (Not (Moved place)) h = refl
+leads-on retries ask left faults lane next (Not (Absent status)) h = refl
+leads-on retries ask left faults lane next (Not TooBig) h = refl
+leads-on retries ask left faults lane next (Not (Garbled at)) h = refl
+leads-on retries ask left faults lane next (Not (Fault before after)) h = absurd (h before after refl)
 
 less-is : (n : ℕ) → n - 1 ≡ less n
 less-is zero = refl

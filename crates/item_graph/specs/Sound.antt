@@ -6,7 +6,8 @@ use Rattle.update_model.specs.Points.{Point, Over, At}
 use Rattle.update_model.specs.Walks.{Walk, Finish, Try, target_walk}
 use Rattle.update_model.specs.declared.wanted.Wanted.{Wanted}
 use Rattle.update_model.specs.declared.ask.Closed.{Closed}
-use Rattle.update_model.specs.declared.ask.Closed.TheVariants.{Moved}
+use Rattle.update_model.specs.declared.ask.Closed.TheVariants.{Not}
+use Rattle.acq_base.specs.declared.fetch.NotServed.TheVariants.{Moved}
 use Rattle.update_model.specs.declared.ask.Ending.{Ending}
 
 -- each trail of a walk begins at a sound URI, however those before it ended
@@ -21,7 +22,7 @@ IsSoundAt (At ask left retries next) = IsSound ask.uri × ((e : Ending) → Asks
 
 -- an answer leads to a sound place, if to any
 abbrev pub IsSoundAnswer : Closed → Type 0
-IsSoundAnswer (Moved place) = IsSoundPlace place
+IsSoundAnswer (Not (Moved place)) = IsSoundPlace place
 IsSoundAnswer other = Unit {0}
 
 -- a list is asked for at sound URIs, where its own URI and the one under its digest are sound and its name is short

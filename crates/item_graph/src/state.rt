@@ -10,7 +10,7 @@ use crate::patches::{after_index, after_patch};
 use crate::patching::{Listing, Patching};
 use crate::release::{after_in_release, after_release};
 use crate::ways::way;
-use acq_base::{NoMemory, Uri};
+use acq_base::{NoMemory, NotServed, Uri};
 use std::alloc::Global;
 use update_model::{Ask, Closed, End, Ending, Wanted};
 
@@ -80,7 +80,7 @@ impl State {
                 retries: left,
                 next,
             } => match closed {
-                Closed::Fault { before, after } if left == 0 => {
+                Closed::Not(NotServed::Fault { before, after }) if left == 0 => {
                     next.follow(
                         alloc,
                         retries,
@@ -91,7 +91,7 @@ impl State {
                         },
                     )
                 }
-                Closed::Fault { .. } => Ok(State::Asks {
+                Closed::Not(NotServed::Fault { .. }) => Ok(State::Asks {
                     ask,
                     moves,
                     retries: left - 1,

@@ -6,7 +6,7 @@ ghost use Rattle.update_model.specs.Trails.{answers_or};
 ghost use Rattle.acq_base.specs.declared.uri.Uri.{Uri as AnyUri};
 ghost use Rattle.item_graph.specs.Ways.{way_of};
 
-use acq_base::{Scheme, Uri};
+use acq_base::{NotServed, Scheme, Uri};
 use update_model::{Closed, Ending};
 
 /// Where an answer to an ask of this scheme leads, with so many moves left: on to a URI, or to the end of the trail. A
@@ -16,12 +16,14 @@ pub fn way(moves: u32, scheme: Scheme, answer: Closed) -> Result<Uri, Ending>
 {
     match answer {
         Closed::Served(body) => Err(Ending::Served(body)),
-        Closed::Moved(Some(to)) if moves > 0 && may_move(scheme, to.scheme) => Ok(to),
-        Closed::Moved(_) => Err(Ending::Lost),
-        Closed::Absent(status) => Err(Ending::Absent(status)),
-        Closed::TooBig => Err(Ending::TooBig),
-        Closed::Garbled(at) => Err(Ending::Garbled(at)),
-        Closed::Fault { .. } => Err(Ending::Lost),
+        Closed::Not(NotServed::Moved(Some(to))) if moves > 0 && may_move(scheme, to.scheme) => Ok(
+            to,
+        ),
+        Closed::Not(NotServed::Moved(_)) => Err(Ending::Lost),
+        Closed::Not(NotServed::Absent(status)) => Err(Ending::Absent(status)),
+        Closed::Not(NotServed::TooBig) => Err(Ending::TooBig),
+        Closed::Not(NotServed::Garbled(at)) => Err(Ending::Garbled(at)),
+        Closed::Not(NotServed::Fault { .. }) => Err(Ending::Lost),
     }
 }
 

@@ -14,7 +14,8 @@ use Rattle.acq_outside.specs.States.{IsTold}
 use Rattle.journal_model.specs.Rest.{part_bytes}
 use Rattle.update_model.specs.Trails.{IsFaultOr, answered}
 use Rattle.update_model.specs.declared.ask.Closed.{Closed}
-use Rattle.update_model.specs.declared.ask.Closed.TheVariants.{Served, Moved, Absent, TooBig, Garbled, Fault}
+use Rattle.update_model.specs.declared.ask.Closed.TheVariants.{Served, Not}
+use Rattle.acq_base.specs.declared.fetch.NotServed.TheVariants.{Moved, Absent, TooBig, Garbled, Fault}
 use Rattle.job_fetch.specs.Fetched.{IsAnswer, IsKnown, LeavesFile, ask_of}
 use Rattle.job_fetch.specs.Pieces.{AnswersOver, HasMore}
 
@@ -26,88 +27,88 @@ lifted : (world : Option MirrorMap) (front : List ℕ) (stage : Bool) (job : Job
 lifted None front stage job reply closed says tells = record { told = tt }
 lifted (Some entries) front stage job reply closed says tells = record { told = says (answer_at entries job.uri) tells }
 
-moved : (front : List ℕ) (stage : Bool) (job : Job) (place : Option Uri) (answer : Answer) → IsReplyOf answer job (replies.Moved place) → Moved place ≡ answered front (ask_of stage job) answer
+moved : (front : List ℕ) (stage : Bool) (job : Job) (place : Option Uri) (answer : Answer) → IsReplyOf answer job (replies.Not (Not (Moved place))) → (Not (Moved place)) ≡ answered front (ask_of stage job) answer
 moved front stage job place (answers.Served all) tells = absurd tells
-moved front stage job place (answers.Moved to) tells = ap (λ p. Moved p) tells
+moved front stage job place (answers.Moved to) tells = ap (λ p. (Not (Moved p))) tells
 moved front stage job place (answers.Absent code) tells = absurd tells
 
-pub moved_answer : (world : Option MirrorMap) (front : List ℕ) (stage : Bool) (job : Job) (place : Option Uri) → Telling world job (replies.Moved place) → IsAnswer world front stage job (Moved place)
-moved_answer world front stage job place = lifted world front stage job (replies.Moved place) (Moved place) (moved front stage job place)
+pub moved_answer : (world : Option MirrorMap) (front : List ℕ) (stage : Bool) (job : Job) (place : Option Uri) → Telling world job (replies.Not (Not (Moved place))) → IsAnswer world front stage job (Not (Moved place))
+moved_answer world front stage job place = lifted world front stage job (replies.Not (Not (Moved place))) (Not (Moved place)) (moved front stage job place)
 
-absent : (front : List ℕ) (stage : Bool) (job : Job) (status : ℕ) → CanBegin job → (answer : Answer) → IsReplyOf answer job (replies.Absent status) → Absent status ≡ answered front (ask_of stage job) answer
+absent : (front : List ℕ) (stage : Bool) (job : Job) (status : ℕ) → CanBegin job → (answer : Answer) → IsReplyOf answer job (replies.Not (Not (Absent status))) → (Not (Absent status)) ≡ answered front (ask_of stage job) answer
 absent front stage job status begins (answers.Served all) tells =
     let few : length all ≤ job.max = ⊎_elim (λ none. absurd (omega (arith, none, tells.1))) (λ below. omega (arith, below, tells.2)) begins in
-    rw (le-leb (length all) job.max few, lt-ltb 0 job.from tells.1, le-leb (length all) job.from tells.2) (ap (λ s. Absent s) tells.0)
+    rw (le-leb (length all) job.max few, lt-ltb 0 job.from tells.1, le-leb (length all) job.from tells.2) (ap (λ s. (Not (Absent s))) tells.0)
 absent front stage job status begins (answers.Moved to) tells = absurd tells
-absent front stage job status begins (answers.Absent code) tells = ap (λ s. Absent s) tells
+absent front stage job status begins (answers.Absent code) tells = ap (λ s. (Not (Absent s))) tells
 
-pub absent_answer : (world : Option MirrorMap) (front : List ℕ) (stage : Bool) (job : Job) (status : ℕ) → CanBegin job → Telling world job (replies.Absent status) → IsAnswer world front stage job (Absent status)
-absent_answer world front stage job status begins = lifted world front stage job (replies.Absent status) (Absent status) (absent front stage job status begins)
+pub absent_answer : (world : Option MirrorMap) (front : List ℕ) (stage : Bool) (job : Job) (status : ℕ) → CanBegin job → Telling world job (replies.Not (Not (Absent status))) → IsAnswer world front stage job (Not (Absent status))
+absent_answer world front stage job status begins = lifted world front stage job (replies.Not (Not (Absent status))) (Not (Absent status)) (absent front stage job status begins)
 
-too_big : (front : List ℕ) (stage : Bool) (job : Job) (answer : Answer) → IsReplyOf answer job replies.TooBig → TooBig ≡ answered front (ask_of stage job) answer
+too_big : (front : List ℕ) (stage : Bool) (job : Job) (answer : Answer) → IsReplyOf answer job (replies.Not (Not TooBig)) → (Not TooBig) ≡ answered front (ask_of stage job) answer
 too_big front stage job (answers.Served all) tells = rw (lt-leb (length all) job.max tells) refl
 too_big front stage job (answers.Moved to) tells = absurd tells
 too_big front stage job (answers.Absent code) tells = absurd tells
 
-pub too_big_answer : (world : Option MirrorMap) (front : List ℕ) (stage : Bool) (job : Job) → Telling world job replies.TooBig → IsAnswer world front stage job TooBig
-too_big_answer world front stage job = lifted world front stage job replies.TooBig TooBig (too_big front stage job)
+pub too_big_answer : (world : Option MirrorMap) (front : List ℕ) (stage : Bool) (job : Job) → Telling world job (replies.Not (Not TooBig)) → IsAnswer world front stage job (Not TooBig)
+too_big_answer world front stage job = lifted world front stage job (replies.Not (Not TooBig)) (Not TooBig) (too_big front stage job)
 
-garbled : (front : List ℕ) (stage : Bool) (job : Job) (at : ℕ) (answer : Answer) → IsReplyOf answer job (replies.Garbled at) → Garbled at ≡ answered front (ask_of stage job) answer
+garbled : (front : List ℕ) (stage : Bool) (job : Job) (at : ℕ) (answer : Answer) → IsReplyOf answer job (replies.Not (Not (Garbled at))) → (Not (Garbled at)) ≡ answered front (ask_of stage job) answer
 garbled front stage job at (answers.Served all) tells = absurd tells
 garbled front stage job at (answers.Moved to) tells = absurd tells
 garbled front stage job at (answers.Absent code) tells = absurd tells
 
-pub garbled_answer : (world : Option MirrorMap) (front : List ℕ) (stage : Bool) (job : Job) (at : ℕ) → Telling world job (replies.Garbled at) → IsAnswer world front stage job (Garbled at)
-garbled_answer world front stage job at = lifted world front stage job (replies.Garbled at) (Garbled at) (garbled front stage job at)
+pub garbled_answer : (world : Option MirrorMap) (front : List ℕ) (stage : Bool) (job : Job) (at : ℕ) → Telling world job (replies.Not (Not (Garbled at))) → IsAnswer world front stage job (Not (Garbled at))
+garbled_answer world front stage job at = lifted world front stage job (replies.Not (Not (Garbled at))) (Not (Garbled at)) (garbled front stage job at)
 
-pub fault_answer : (world : Option MirrorMap) (front : List ℕ) (stage : Bool) (job : Job) (before after : ℕ) → IsAnswer world front stage job (Fault before after)
+pub fault_answer : (world : Option MirrorMap) (front : List ℕ) (stage : Bool) (job : Job) (before after : ℕ) → IsAnswer world front stage job (Not (Fault before after))
 fault_answer None front stage job before after = record { told = tt }
 fault_answer (Some entries) front stage job before after = record { told = tt }
 
 -- what an end that served nothing leaves of the file
 pub any_left : (from : ℕ) (name : List ℕ) (old new : List State) (closed : Closed) → (new ≡ old) ⊎ (IsTold new → from < length (part_bytes new name)) → LeavesFile from name old new closed
 any_left from name old new (Served body) left = tt
-any_left from name old new (Moved place) left = left
-any_left from name old new (Absent status) left = left
-any_left from name old new TooBig left = left
-any_left from name old new (Garbled at) left = left
-any_left from name old new (Fault before after) left = left
+any_left from name old new (Not (Moved place)) left = left
+any_left from name old new (Not (Absent status)) left = left
+any_left from name old new (Not TooBig) left = left
+any_left from name old new (Not (Garbled at)) left = left
+any_left from name old new (Not (Fault before after)) left = left
 
 -- what more came is left
 pub more_left : (from : ℕ) (name : List ℕ) (old new : List State) (closed : Closed) → HasMore from name new closed → LeavesFile from name old new closed
 more_left from name old new (Served body) more = tt
-more_left from name old new (Moved place) more = inr more
-more_left from name old new (Absent status) more = inr more
-more_left from name old new TooBig more = inr more
-more_left from name old new (Garbled at) more = inr more
-more_left from name old new (Fault before after) more = inr more
+more_left from name old new (Not (Moved place)) more = inr more
+more_left from name old new (Not (Absent status)) more = inr more
+more_left from name old new (Not TooBig) more = inr more
+more_left from name old new (Not (Garbled at)) more = inr more
+more_left from name old new (Not (Fault before after)) more = inr more
 
 pub any_more : (from : ℕ) (name : List ℕ) (new : List State) (closed : Closed) → (IsTold new → from < length (part_bytes new name)) → HasMore from name new closed
 any_more from name new (Served body) more = tt
-any_more from name new (Moved place) more = more
-any_more from name new (Absent status) more = more
-any_more from name new TooBig more = more
-any_more from name new (Garbled at) more = more
-any_more from name new (Fault before after) more = more
+any_more from name new (Not (Moved place)) more = more
+any_more from name new (Not (Absent status)) more = more
+any_more from name new (Not TooBig) more = more
+any_more from name new (Not (Garbled at)) more = more
+any_more from name new (Not (Fault before after)) more = more
 
 -- an answer beside all bytes
 pub any_answers : (world : Option MirrorMap) (name : List ℕ) (old new : List State) (job : Job) (closed : Closed) → ((part : List ℕ) → IsAnswer world part true job closed) → AnswersOver world name old new job closed
 any_answers world name old new job (Served body) is = λ told part front. is part
-any_answers world name old new job (Moved place) is = is
-any_answers world name old new job (Absent status) is = is
-any_answers world name old new job TooBig is = is
-any_answers world name old new job (Garbled at) is = is
-any_answers world name old new job (Fault before after) is = is
+any_answers world name old new job (Not (Moved place)) is = is
+any_answers world name old new job (Not (Absent status)) is = is
+any_answers world name old new job (Not TooBig) is = is
+any_answers world name old new job (Not (Garbled at)) is = is
+any_answers world name old new job (Not (Fault before after)) is = is
 
 -- beside what the file on its way had before it was opened
 pub answers_beside : (world : Option MirrorMap) (name : List ℕ) (mid new : List State) (part : List ℕ) (job : Job) (closed : Closed) → (IsTold new → part_bytes mid name ≡ take job.from part)
     → AnswersOver world name mid new job closed → IsKnown new closed → IsAnswer world part true job closed
 answers_beside world name mid new part job (Served body) front is known = is known part (front known)
-answers_beside world name mid new part job (Moved place) front is known = is part
-answers_beside world name mid new part job (Absent status) front is known = is part
-answers_beside world name mid new part job TooBig front is known = is part
-answers_beside world name mid new part job (Garbled at) front is known = is part
-answers_beside world name mid new part job (Fault before after) front is known = is part
+answers_beside world name mid new part job (Not (Moved place)) front is known = is part
+answers_beside world name mid new part job (Not (Absent status)) front is known = is part
+answers_beside world name mid new part job (Not TooBig) front is known = is part
+answers_beside world name mid new part job (Not (Garbled at)) front is known = is part
+answers_beside world name mid new part job (Not (Fault before after)) front is known = is part
 
 pub on_err : {T E : Type 0} {P : Type 0} (result : Result T E) → P → OnErr result P
 on_err (Ok x) p = tt

@@ -10,6 +10,7 @@ use Rattle.acq_base.specs.declared.fetch.Answer.TheVariants.{Served, Moved, Abse
 use Rattle.acq_base.specs.declared.fetch.Job.{Job}
 use Rattle.acq_outside.specs.Word.{HasSize, IsPieceOf}
 use Rattle.update_model.specs.Trails.{answered, body_for}
+use Rattle.acq_base.specs.declared.fetch.NotServed.TheVariants as nots
 use Rattle.update_model.specs.declared.ask.Closed.TheVariants as closed
 use Rattle.job_fetch.specs.Fetched.{IsAnswer, ask_of}
 
@@ -42,7 +43,7 @@ more_came (Some entries) part job at bytes piece past goes has = record { told =
 
 -- an answer with these bytes isn't one that can't be resumed
 kept_whole : (stage : Bool) (from : ℕ) (all bytes joined : List ℕ) → (from ≡ 0) ⊎ (from < length all) → bytes ≡ joined
-    → closed.Served (body_for stage bytes) ≡ (if nat_lt 0 from && nat_le (length all) from then closed.Absent 416 else closed.Served (body_for stage joined))
+    → closed.Served (body_for stage bytes) ≡ (if nat_lt 0 from && nat_le (length all) from then (closed.Not (nots.Absent 416)) else closed.Served (body_for stage joined))
 kept_whole stage from all bytes joined (inl none) is = rw (le-ltb 0 from (omega (arith, none))) (ap (λ (l : List ℕ). closed.Served (body_for stage l)) is)
 kept_whole stage from all bytes joined (inr below) is =
     rw (lt-leb (length all) from below, and-false (nat_lt 0 from)) (ap (λ (l : List ℕ). closed.Served (body_for stage l)) is)

@@ -17,7 +17,8 @@ use Rattle.update_model.specs.Trails.{IsFaultOr, answered}
 use Rattle.update_model.specs.declared.ask.Ask.{Ask}
 use Rattle.update_model.specs.declared.ask.Body.TheVariants.{Bytes, Staged}
 use Rattle.update_model.specs.declared.ask.Closed.{Closed}
-use Rattle.update_model.specs.declared.ask.Closed.TheVariants.{Served, Moved, Absent, TooBig, Garbled, Fault}
+use Rattle.update_model.specs.declared.ask.Closed.TheVariants.{Served, Not}
+use Rattle.acq_base.specs.declared.fetch.NotServed.TheVariants.{Moved, Absent, TooBig, Garbled, Fault}
 
 -- what a job asks, whose file is staged or not
 abbrev pub ask_of : Bool → Job → Ask
@@ -29,16 +30,16 @@ pub record IsAnswer (world : Option MirrorMap) (front : List ℕ) (stage : Bool)
 
 -- a fault tells the method's count before the fetch and after it, and comes only where it rose; anything else leaves it
 abbrev pub IsCounted : ℕ → ℕ → Closed → Type 0
-IsCounted before after (Fault told_before told_after) = (told_before ≡ before) × (told_after ≡ after) × Rose before after
+IsCounted before after (Not (Fault told_before told_after)) = (told_before ≡ before) × (told_after ≡ after) × Rose before after
 IsCounted before after (Served body) = after ≡ before
-IsCounted before after (Moved place) = after ≡ before
-IsCounted before after (Absent status) = after ≡ before
-IsCounted before after TooBig = after ≡ before
-IsCounted before after (Garbled at) = after ≡ before
+IsCounted before after (Not (Moved place)) = after ≡ before
+IsCounted before after (Not (Absent status)) = after ≡ before
+IsCounted before after (Not TooBig) = after ≡ before
+IsCounted before after (Not (Garbled at)) = after ≡ before
 
 -- a place that it moves to can be fetched in turn
 abbrev pub IsSoundEnd : Closed → Type 0
-IsSoundEnd (Moved place) = IsSoundPlace place
+IsSoundEnd (Not (Moved place)) = IsSoundPlace place
 IsSoundEnd _ = Unit {0}
 
 -- a file that came is in memory

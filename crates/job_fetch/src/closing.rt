@@ -7,7 +7,7 @@ ghost use Rattle.acq_outside.specs.Crash.{State};
 ghost use Rattle.acq_outside.specs.Word.{CanBegin, IsCounted as IsCountedReply, IsReplyOf};
 ghost use Rattle.job_fetch.specs.Fetched.{IsAnswer, IsCounted, IsInMemory, IsSoundEnd, IsStagedBody};
 
-use acq_base::{NoMemory, Reply};
+use acq_base::{NoMemory, NotServed, Reply};
 use update_model::{Body, Closed};
 
 /// A reply that is no file, as the answer to a whole fetch.
@@ -24,11 +24,14 @@ pub fn closed_of(reply: Reply) -> Result<Closed, NoMemory>
     match reply {
         // No word is so: a file comes in pieces.
         Reply::Served(bytes) => Ok(Closed::Served(Body::Bytes(bytes))),
-        Reply::Moved(place) => Ok(Closed::Moved(place)),
-        Reply::Absent(status) => Ok(Closed::Absent(status)),
-        Reply::TooBig => Ok(Closed::TooBig),
-        Reply::Garbled(at) => Ok(Closed::Garbled(at)),
-        Reply::Fault { before, after } => Ok(Closed::Fault { before, after }),
+        Reply::Not(NotServed::Moved(place)) => Ok(Closed::Not(NotServed::Moved(place))),
+        Reply::Not(NotServed::Absent(status)) => Ok(Closed::Not(NotServed::Absent(status))),
+        Reply::Not(NotServed::TooBig) => Ok(Closed::Not(NotServed::TooBig)),
+        Reply::Not(NotServed::Garbled(at)) => Ok(Closed::Not(NotServed::Garbled(at))),
+        Reply::Not(NotServed::Fault { before, after }) => Ok(Closed::Not(NotServed::Fault {
+            before,
+            after,
+        })),
         Reply::NoMemory => Err(NoMemory),
     }
 }

@@ -1,11 +1,12 @@
 -- The faults of a lane don't overlap.
 use Rattle.std.proofs.Common.{◌≡◌, ◌∙◌, ℕ, List, [], ◌∷◌, ◌++◌, Option, None, sym, refl, subst, arith}
 use Rattle.acq_base.specs.declared.fetch.Reply.{Reply}
+use Rattle.acq_base.specs.declared.fetch.NotServed.TheVariants as nots
 use Rattle.acq_base.specs.declared.fetch.Reply.TheVariants as replies
 use Rattle.acq_base.specs.Mirror.{MirrorMap}
 use Rattle.acq_outside.specs.declared.word.Fetch.{Fetch}
 use Rattle.acq_outside.specs.declared.word.Word.{Word}
-use Rattle.acq_outside.specs.declared.word.Word.TheVariants.{Piece, Done, Other}
+use Rattle.acq_outside.specs.declared.word.Word.TheVariants.{Piece, Done, Other, Not, NoMemory}
 use Rattle.acq_outside.specs.Count.{Rose}
 use Rattle.acq_outside.specs.Word.{IsSoundWord, IsOther}
 use Rattle.lane_pool.specs.Words.{count_after, IsHeard}
@@ -15,14 +16,13 @@ one_word : (world : Option MirrorMap) (last end : ℕ) (fetch : Fetch) (word : W
     → AreApart last (fault_of word ++ faults) end
 one_word world last end fetch (Piece place bytes) faults h apart = apart
 one_word world last end fetch (Done size) faults h apart = apart
-one_word world last end fetch (Other (replies.Fault before after)) faults h apart =
+one_word world last end fetch (Not (nots.Fault before after)) faults h apart =
     let a = h.in_order in let b = h.rises in let c = h.says.counted.0 in (omega arith, omega arith, apart)
-one_word world last end fetch (Other (replies.Served bytes)) faults h apart = apart
-one_word world last end fetch (Other (replies.Moved place)) faults h apart = apart
-one_word world last end fetch (Other (replies.Absent status)) faults h apart = apart
-one_word world last end fetch (Other replies.TooBig) faults h apart = apart
-one_word world last end fetch (Other (replies.Garbled at)) faults h apart = apart
-one_word world last end fetch (Other replies.NoMemory) faults h apart = apart
+one_word world last end fetch (Not (nots.Moved place)) faults h apart = apart
+one_word world last end fetch (Not (nots.Absent status)) faults h apart = apart
+one_word world last end fetch (Not nots.TooBig) faults h apart = apart
+one_word world last end fetch (Not (nots.Garbled at)) faults h apart = apart
+one_word world last end fetch NoMemory faults h apart = apart
 
 pub faults_apart : FaultsAreApart
 faults_apart world start count [] heard = heard
@@ -57,7 +57,7 @@ own_heard before after world fetch under (Done size) rises sound is = (
   record { before = before; in_order = omega arith; rises = omega arith; says = record { quiet = refl; reached = is.reached; ended = refl; told = is.told }; sound = sound },
   sym is.quiet,
 )
-own_heard before after world fetch under (Other (replies.Fault told_before told_after)) rises sound is =
+own_heard before after world fetch under (Not (nots.Fault told_before told_after)) rises sound is =
     let c = is.counted in (
       record {
         before = before;
@@ -68,9 +68,8 @@ own_heard before after world fetch under (Other (replies.Fault told_before told_
       },
       c.1,
     )
-own_heard before after world fetch under (Other (replies.Served bytes)) rises sound is = elim is.counted [ ]
-own_heard before after world fetch under (Other (replies.Moved place)) rises sound is = quiet_own before after world fetch under (replies.Moved place) sound is is.counted refl
-own_heard before after world fetch under (Other (replies.Absent status)) rises sound is = quiet_own before after world fetch under (replies.Absent status) sound is is.counted refl
-own_heard before after world fetch under (Other replies.TooBig) rises sound is = quiet_own before after world fetch under replies.TooBig sound is is.counted refl
-own_heard before after world fetch under (Other (replies.Garbled at)) rises sound is = quiet_own before after world fetch under (replies.Garbled at) sound is is.counted refl
-own_heard before after world fetch under (Other replies.NoMemory) rises sound is = quiet_own before after world fetch under replies.NoMemory sound is is.counted refl
+own_heard before after world fetch under (Not (nots.Moved place)) rises sound is = quiet_own before after world fetch under (replies.Not (nots.Moved place)) sound is is.counted refl
+own_heard before after world fetch under (Not (nots.Absent status)) rises sound is = quiet_own before after world fetch under (replies.Not (nots.Absent status)) sound is is.counted refl
+own_heard before after world fetch under (Not nots.TooBig) rises sound is = quiet_own before after world fetch under (replies.Not nots.TooBig) sound is is.counted refl
+own_heard before after world fetch under (Not (nots.Garbled at)) rises sound is = quiet_own before after world fetch under (replies.Not (nots.Garbled at)) sound is is.counted refl
+own_heard before after world fetch under NoMemory rises sound is = quiet_own before after world fetch under replies.NoMemory sound is is.counted refl

@@ -2,11 +2,12 @@
 use Rattle.std.proofs.Common.{◌≡◌, ◌∙◌, ℕ, ◌≤◌, true, true≢false, List, length, Option, Some, None, IfSome, IsSome, sym, refl, ap, subst, arith}
 use Rattle.acq_base.specs.declared.fetch.Job.{Job}
 use Rattle.acq_base.specs.declared.fetch.Reply.{Reply}
+use Rattle.acq_base.specs.declared.fetch.NotServed.TheVariants as nots
 use Rattle.acq_base.specs.declared.fetch.Reply.TheVariants as replies
 use Rattle.acq_base.specs.Mirror.{MirrorMap, answer_at}
 use Rattle.acq_outside.specs.declared.word.Fetch.{Fetch}
 use Rattle.acq_outside.specs.declared.word.Word.{Word}
-use Rattle.acq_outside.specs.declared.word.Word.TheVariants.{Piece, Done, Other}
+use Rattle.acq_outside.specs.declared.word.Word.TheVariants.{Piece, Done, Other, Not, NoMemory}
 use Rattle.acq_outside.specs.Count.{Rose}
 use Rattle.acq_outside.specs.Word.{IsWord, IsPiece, IsDone, IsOther, IsCounted, IsSoundWord, IsReplyOf, begun, further}
 use Rattle.lane_pool.specs.declared.rule.View.{View}
@@ -69,11 +70,18 @@ is_word_to last count world job under (Done size) n = record {
   says = let e : n.fetch ≡ fetch_at job (Done size) = λ i. record { job = n.of_job i; at = sym n.says.reached i } in done_to n.before count world n.fetch _ under size e n.says;
   sound = n.sound;
 }
-is_word_to last count world job under (Other reply) n = record {
+is_word_to last count world job under (Not end) n = record {
   before = n.before;
   after = count;
   rises = n.rises;
-  says = other_to n.before count world n.fetch (fetch_at job (Other reply)) under reply n.of_job n.says;
+  says = other_to n.before count world n.fetch (fetch_at job (Not end)) under (replies.Not end) n.of_job n.says;
+  sound = n.sound;
+}
+is_word_to last count world job under NoMemory n = record {
+  before = n.before;
+  after = count;
+  rises = n.rises;
+  says = other_to n.before count world n.fetch (fetch_at job NoMemory) under replies.NoMemory n.of_job n.says;
   sound = n.sound;
 }
 
@@ -81,13 +89,12 @@ is_word_to last count world job under (Other reply) n = record {
 pub stays_below : (last count : ℕ) (world : Option MirrorMap) (job : Job) (under : Option Fetch) (word : Word) → IsNext last count world job under word → count_after last word ≤ count
 stays_below last count world job under (Piece place bytes) n = let a = n.in_order in let b = n.rises in omega arith
 stays_below last count world job under (Done size) n = let a = n.in_order in let b = n.rises in omega arith
-stays_below last count world job under (Other (replies.Fault before after)) n = let a = n.says.counted.1 in omega arith
-stays_below last count world job under (Other (replies.Served bytes)) n = let a = n.in_order in let b = n.rises in omega arith
-stays_below last count world job under (Other (replies.Moved place)) n = let a = n.in_order in let b = n.rises in omega arith
-stays_below last count world job under (Other (replies.Absent status)) n = let a = n.in_order in let b = n.rises in omega arith
-stays_below last count world job under (Other replies.TooBig) n = let a = n.in_order in let b = n.rises in omega arith
-stays_below last count world job under (Other (replies.Garbled at)) n = let a = n.in_order in let b = n.rises in omega arith
-stays_below last count world job under (Other replies.NoMemory) n = let a = n.in_order in let b = n.rises in omega arith
+stays_below last count world job under (Not (nots.Fault before after)) n = let a = n.says.counted.1 in omega arith
+stays_below last count world job under (Not (nots.Moved place)) n = let a = n.in_order in let b = n.rises in omega arith
+stays_below last count world job under (Not (nots.Absent status)) n = let a = n.in_order in let b = n.rises in omega arith
+stays_below last count world job under (Not nots.TooBig) n = let a = n.in_order in let b = n.rises in omega arith
+stays_below last count world job under (Not (nots.Garbled at)) n = let a = n.in_order in let b = n.rises in omega arith
+stays_below last count world job under NoMemory n = let a = n.in_order in let b = n.rises in omega arith
 
 -- the first word of a job
 pub begins_with : (last before count : ℕ) (world world' : Option MirrorMap) (job : Job) (under : Option Fetch) (word : Word) → last ≤ before → before ≤ count → world' ≡ world
@@ -107,7 +114,8 @@ under_piece : (last count : ℕ) (world : Option MirrorMap) (job : Job) (under :
     → (f : Fetch) × (under ≡ Some f) × (f.job ≡ job)
 under_piece last count world job under (Piece place bytes) n piece = (further n.fetch (length bytes), n.says.under_way, n.of_job)
 under_piece last count world job under (Done size) n piece = absurd (true≢false (sym piece))
-under_piece last count world job under (Other reply) n piece = absurd (true≢false (sym piece))
+under_piece last count world job under (Not end) n piece = absurd (true≢false (sym piece))
+under_piece last count world job under NoMemory n piece = absurd (true≢false (sym piece))
 
 -- the next word of a job, behind a piece
 pub goes_on_with : (last count : ℕ) (world : Option MirrorMap) (job : Job) (under : Option Fetch) (word : Word) → IsNext last count world job under word → is_piece word ≡ true
@@ -166,28 +174,28 @@ is_heard last world fetch job (Done size) is same stands order = record {
       let d = done_to is.before is.after world _ fetch _ size e is.says in record { quiet = refl; reached = d.reached; ended = d.ended; told = d.told };
   sound = is.sound;
 }
-is_heard last world fetch job (Other (replies.Fault before after)) is same stands order = record {
+is_heard last world fetch job (Not (nots.Fault before after)) is same stands order = record {
   before = before;
   in_order = order;
   rises = let a = is.says.counted.0 in let b = is.says.counted.1 in let c = is.rises in omega arith;
   says =
-      let o = other_to is.before is.after world (fetch_at job (Other (replies.Fault before after))) fetch _ (replies.Fault before after) same is.says in
+      let o = other_to is.before is.after world (fetch_at job (Not (nots.Fault before after))) fetch _ (replies.Not (nots.Fault before after)) same is.says in
       let c = o.counted in
       record { counted = (refl, refl, subst (λ (y : ℕ × ℕ). Rose y.0 y.1) (λ i. (sym c.0 i, sym c.1 i)) c.2); ended = refl; told = o.told };
   sound = is.sound;
 }
-is_heard last world fetch job (Other (replies.Served bytes)) is same stands order = elim is.says.counted [ ]
-is_heard last world fetch job (Other (replies.Moved place)) is same stands order = quiet last world fetch job (replies.Moved place) is same refl refl
-is_heard last world fetch job (Other (replies.Absent status)) is same stands order = quiet last world fetch job (replies.Absent status) is same refl refl
-is_heard last world fetch job (Other replies.TooBig) is same stands order = quiet last world fetch job replies.TooBig is same refl refl
-is_heard last world fetch job (Other (replies.Garbled at)) is same stands order = quiet last world fetch job (replies.Garbled at) is same refl refl
-is_heard last world fetch job (Other replies.NoMemory) is same stands order = quiet last world fetch job replies.NoMemory is same refl refl
+is_heard last world fetch job (Not (nots.Moved place)) is same stands order = quiet last world fetch job (replies.Not (nots.Moved place)) is same refl refl
+is_heard last world fetch job (Not (nots.Absent status)) is same stands order = quiet last world fetch job (replies.Not (nots.Absent status)) is same refl refl
+is_heard last world fetch job (Not nots.TooBig) is same stands order = quiet last world fetch job (replies.Not nots.TooBig) is same refl refl
+is_heard last world fetch job (Not (nots.Garbled at)) is same stands order = quiet last world fetch job (replies.Not (nots.Garbled at)) is same refl refl
+is_heard last world fetch job NoMemory is same stands order = quiet last world fetch job replies.NoMemory is same refl refl
 
 -- a fetch is under way exactly behind a piece
 pub is_under_way : (before after : ℕ) (world : Option MirrorMap) (fetch : Fetch) (under : Option Fetch) (word : Word) → IsWord before after world fetch under word → is_piece word ≡ true → IsSome under
 is_under_way before after world fetch under (Piece place bytes) is piece = subst (λ (o : Option Fetch). IsSome o) (sym is.under_way) refl
 is_under_way before after world fetch under (Done size) is piece = absurd (true≢false (sym piece))
-is_under_way before after world fetch under (Other reply) is piece = absurd (true≢false (sym piece))
+is_under_way before after world fetch under (Not end) is piece = absurd (true≢false (sym piece))
+is_under_way before after world fetch under NoMemory is piece = absurd (true≢false (sym piece))
 
 pub stays_under_way : (before after : ℕ) (world : Option MirrorMap) (old under : Option Fetch) (word : Word) → IsSome old → IfSome old (λ fetch. IsWord before after world fetch under word) → is_piece word ≡ true
     → IsSome under

@@ -1,10 +1,10 @@
 -- What holds of a lane's words over a whole run.
 use Rattle.std.specs.Prelude.{◌≡◌, ℕ, ◌≤◌, List, [], ◌∷◌, ◌++◌, Option}
-use Rattle.acq_base.specs.declared.fetch.Reply.TheVariants as replies
+use Rattle.acq_base.specs.declared.fetch.NotServed.TheVariants as nots
 use Rattle.acq_base.specs.Mirror.{MirrorMap}
 use Rattle.acq_outside.specs.declared.word.Fetch.{Fetch}
 use Rattle.acq_outside.specs.declared.word.Word.{Word}
-use Rattle.acq_outside.specs.declared.word.Word.TheVariants.{Piece, Done, Other}
+use Rattle.acq_outside.specs.declared.word.Word.TheVariants.{Piece, Done, Not, NoMemory}
 use Rattle.acq_outside.specs.Word.{IsWord, IsSoundWord}
 use Rattle.lane_pool.specs.Words.{count_after, IsHeard}
 
@@ -18,13 +18,12 @@ AreHeard world last (step ∷ steps) count = IsHeard last world step.0 step.1 ×
 abbrev pub fault_of : Word → List (ℕ × ℕ)
 fault_of (Piece place bytes) = []
 fault_of (Done size) = []
-fault_of (Other (replies.Fault before after)) = (before, after) ∷ []
-fault_of (Other (replies.Served bytes)) = []
-fault_of (Other (replies.Moved place)) = []
-fault_of (Other (replies.Absent status)) = []
-fault_of (Other replies.TooBig) = []
-fault_of (Other (replies.Garbled at)) = []
-fault_of (Other replies.NoMemory) = []
+fault_of (Not (nots.Fault before after)) = (before, after) ∷ []
+fault_of (Not (nots.Moved place)) = []
+fault_of (Not (nots.Absent status)) = []
+fault_of (Not nots.TooBig) = []
+fault_of (Not (nots.Garbled at)) = []
+fault_of NoMemory = []
 
 abbrev pub faults_of : List (Fetch × Word) → List (ℕ × ℕ)
 faults_of [] = []

@@ -1,30 +1,30 @@
 -- What a word that comes over a lane says.
 use Rattle.std.specs.Prelude.{◌≡◌, ℕ, ◌≤◌, Option}
 use Rattle.acq_base.specs.declared.fetch.Job.{Job}
-use Rattle.acq_base.specs.declared.fetch.Reply.TheVariants as replies
+use Rattle.acq_base.specs.declared.fetch.NotServed.TheVariants as nots
 use Rattle.acq_base.specs.Mirror.{MirrorMap}
 use Rattle.acq_outside.specs.declared.word.Fetch.{Fetch}
 use Rattle.acq_outside.specs.declared.word.Word.{Word}
-use Rattle.acq_outside.specs.declared.word.Word.TheVariants.{Piece, Done, Other}
+use Rattle.acq_outside.specs.declared.word.Word.TheVariants.{Piece, Done, Not, NoMemory}
 use Rattle.acq_outside.specs.Word.{IsWord, IsSoundWord, after_word}
 
 -- a lane's count of faults after a word: a fault tells it, and anything else leaves it
 abbrev pub count_after : ℕ → Word → ℕ
 count_after last (Piece place bytes) = last
 count_after last (Done size) = last
-count_after last (Other (replies.Fault before after)) = after
-count_after last (Other (replies.Served bytes)) = last
-count_after last (Other (replies.Moved place)) = last
-count_after last (Other (replies.Absent status)) = last
-count_after last (Other replies.TooBig) = last
-count_after last (Other (replies.Garbled at)) = last
-count_after last (Other replies.NoMemory) = last
+count_after last (Not (nots.Fault before after)) = after
+count_after last (Not (nots.Moved place)) = last
+count_after last (Not (nots.Absent status)) = last
+count_after last (Not nots.TooBig) = last
+count_after last (Not (nots.Garbled at)) = last
+count_after last NoMemory = last
 
 -- the place in the file that a word names: where a piece begins, or the size. For any other word it is the job's beginning
 abbrev pub place_of : Job → Word → ℕ
 place_of job (Piece place bytes) = place
 place_of job (Done size) = size
-place_of job (Other reply) = job.from
+place_of job (Not end) = job.from
+place_of job NoMemory = job.from
 
 -- the fetch of a job, at the place that a word names
 abbrev pub fetch_at : Job → Word → Fetch
@@ -43,19 +43,19 @@ pub record IsWordTo (world : Option MirrorMap) (job : Job) (word : Word) : Type 
 abbrev pub StandsAt : ℕ → Word → Type 0
 StandsAt at (Piece place bytes) = place ≡ at
 StandsAt at (Done size) = size ≡ at
-StandsAt at (Other reply) = Unit {0}
+StandsAt at (Not end) = Unit {0}
+StandsAt at NoMemory = Unit {0}
 
 -- a fault begins at or above the last count
 abbrev pub IsInOrder : ℕ → Word → Type 0
 IsInOrder last (Piece place bytes) = Unit {0}
 IsInOrder last (Done size) = Unit {0}
-IsInOrder last (Other (replies.Fault before after)) = last ≤ before
-IsInOrder last (Other (replies.Served bytes)) = Unit {0}
-IsInOrder last (Other (replies.Moved place)) = Unit {0}
-IsInOrder last (Other (replies.Absent status)) = Unit {0}
-IsInOrder last (Other replies.TooBig) = Unit {0}
-IsInOrder last (Other (replies.Garbled at)) = Unit {0}
-IsInOrder last (Other replies.NoMemory) = Unit {0}
+IsInOrder last (Not (nots.Fault before after)) = last ≤ before
+IsInOrder last (Not (nots.Moved place)) = Unit {0}
+IsInOrder last (Not (nots.Absent status)) = Unit {0}
+IsInOrder last (Not nots.TooBig) = Unit {0}
+IsInOrder last (Not (nots.Garbled at)) = Unit {0}
+IsInOrder last NoMemory = Unit {0}
 
 -- A word of a method with this mirror to the fetch that is out on its lane, where the last count taken of the lane is
 -- `last`: the method's count stood at `before` when it was asked, and is the lane's count from now on.

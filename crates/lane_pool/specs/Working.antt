@@ -2,7 +2,7 @@
 use Rattle.std.specs.Prelude.{◌≡◌, ℕ, ◌<◌, ◌≤◌, Bool, true, false, Option}
 use Rattle.acq_base.specs.Mirror.{MirrorMap}
 use Rattle.acq_outside.specs.declared.word.Word.{Word}
-use Rattle.acq_outside.specs.declared.word.Word.TheVariants.{Piece, Done, Other}
+use Rattle.acq_outside.specs.declared.word.Word.TheVariants.{Piece, Done, Not, NoMemory}
 use Rattle.lane_pool.specs.declared.rule.View.{View}
 
 -- a worker's view, beside the mirror and the count of its method
@@ -16,4 +16,5 @@ pub record IsWorker (lane : ℕ) (v : View) (world : Option MirrorMap) (count : 
 abbrev pub is_piece : Word → Bool
 is_piece (Piece place bytes) = true
 is_piece (Done size) = false
-is_piece (Other reply) = false
+is_piece (Not end) = false
+is_piece NoMemory = false

@@ -14,7 +14,7 @@ use crate::rule::ReplySender;
 use crate::slot::FetchOut;
 use crate::work::Sent;
 use crate::worker::{Worker, hire};
-use acq_base::{Job, Reply};
+use acq_base::{Job, NotServed};
 use acq_outside::{Method, Word};
 use crossbeam_channel::{Receiver, Sender};
 use std::alloc::Global;
@@ -129,7 +129,7 @@ fn stands_at(at: u64, word: &Word) -> bool
             bytes: _,
         } => *place == at,
         Word::Done { size } => *size == at,
-        Word::Other(_) => true,
+        Word::Not(_) | Word::NoMemory => true,
     }
 }
 
@@ -138,8 +138,9 @@ fn is_in_order(last: u64, word: &Word) -> bool
     ensures { IsTrue result ↔ IsInOrder last word.now }
 {
     match word {
-        Word::Other(Reply::Fault { before, after: _ }) => last <= *before,
-        Word::Piece { at: _, bytes: _ } | Word::Done { size: _ } | Word::Other(_) => true,
+        Word::Not(NotServed::Fault { before, after: _ }) => last <= *before,
+        Word::Piece { at: _, bytes: _ } | Word::Done { size: _ } | Word::Not(_) | Word::NoMemory =>
+            true,
     }
 }
 
@@ -148,7 +149,8 @@ fn count_after(last: u64, word: &Word) -> u64
     ensures { result ≡ count_after last word.now }
 {
     match word {
-        Word::Other(Reply::Fault { before: _, after }) => *after,
-        Word::Piece { at: _, bytes: _ } | Word::Done { size: _ } | Word::Other(_) => last,
+        Word::Not(NotServed::Fault { before: _, after }) => *after,
+        Word::Piece { at: _, bytes: _ } | Word::Done { size: _ } | Word::Not(_) | Word::NoMemory =>
+            last,
     }
 }

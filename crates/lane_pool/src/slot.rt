@@ -115,7 +115,7 @@ impl FetchOut {
     {
         match word {
             Word::Piece { at: _, bytes } => self.at += bytes.len() as u64,
-            Word::Done { size: _ } | Word::Other(_) => self.is_out = false,
+            Word::Done { size: _ } | Word::Not(_) | Word::NoMemory => self.is_out = false,
         }
     }
 }

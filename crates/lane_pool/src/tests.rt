@@ -5,7 +5,7 @@ ghost use Rattle.acq_outside.specs.Word.{CanBegin};
 ghost use Rattle.lane_pool.specs.Working.{is_piece};
 
 use crate::{Lanes, start};
-use acq_base::{Answer, Bytes, Job, Mirror, NoMemory, Reply, Row, Scheme, Text, Uri};
+use acq_base::{Answer, Bytes, Job, Mirror, NoMemory, NotServed, Row, Scheme, Text, Uri};
 use acq_memory::MapMethod;
 use acq_outside::{Fetch, Method, Word};
 use std::alloc::Global;
@@ -71,13 +71,13 @@ fn code(word: &Word) -> u64 {
     match word {
         Word::Piece { at: _, bytes } => bytes.len() as u64,
         Word::Done { size } => *size,
-        Word::Other(Reply::Moved(_)) => 1_000_000,
-        Word::Other(Reply::Absent(status)) => 2_000_000 + u64::from(*status),
-        Word::Other(Reply::TooBig) => 3_000_000,
-        Word::Other(Reply::Fault { before, after }) => 4_000_000u64
+        Word::Not(NotServed::Moved(_)) => 1_000_000,
+        Word::Not(NotServed::Absent(status)) => 2_000_000 + u64::from(*status),
+        Word::Not(NotServed::TooBig) => 3_000_000,
+        Word::Not(NotServed::Fault { before, after }) => 4_000_000u64
             .saturating_add(before.saturating_mul(10))
             .saturating_add(*after),
-        Word::Other(_) => 9_000_000,
+        Word::Not(_) | Word::NoMemory => 9_000_000,
     }
 }
 
@@ -308,7 +308,7 @@ impl Method for Gate {
         if self.fails || (!is_n && !self.waits()) {
             let before = self.faults;
             self.faults = before.saturating_add(1);
-            return Word::Other(Reply::Fault {
+            return Word::Not(NotServed::Fault {
                 before,
                 after: self.faults,
             });
@@ -316,12 +316,12 @@ impl Method for Gate {
         if is_n {
             self.given.store(1, Ordering::SeqCst);
         }
-        Word::Other(Reply::Absent(if is_n { 1 } else { 2 }))
+        Word::Not(NotServed::Absent(if is_n { 1 } else { 2 }))
     }
 
     fn more(&mut self, _alloc: Global) -> Word {
         self.under = None;
-        Word::Other(Reply::Absent(404))
+        Word::Not(NotServed::Absent(404))
     }
 }
 

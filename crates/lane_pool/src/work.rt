@@ -9,7 +9,7 @@ ghost use Rattle.lane_pool.specs.Working.{IsWorker, is_piece};
 
 use crate::Told;
 use crate::rule::{LanePass, ReplySender, Sends};
-use acq_base::{Job, NoMemory, Reply, TryCopy};
+use acq_base::{Job, NoMemory, TryCopy};
 use acq_outside::{Method, Word};
 use crossbeam_channel::Receiver;
 use std::alloc::Global;
@@ -117,7 +117,7 @@ fn answer<M: Method, R: Wait>(
         }
         // Each word carries its job. Where there is no memory for that, the job ends so.
         let Ok(again) = job.copy(alloc) else {
-            let word = Word::Other(Reply::NoMemory);
+            let word = Word::NoMemory;
             return tell(rt, sends, pass, Told { lane, job, word });
         };
         let piece = Told {
@@ -139,7 +139,7 @@ fn is_piece(word: &Word) -> bool
 {
     match word {
         Word::Piece { at: _, bytes: _ } => true,
-        Word::Done { size: _ } | Word::Other(_) => false,
+        Word::Done { size: _ } | Word::Not(_) | Word::NoMemory => false,
     }
 }
 

@@ -10,6 +10,7 @@ use Rattle.journal_model.specs.Rest.{KeptAtRestSince, part_bytes, part_file}
 use Rattle.update_model.specs.Outcomes.{PartFiles}
 use Rattle.update_model.specs.declared.ask.Body.TheVariants as bodies
 use Rattle.update_model.specs.declared.ask.Closed.{Closed}
+use Rattle.acq_base.specs.declared.fetch.NotServed.TheVariants as nots
 use Rattle.update_model.specs.declared.ask.Closed.TheVariants as closings
 use Rattle.acq_outside.proofs.Going.{no_time}
 use Rattle.journal_model.proofs.Views.{partial_apart}
@@ -62,11 +63,11 @@ kept_holds (suc n) before name first old now e told keeps holds =
 whole_holds : (staged : ListName) (name first : List ℕ) (closed : Closed) (after : WantedPart) (now : List State) → IsTold now → IsStagedBody staged.0 now closed → IsWholeOf (Some staged) closed name after → HasWantedPart after name first now
 whole_holds staged name first (closings.Served (bodies.Bytes bytes)) after now told ends is = absurd is
 whole_holds staged name first (closings.Served (bodies.Staged sum)) after now told ends is = rw is.1 (rw is.0 (ends told))
-whole_holds staged name first (closings.Moved place) after now told ends is = absurd is
-whole_holds staged name first (closings.Absent status) after now told ends is = absurd is
-whole_holds staged name first closings.TooBig after now told ends is = absurd is
-whole_holds staged name first (closings.Garbled at) after now told ends is = absurd is
-whole_holds staged name first (closings.Fault a b) after now told ends is = absurd is
+whole_holds staged name first (closings.Not (nots.Moved place)) after now told ends is = absurd is
+whole_holds staged name first (closings.Not (nots.Absent status)) after now told ends is = absurd is
+whole_holds staged name first (closings.Not nots.TooBig) after now told ends is = absurd is
+whole_holds staged name first (closings.Not (nots.Garbled at)) after now told ends is = absurd is
+whole_holds staged name first (closings.Not (nots.Fault a b)) after now told ends is = absurd is
 
 -- what a board wants is there once a job has ended
 pub uses_after : (staged : Option ListName) (from : ℕ) (closed : Closed) (wanted after : List ℕ → WantedPart) (first : PartFiles) (old now : List State) → IsFetched staged old now

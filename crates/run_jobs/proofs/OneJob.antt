@@ -32,6 +32,7 @@ use Rattle.update_model.specs.Trails.{LaneAnswer, IsFaultOr, answered}
 use Rattle.update_model.specs.declared.ask.Ask.{Ask}
 use Rattle.update_model.specs.declared.ask.Body.TheVariants as bodies
 use Rattle.update_model.specs.declared.ask.Closed.{Closed}
+use Rattle.acq_base.specs.declared.fetch.NotServed.TheVariants as nots
 use Rattle.update_model.specs.declared.ask.Closed.TheVariants as closings
 use Rattle.board_model.proofs.Askers.{asker-asks}
 use Rattle.board_bounds.proofs.Walking.{at_all}
@@ -157,11 +158,11 @@ served_as b a None now (closings.Served (bodies.Bytes bytes)) kind comes = kind.
 served_as b a None now (closings.Served (bodies.Staged sum)) kind comes = absurd comes
 served_as b a (Some name) now (closings.Served (bodies.Bytes bytes)) kind comes = absurd comes
 served_as b a (Some name) now (closings.Served (bodies.Staged sum)) kind comes = kind.0
-served_as b a staged now (closings.Moved place) kind comes = tt
-served_as b a staged now (closings.Absent status) kind comes = tt
-served_as b a staged now closings.TooBig kind comes = tt
-served_as b a staged now (closings.Garbled at) kind comes = tt
-served_as b a staged now (closings.Fault before after) kind comes = tt
+served_as b a staged now (closings.Not (nots.Moved place)) kind comes = tt
+served_as b a staged now (closings.Not (nots.Absent status)) kind comes = tt
+served_as b a staged now (closings.Not nots.TooBig) kind comes = tt
+served_as b a staged now (closings.Not (nots.Garbled at)) kind comes = tt
+served_as b a staged now (closings.Not (nots.Fault before after)) kind comes = tt
 
 use_of : (b : Board) (job : Job) (staged : Option ListName) → (j : IsJob b job staged) → IfSome staged (λ name. wanted_part b name.0 ≡ use_from j.a.ask.from)
 use_of b job None j = tt

@@ -12,6 +12,7 @@ use Rattle.update_model.specs.Trails.{LaneAnswer, Leads}
 use Rattle.update_model.specs.Walks.{Walk, Finish, Try, after_in_release, release_walk}
 use Rattle.update_model.specs.declared.ask.Ask.{Ask}
 use Rattle.update_model.specs.declared.ask.Closed.{Closed}
+use Rattle.acq_base.specs.declared.fetch.NotServed.TheVariants as nots
 use Rattle.update_model.specs.declared.ask.Closed.TheVariants as closings
 use Rattle.update_model.specs.declared.ask.Ending.{Ending}
 use Rattle.update_model.specs.declared.ask.Ending.TheVariants as endings
@@ -46,13 +47,13 @@ held_lead retries ask left next (Stop ending) stage h = held_start retries (next
 
 held_led : (retries : ℕ) (ask : Ask) (left : ℕ) (next : Ending → Walk) (lane : ℕ) (closed : Closed) (faults : ℕ) → ask.stage ≡ false → ((e : Ending) → HeldWalk (next e))
     → HeldPoint (Leads left ask.uri lane closed faults (λ n. At ask left n next) (λ w. lead retries ask left next w))
-held_led retries ask left next lane (closings.Fault from to) zero stage h = held_start retries (next (endings.Dead lane from to)) (h (endings.Dead lane from to))
-held_led retries ask left next lane (closings.Fault from to) (suc n) stage h = (stage, h)
+held_led retries ask left next lane (closings.Not (nots.Fault from to)) zero stage h = held_start retries (next (endings.Dead lane from to)) (h (endings.Dead lane from to))
+held_led retries ask left next lane (closings.Not (nots.Fault from to)) (suc n) stage h = (stage, h)
 held_led retries ask left next lane (closings.Served body) faults stage h = held_lead retries ask left next (way left ask.uri (closings.Served body)) stage h
-held_led retries ask left next lane (closings.Moved place) faults stage h = held_lead retries ask left next (way left ask.uri (closings.Moved place)) stage h
-held_led retries ask left next lane (closings.Absent status) faults stage h = held_lead retries ask left next (way left ask.uri (closings.Absent status)) stage h
-held_led retries ask left next lane closings.TooBig faults stage h = held_lead retries ask left next (way left ask.uri closings.TooBig) stage h
-held_led retries ask left next lane (closings.Garbled at) faults stage h = held_lead retries ask left next (way left ask.uri (closings.Garbled at)) stage h
+held_led retries ask left next lane (closings.Not (nots.Moved place)) faults stage h = held_lead retries ask left next (way left ask.uri (closings.Not (nots.Moved place))) stage h
+held_led retries ask left next lane (closings.Not (nots.Absent status)) faults stage h = held_lead retries ask left next (way left ask.uri (closings.Not (nots.Absent status))) stage h
+held_led retries ask left next lane (closings.Not nots.TooBig) faults stage h = held_lead retries ask left next (way left ask.uri (closings.Not nots.TooBig)) stage h
+held_led retries ask left next lane (closings.Not (nots.Garbled at)) faults stage h = held_lead retries ask left next (way left ask.uri (closings.Not (nots.Garbled at))) stage h
 
 held_step : (retries : ℕ) (p : Point) (t : LaneAnswer) → HeldPoint p → HeldPoint (point_after retries p t)
 held_step retries (Over end) t h = tt

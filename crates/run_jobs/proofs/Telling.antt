@@ -8,6 +8,7 @@ use Rattle.job_fetch.specs.Fetched.{IsCounted, IsSoundEnd}
 use Rattle.update_model.specs.Trails.{answered, heard_of}
 use Rattle.update_model.specs.declared.ask.Ask.{Ask}
 use Rattle.update_model.specs.declared.ask.Closed.{Closed}
+use Rattle.acq_base.specs.declared.fetch.NotServed.TheVariants as nots
 use Rattle.update_model.specs.declared.ask.Closed.TheVariants as closings
 use Rattle.update_model.specs.declared.log.Asked.{Asked}
 use Rattle.update_model.specs.declared.log.Heard.{Heard}
@@ -30,29 +31,29 @@ answered_front p q ask (answers.Absent status) same = refl
 
 pub sound_answer : (closed : Closed) → IsSoundEnd closed → IsSoundAnswer closed
 sound_answer (closings.Served body) is = tt
-sound_answer (closings.Moved place) is = is
-sound_answer (closings.Absent status) is = tt
-sound_answer closings.TooBig is = tt
-sound_answer (closings.Garbled at) is = tt
-sound_answer (closings.Fault before after) is = tt
+sound_answer (closings.Not (nots.Moved place)) is = is
+sound_answer (closings.Not (nots.Absent status)) is = tt
+sound_answer (closings.Not nots.TooBig) is = tt
+sound_answer (closings.Not (nots.Garbled at)) is = tt
+sound_answer (closings.Not (nots.Fault before after)) is = tt
 
 -- one more answer is counted
 counts_one : (entry : Asked) (closed : Closed) (first before after : ℕ) → entry.heard ≡ heard_of closed → first ≤ before → IsCounted before after closed → before ≤ after → CountsUp first after (entry ∷ [])
 counts_one entry (closings.Served body) first before after e le is up = rw e (rw is le)
-counts_one entry (closings.Moved place) first before after e le is up = rw e (rw is le)
-counts_one entry (closings.Absent status) first before after e le is up = rw e (rw is le)
-counts_one entry closings.TooBig first before after e le is up = rw e (rw is le)
-counts_one entry (closings.Garbled at) first before after e le is up = rw e (rw is le)
-counts_one entry (closings.Fault b a) first before after e le is up =
+counts_one entry (closings.Not (nots.Moved place)) first before after e le is up = rw e (rw is le)
+counts_one entry (closings.Not (nots.Absent status)) first before after e le is up = rw e (rw is le)
+counts_one entry (closings.Not nots.TooBig) first before after e le is up = rw e (rw is le)
+counts_one entry (closings.Not (nots.Garbled at)) first before after e le is up = rw e (rw is le)
+counts_one entry (closings.Not (nots.Fault b a)) first before after e le is up =
     rw e (subst (λ n. first ≤ n) (sym is.0) le, rw is.0 (rw is.1 is.2), rw is.0 (rw is.1 up), subst (λ n. n ≤ after) (sym is.1) (omega arith))
 
 on_heard : (heard : Heard) (count : ℕ) (P Q : ℕ → Type 0) → ((n : ℕ) → P n → Q n) → CountsOn heard count P → CountsOn heard count Q
 on_heard (heards.Served sum) count P Q f is = f count is
-on_heard (heards.Moved place) count P Q f is = f count is
-on_heard (heards.Absent status) count P Q f is = f count is
-on_heard heards.TooBig count P Q f is = f count is
-on_heard (heards.Garbled at) count P Q f is = f count is
-on_heard (heards.Fault before after) count P Q f is = (is.0, is.1, is.2, f after is.3)
+on_heard (heards.Not (nots.Moved place)) count P Q f is = f count is
+on_heard (heards.Not (nots.Absent status)) count P Q f is = f count is
+on_heard (heards.Not nots.TooBig) count P Q f is = f count is
+on_heard (heards.Not (nots.Garbled at)) count P Q f is = f count is
+on_heard (heards.Not (nots.Fault before after)) count P Q f is = (is.0, is.1, is.2, f after is.3)
 
 pub counts_last : (entries : List Asked) (entry : Asked) (closed : Closed) (first before after : ℕ) → entry.heard ≡ heard_of closed → CountsUp first before entries → IsCounted before after closed → before ≤ after
     → CountsUp first after (entries ++ entry ∷ [])
@@ -67,8 +68,8 @@ counts_rise first last (e ∷ entries) counts = by e.heard (λ count on. counts_
   where
     by : (heard : Heard) → ((count : ℕ) → CountsUp count last entries → count ≤ last) → CountsOn heard first (λ count. CountsUp count last entries) → first ≤ last
     by (heards.Served sum) more c = more first c
-    by (heards.Moved place) more c = more first c
-    by (heards.Absent status) more c = more first c
-    by heards.TooBig more c = more first c
-    by (heards.Garbled at) more c = more first c
-    by (heards.Fault before after) more c = let up = more after c.3 in omega (arith, c.0, c.2, up)
+    by (heards.Not (nots.Moved place)) more c = more first c
+    by (heards.Not (nots.Absent status)) more c = more first c
+    by (heards.Not nots.TooBig) more c = more first c
+    by (heards.Not (nots.Garbled at)) more c = more first c
+    by (heards.Not (nots.Fault before after)) more c = let up = more after c.3 in omega (arith, c.0, c.2, up)

@@ -3,11 +3,12 @@ use Rattle.std.specs.Prelude.{ℕ, ◌≤◌, List, [], ◌∷◌}
 use Rattle.acq_outside.specs.Count.{Rose}
 use Rattle.update_model.specs.declared.log.Asked.{Asked}
 use Rattle.update_model.specs.declared.log.Heard.{Heard}
-use Rattle.update_model.specs.declared.log.Heard.TheVariants.{Fault}
+use Rattle.update_model.specs.declared.log.Heard.TheVariants.{Not}
+use Rattle.acq_base.specs.declared.fetch.NotServed.TheVariants.{Fault}
 
 -- a fault that is told rose from the count so far or above, and the others begin where it ended
 abbrev pub CountsOn : Heard → ℕ → (ℕ → Type 0) → Type 0
-CountsOn (Fault before after) count rest = (count ≤ before) × Rose before after × (before ≤ after) × rest after
+CountsOn (Not (Fault before after)) count rest = (count ≤ before) × Rose before after × (before ≤ after) × rest after
 CountsOn heard count rest = rest count
 
 -- The faults of these entries don't overlap: the first begins at this count or above it, each next one where the one before

@@ -28,7 +28,8 @@ use Rattle.update_model.specs.declared.ask.Closed.{Closed}
 use Rattle.update_model.specs.declared.ask.Closed.TheVariants as closed
 use Rattle.update_model.specs.declared.log.Asked.{Asked}
 use Rattle.update_model.specs.declared.log.Heard.{Heard}
-use Rattle.update_model.specs.declared.log.Heard.TheVariants.{Absent, Fault, Garbled, Moved, Served, TooBig}
+use Rattle.update_model.specs.declared.log.Heard.TheVariants.{Served, Not}
+use Rattle.acq_base.specs.declared.fetch.NotServed.TheVariants.{Moved, Absent, TooBig, Garbled, Fault}
 use Rattle.update_model.specs.declared.log.RunLog.{RunLog}
 use Rattle.run_jobs.proofs.OneJob.{same_number}
 use Rattle.run_jobs.proofs.Telling.{counts_rise}
@@ -39,11 +40,11 @@ use Rattle.run_promises.specs.Promise.{ListsMatchMirror, ReadsLists, RunsEndAsSe
 -- no fault is told
 abbrev IsQuiet : Heard → Type 0
 IsQuiet (Served sum) = Unit {0}
-IsQuiet (Moved place) = Unit {0}
-IsQuiet (Absent status) = Unit {0}
-IsQuiet TooBig = Unit {0}
-IsQuiet (Garbled at) = Unit {0}
-IsQuiet (Fault before after) = ⊥
+IsQuiet (Not (Moved place)) = Unit {0}
+IsQuiet (Not (Absent status)) = Unit {0}
+IsQuiet (Not TooBig) = Unit {0}
+IsQuiet (Not (Garbled at)) = Unit {0}
+IsQuiet (Not (Fault before after)) = ⊥
 
 abbrev AreQuiet : List Asked → Type 0
 AreQuiet [] = Unit {0}
@@ -65,11 +66,11 @@ quiet_or_rose first last (e ∷ entries) counts = by e.heard (λ count on. quiet
     by : (heard : Heard) → ((count : ℕ) → CountsUp count last entries → AreQuiet entries ⊎ Rose count last) → CountsOn heard first (λ count. CountsUp count last entries)
         → (IsQuiet heard × AreQuiet entries) ⊎ Rose first last
     by (Served sum) more c = with_one (more first c)
-    by (Moved place) more c = with_one (more first c)
-    by (Absent status) more c = with_one (more first c)
-    by TooBig more c = with_one (more first c)
-    by (Garbled at) more c = with_one (more first c)
-    by (Fault before after) more c = inr (rose first before after last c.0 c.1 (counts_rise after last entries c.3))
+    by (Not (Moved place)) more c = with_one (more first c)
+    by (Not (Absent status)) more c = with_one (more first c)
+    by (Not TooBig) more c = with_one (more first c)
+    by (Not (Garbled at)) more c = with_one (more first c)
+    by (Not (Fault before after)) more c = inr (rose first before after last c.0 c.1 (counts_rise after last entries c.3))
 
 -- each method told no fault, or some count rose
 all_quiet : (before after : List ℕ) (told : ℕ → List Asked) → NoneFell before after
@@ -129,11 +130,11 @@ answered retries left (note ∷ notes) quiet = by note.told.closed quiet.0 (answ
   where
     by : (answer : Closed) → IsQuiet (heard_of answer) → IsAnswered retries retries notes → AfterAnswer answer left (λ n. IsAnswered retries n notes) (IsAnswered retries retries notes)
     by (closed.Served body) q rest = rest
-    by (closed.Moved place) q rest = rest
-    by (closed.Absent status) q rest = rest
-    by closed.TooBig q rest = rest
-    by (closed.Garbled at) q rest = rest
-    by (closed.Fault before after) q rest = absurd q
+    by (closed.Not (Not (Moved place))) q rest = rest
+    by (closed.Not (Not (Absent status))) q rest = rest
+    by (closed.Not (Not TooBig)) q rest = rest
+    by (closed.Not (Not (Garbled at))) q rest = rest
+    by (closed.Not (Not (Fault before after))) q rest = absurd q
 
 none_is_dead : (retries : ℕ) (notes : List Note) → AreQuietNotes notes → NoneIsDead retries notes
 none_is_dead retries notes quiet = λ key. answered retries retries (of_key key notes) (quiet_of_key key notes quiet)

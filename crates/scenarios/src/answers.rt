@@ -2,7 +2,7 @@
 
 use crate::given::{Given, Has};
 use crate::refused::Refused;
-use acq_base::{Bytes, Job, ListName, Text, TryCopy, sum_of};
+use acq_base::{Bytes, Job, ListName, NotServed, Text, TryCopy, sum_of};
 use std::alloc::Global;
 use update_model::{Body, Closed};
 use uri_names::{read_uri, uri_text};
@@ -60,10 +60,10 @@ fn served(
 ) -> Result<Closed, Refused> {
     let size = file.len() as u64;
     if size > job.max {
-        return Ok(Closed::TooBig);
+        return Ok(Closed::Not(NotServed::TooBig));
     }
     if job.from > 0 && size <= job.from {
-        return Ok(Closed::Absent(416));
+        return Ok(Closed::Not(NotServed::Absent(416)));
     }
     match list {
         Some(name) => staged(alloc, given, job.from, name, file.as_slice()),
@@ -81,17 +81,17 @@ pub fn answer(
 ) -> Result<Closed, Refused> {
     match had(given, &uri_text(alloc, &job.uri)?) {
         Some(Has::File(file)) => served(alloc, given, job, list, file),
-        Some(Has::Whole(_)) if job.from > 0 => Ok(Closed::Absent(200)),
+        Some(Has::Whole(_)) if job.from > 0 => Ok(Closed::Not(NotServed::Absent(200))),
         Some(Has::Whole(file)) => served(alloc, given, job, list, file),
-        Some(Has::Moved(Some(place))) => Ok(Closed::Moved(Some(read_uri(
+        Some(Has::Moved(Some(place))) => Ok(Closed::Not(NotServed::Moved(Some(read_uri(
             alloc,
             place.as_bytes(),
-        )?))),
-        Some(Has::Moved(None)) => Ok(Closed::Moved(None)),
-        Some(Has::Absent(status)) => Ok(Closed::Absent(*status)),
-        Some(Has::TooBig) => Ok(Closed::TooBig),
-        Some(Has::Garbled(at)) => Ok(Closed::Garbled(*at)),
+        )?)))),
+        Some(Has::Moved(None)) => Ok(Closed::Not(NotServed::Moved(None))),
+        Some(Has::Absent(status)) => Ok(Closed::Not(NotServed::Absent(*status))),
+        Some(Has::TooBig) => Ok(Closed::Not(NotServed::TooBig)),
+        Some(Has::Garbled(at)) => Ok(Closed::Not(NotServed::Garbled(*at))),
         Some(Has::Letters(_)) => Err(Refused::Methods),
-        None => Ok(Closed::Absent(404)),
+        None => Ok(Closed::Not(NotServed::Absent(404))),
     }
 }

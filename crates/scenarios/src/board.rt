@@ -9,7 +9,7 @@ use crate::answers::{answer, faults_at};
 use crate::beginning::{Judged, LANES, begin_update, configured};
 use crate::given::Given;
 use crate::refused::Refused;
-use acq_base::{Job, NoMemory, Plan, Row, Text, TryCopy};
+use acq_base::{Job, NoMemory, NotServed, Plan, Row, Text, TryCopy};
 use configuration::Configured;
 use kept_hooks::Judge;
 use release_file::{Head, is_allowed};
@@ -147,7 +147,7 @@ fn fault(run: &mut Run, lane: u32) -> Result<Closed, Refused> {
     let before = *failed;
     let after = before.saturating_add(1);
     *failed = after;
-    Ok(Closed::Fault { before, after })
+    Ok(Closed::Not(NotServed::Fault { before, after }))
 }
 
 /// The board takes an answer in.

@@ -4,7 +4,7 @@ use crate::given::{Folder, Tell};
 use crate::quoted::append_bytes;
 use crate::refused::Refused;
 use crate::running::Came;
-use acq_base::Uri;
+use acq_base::{NotServed, Uri};
 use std::alloc::Global;
 use std::fmt::Write;
 use update_model::{Asked, Heard};
@@ -56,7 +56,7 @@ pub fn append_place(alloc: Global, text: &mut String, uri: &Uri, from: u64) -> R
 fn append_ask(alloc: Global, text: &mut String, ask: &Asked, tell: Tell) -> Result<(), Refused> {
     append_place(alloc, text, &ask.uri, ask.from)?;
     if tell.faults {
-        if let Heard::Fault { before, after } = &ask.heard {
+        if let Heard::Not(NotServed::Fault { before, after }) = &ask.heard {
             write!(text, " fault {before} {after}")?;
         }
     }

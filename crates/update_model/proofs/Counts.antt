@@ -9,7 +9,8 @@ use Rattle.acq_base.specs.declared.uri.Uri.{Uri}
 use Rattle.pdiff_index.specs.declared.index.Step.{Step}
 use Rattle.update_model.specs.declared.wanted.Wanted.{Wanted}
 use Rattle.update_model.specs.declared.ask.Closed.{Closed}
-use Rattle.update_model.specs.declared.ask.Closed.TheVariants.{Served, Moved, Absent, TooBig, Garbled, Fault}
+use Rattle.update_model.specs.declared.ask.Closed.TheVariants.{Served, Not}
+use Rattle.acq_base.specs.declared.fetch.NotServed.TheVariants.{Moved, Absent, TooBig, Garbled, Fault}
 use Rattle.update_model.specs.declared.ask.Ending.{Ending}
 use Rattle.update_model.specs.declared.ask.Ending.TheVariants as endings
 use Rattle.update_model.specs.declared.end.End.{End}
@@ -41,13 +42,13 @@ position-few retries left uri (t ∷ ts) P h = one t.closed retries h (λ n x. p
 
     one : (closed : Closed) (n : ℕ) → Leads left uri t.lane closed n (λ m. IsPosition m left uri ts P) (λ w. (ts ≡ []) × P w)
         → ((n : ℕ) → IsPosition n left uri ts P → length ts ≤ n + 1) → suc (length ts) ≤ n + 1
-    one (Fault from to) zero h again = let e = last zero h.0 in omega arith
-    one (Fault from to) (suc n) h again = let e = again n h in omega arith
+    one (Not (Fault from to)) zero h again = let e = last zero h.0 in omega arith
+    one (Not (Fault from to)) (suc n) h again = let e = again n h in omega arith
     one (Served body) n h again = let e = last n h.0 in omega arith
-    one (Moved place) n h again = let e = last n h.0 in omega arith
-    one (Absent status) n h again = let e = last n h.0 in omega arith
-    one TooBig n h again = let e = last n h.0 in omega arith
-    one (Garbled at) n h again = let e = last n h.0 in omega arith
+    one (Not (Moved place)) n h again = let e = last n h.0 in omega arith
+    one (Not (Absent status)) n h again = let e = last n h.0 in omega arith
+    one (Not TooBig) n h again = let e = last n h.0 in omega arith
+    one (Not (Garbled at)) n h again = let e = last n h.0 in omega arith
 
 -- and they lead some way, which isn't on where no move is left
 position-leads : (retries left : ℕ) (uri : Uri) (told : List LaneAnswer) (P : Way → Type 0) → IsPosition retries left uri told P
@@ -60,13 +61,13 @@ position-leads retries left uri (t ∷ ts) P h = one t.closed retries h (λ n x.
 
     one : (closed : Closed) (n : ℕ) → Leads left uri t.lane closed n (λ m. IsPosition m left uri ts P) (λ w. (ts ≡ []) × P w)
         → ((n : ℕ) → IsPosition n left uri ts P → (w : Way) × ((left ≡ 0 → (to : Uri) → w ≢ On to) × P w)) → (w : Way) × ((left ≡ 0 → (to : Uri) → w ≢ On to) × P w)
-    one (Fault from to) zero h again = (Stop (endings.Dead t.lane from to), ((λ z to e. cc), h.1))
-    one (Fault from to) (suc n) h again = again n h
+    one (Not (Fault from to)) zero h again = (Stop (endings.Dead t.lane from to), ((λ z to e. cc), h.1))
+    one (Not (Fault from to)) (suc n) h again = again n h
     one (Served body) n h again = (way left uri (Served body), (stays (Served body), h.1))
-    one (Moved place) n h again = (way left uri (Moved place), (stays (Moved place), h.1))
-    one (Absent status) n h again = (way left uri (Absent status), (stays (Absent status), h.1))
-    one TooBig n h again = (way left uri TooBig, (stays TooBig, h.1))
-    one (Garbled at) n h again = (way left uri (Garbled at), (stays (Garbled at), h.1))
+    one (Not (Moved place)) n h again = (way left uri (Not (Moved place)), (stays (Not (Moved place)), h.1))
+    one (Not (Absent status)) n h again = (way left uri (Not (Absent status)), (stays (Not (Absent status)), h.1))
+    one (Not TooBig) n h again = (way left uri (Not TooBig), (stays (Not TooBig), h.1))
+    one (Not (Garbled at)) n h again = (way left uri (Not (Garbled at)), (stays (Not (Garbled at)), h.1))
 
 abbrev entries_at : ℕ → List ℕ → ℕ → List Position → List Asked
 entries_at source path from =

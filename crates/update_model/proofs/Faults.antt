@@ -18,7 +18,8 @@ use Rattle.update_model.specs.Wanted.{chain, edited_by, patch_uri}
 use Rattle.update_model.specs.declared.ask.Ask.{Ask}
 use Rattle.update_model.specs.declared.ask.Body.TheVariants.{Bytes}
 use Rattle.update_model.specs.declared.ask.Closed.{Closed}
-use Rattle.update_model.specs.declared.ask.Closed.TheVariants.{Served, Moved, Absent, TooBig, Garbled, Fault}
+use Rattle.update_model.specs.declared.ask.Closed.TheVariants.{Served, Not}
+use Rattle.acq_base.specs.declared.fetch.NotServed.TheVariants.{Moved, Absent, TooBig, Garbled, Fault}
 use Rattle.update_model.specs.declared.ask.Ending.{Ending}
 use Rattle.update_model.specs.declared.ask.Ending.TheVariants as endings
 use Rattle.update_model.specs.declared.end.End.{End}
@@ -49,13 +50,13 @@ position-led retries left uri (t ∷ ts) P said Q h a live dead = one retries t.
     one : (n : ℕ) (closed : Closed)
         → Leads left uri t.lane closed n (λ m. IsPosition m left uri ts P) (λ w. (ts ≡ []) × P w)
         → IsFaultOr closed said → ((n : ℕ) → IsPosition n left uri ts P → Q) → Q
-    one zero (Fault from to) h s again = dead (endings.Dead t.lane from to) tt h.1
-    one (suc n) (Fault from to) h s again = again n h
+    one zero (Not (Fault from to)) h s again = dead (endings.Dead t.lane from to) tt h.1
+    one (suc n) (Not (Fault from to)) h s again = again n h
     one n (Served body) h s again = live (subst (λ c. P (way left uri c)) s h.1)
-    one n (Moved place) h s again = live (subst (λ c. P (way left uri c)) s h.1)
-    one n (Absent status) h s again = live (subst (λ c. P (way left uri c)) s h.1)
-    one n TooBig h s again = live (subst (λ c. P (way left uri c)) s h.1)
-    one n (Garbled at) h s again = live (subst (λ c. P (way left uri c)) s h.1)
+    one n (Not (Moved place)) h s again = live (subst (λ c. P (way left uri c)) s h.1)
+    one n (Not (Absent status)) h s again = live (subst (λ c. P (way left uri c)) s h.1)
+    one n (Not TooBig) h s again = live (subst (λ c. P (way left uri c)) s h.1)
+    one n (Not (Garbled at)) h s again = live (subst (λ c. P (way left uri c)) s h.1)
 
 -- a trail ends with what is reached, or was never answered
 abbrev IsReached : MirrorMap → List ℕ → Ask → ℕ → Uri → Ending → Type 0

@@ -13,6 +13,7 @@ use Rattle.update_model.specs.Walks.{IsRoute, target_walk, list_ask}
 use Rattle.update_model.specs.Wanted.{want}
 use Rattle.update_model.specs.declared.ask.Body.TheVariants.{Bytes, Staged}
 use Rattle.update_model.specs.declared.ask.Closed.{Closed}
+use Rattle.acq_base.specs.declared.fetch.NotServed.TheVariants as nots
 use Rattle.update_model.specs.declared.ask.Closed.TheVariants as closed
 use Rattle.update_model.specs.declared.ask.Ending.TheVariants as endings
 use Rattle.update_model.specs.declared.cause.Cause.TheVariants as causes
@@ -119,7 +120,7 @@ heard c = record { uri = list_uri; told = record { lane = 0; closed = c } ∷ []
 -- a peer that knows no beginnings and answers 200, or one that begins elsewhere
 peer_200 : (s : Sum) → same_sum s (sum_as 3 (171 ∷ [])) ≡ true
     → IsRoute 3 (target_walk None 2 (list false (171 ∷ [])))
-    (record { ask = list_ask list_uri (list false (171 ∷ [])) 2; positions = heard (closed.Absent 200) ∷ []; ending = endings.Absent 200 }
+    (record { ask = list_ask list_uri (list false (171 ∷ [])) 2; positions = heard (closed.Not (nots.Absent 200)) ∷ []; ending = endings.Absent 200 }
     ∷ record { ask = list_ask list_uri (list false (171 ∷ [])) 0; positions = heard (closed.Served (Staged s)) ∷ []; ending = endings.Served (Staged s) } ∷ [])
     (Got (Staged s))
 unfolding by_hash_uri listed_sum
@@ -127,7 +128,7 @@ peer_200 s has = (refl, (refl, (refl, (refl, refl))), (refl, (refl, (refl, (refl
 
 other_start : (s : Sum) → same_sum s (sum_as 3 (171 ∷ [])) ≡ true
     → IsRoute 1 (target_walk None 2 (list false (171 ∷ [])))
-    (record { ask = list_ask list_uri (list false (171 ∷ [])) 2; positions = heard (closed.Garbled 0) ∷ []; ending = endings.Garbled 0 }
+    (record { ask = list_ask list_uri (list false (171 ∷ [])) 2; positions = heard (closed.Not (nots.Garbled 0)) ∷ []; ending = endings.Garbled 0 }
     ∷ record { ask = list_ask list_uri (list false (171 ∷ [])) 0; positions = heard (closed.Served (Staged s)) ∷ []; ending = endings.Served (Staged s) } ∷ [])
     (Got (Staged s))
 unfolding by_hash_uri listed_sum
@@ -137,7 +138,7 @@ other_start s has = (refl, (refl, (refl, (refl, refl))), (refl, (refl, (refl, (r
 
 -- without a retry one fault is the end: lane 0, whose count went from 0 to 1
 one_fault : IsRoute 0 (target_walk None 0 (list false (171 ∷ [])))
-    (record { ask = list_ask list_uri (list false (171 ∷ [])) 0; positions = heard (closed.Fault 0 1) ∷ []; ending = endings.Dead 0 0 1 } ∷ [])
+    (record { ask = list_ask list_uri (list false (171 ∷ [])) 0; positions = heard (closed.Not (nots.Fault 0 1)) ∷ []; ending = endings.Dead 0 0 1 } ∷ [])
     (Ended (causes.Method list_path 0 0 1))
 unfolding by_hash_uri listed_sum
 one_fault = (refl, (refl, (refl, (refl, refl))), (refl, refl))
@@ -147,7 +148,7 @@ retried : (s : Sum) → same_sum s (sum_as 3 (171 ∷ [])) ≡ true
     → IsRoute 1 (target_walk None 0 (list false (171 ∷ [])))
     (record {
       ask = list_ask list_uri (list false (171 ∷ [])) 0;
-      positions = record { uri = list_uri; told = record { lane = 0; closed = closed.Fault 0 1 } ∷ record { lane = 0; closed = closed.Served (Staged s) } ∷ [] } ∷ [];
+      positions = record { uri = list_uri; told = record { lane = 0; closed = (closed.Not (nots.Fault 0 1)) } ∷ record { lane = 0; closed = closed.Served (Staged s) } ∷ [] } ∷ [];
       ending = endings.Served (Staged s);
     } ∷ [])
     (Got (Staged s))
@@ -157,7 +158,7 @@ retried s has = (refl, (refl, (refl, (refl, refl))), rw has (refl, refl))
 -- Where nothing answers under the digest, the list's own URI is asked, and the list is had.
 abbrev own_trails : Sum → List Trail
 own_trails s =
-    record { ask = list_ask hashed_uri (list true (171 ∷ [])) 0; positions = record { uri = hashed_uri; told = record { lane = 0; closed = closed.Fault 0 1 } ∷ [] } ∷ []; ending = endings.Dead 0 0 1 }
+    record { ask = list_ask hashed_uri (list true (171 ∷ [])) 0; positions = record { uri = hashed_uri; told = record { lane = 0; closed = (closed.Not (nots.Fault 0 1)) } ∷ [] } ∷ []; ending = endings.Dead 0 0 1 }
     ∷ record { ask = list_ask list_uri (list true (171 ∷ [])) 0; positions = heard (closed.Served (Staged s)) ∷ []; ending = endings.Served (Staged s) } ∷ []
 
 own_uri : (s : Sum) → same_sum s (sum_as 3 (171 ∷ [])) ≡ true → IsRoute 0 (target_walk None 0 (list true (171 ∷ []))) (own_trails s) (Got (Staged s))

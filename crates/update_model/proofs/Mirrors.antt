@@ -5,7 +5,8 @@ use Rattle.acq_base.specs.declared.fetch.Answer.TheVariants as answers
 use Rattle.acq_base.specs.declared.uri.Uri.{Uri}
 use Rattle.update_model.specs.declared.ask.Ask.{Ask}
 use Rattle.update_model.specs.declared.ask.Closed.{Closed}
-use Rattle.update_model.specs.declared.ask.Closed.TheVariants.{Served, Moved, Absent, TooBig, Garbled, Fault}
+use Rattle.update_model.specs.declared.ask.Closed.TheVariants.{Served, Not}
+use Rattle.acq_base.specs.declared.fetch.NotServed.TheVariants.{Moved, Absent, TooBig, Garbled, Fault}
 use Rattle.update_model.specs.declared.ask.Ending.{Ending}
 use Rattle.update_model.specs.declared.ask.Ending.TheVariants as endings
 use Rattle.update_model.proofs.Routes.{no_moves, seen_way, way-answered}
@@ -19,43 +20,43 @@ use Rattle.acq_base.specs.Mirror.{MirrorMap, answer_at}
 
 -- an answer that is no fault
 abbrev NoFault : Closed → Type 0
-NoFault (Fault from to) = ⊥
+NoFault (Not (Fault from to)) = ⊥
 NoFault closed = Unit {0}
 
 no-fault : (part : List ℕ) (ask : Ask) (a : Answer) → NoFault (answered part ask a)
 no-fault part ask (answers.Absent status) = tt
 no-fault part ask (answers.Moved place) = tt
 no-fault part ask (answers.Served bytes) =
-    elim (nat_le (length bytes) ask.max) as (λ b. NoFault (if b then (if nat_lt 0 ask.from && nat_le (length bytes) ask.from then Absent 416 else Served (body_for ask.stage (take ask.from part ++ drop ask.from bytes))) else TooBig)) [
-      | true ↦ elim (nat_lt 0 ask.from && nat_le (length bytes) ask.from) as (λ c. NoFault (if c then Absent 416 else Served (body_for ask.stage (take ask.from part ++ drop ask.from bytes)))) [ true ↦ tt | false ↦ tt ]
+    elim (nat_le (length bytes) ask.max) as (λ b. NoFault (if b then (if nat_lt 0 ask.from && nat_le (length bytes) ask.from then (Not (Absent 416)) else Served (body_for ask.stage (take ask.from part ++ drop ask.from bytes))) else (Not TooBig))) [
+      | true ↦ elim (nat_lt 0 ask.from && nat_le (length bytes) ask.from) as (λ c. NoFault (if c then (Not (Absent 416)) else Served (body_for ask.stage (take ask.from part ++ drop ask.from bytes)))) [ true ↦ tt | false ↦ tt ]
       | false ↦ tt
     ]
 
 -- one answer makes a position, agrees with itself and is alive
 one-answer : (retries left : ℕ) (uri : Uri) (closed : Closed) (P : Way → Type 0) → NoFault closed → P (way left uri closed)
     → IsPosition retries left uri (record { lane = 0; closed = closed } ∷ []) P
-one-answer retries left uri (Fault from to) P n p = absurd n
+one-answer retries left uri (Not (Fault from to)) P n p = absurd n
 one-answer retries left uri (Served body) P n p = (refl, p)
-one-answer retries left uri (Moved place) P n p = (refl, p)
-one-answer retries left uri (Absent status) P n p = (refl, p)
-one-answer retries left uri TooBig P n p = (refl, p)
-one-answer retries left uri (Garbled at) P n p = (refl, p)
+one-answer retries left uri (Not (Moved place)) P n p = (refl, p)
+one-answer retries left uri (Not (Absent status)) P n p = (refl, p)
+one-answer retries left uri (Not TooBig) P n p = (refl, p)
+one-answer retries left uri (Not (Garbled at)) P n p = (refl, p)
 
 says-itself : (closed : Closed) → IsFaultOr closed closed
-says-itself (Fault from to) = tt
+says-itself (Not (Fault from to)) = tt
 says-itself (Served body) = refl
-says-itself (Moved place) = refl
-says-itself (Absent status) = refl
-says-itself TooBig = refl
-says-itself (Garbled at) = refl
+says-itself (Not (Moved place)) = refl
+says-itself (Not (Absent status)) = refl
+says-itself (Not TooBig) = refl
+says-itself (Not (Garbled at)) = refl
 
 is-alive : (closed : Closed) → NoFault closed → HasAnswer (record { lane = 0; closed = closed } ∷ [])
-is-alive (Fault from to) n = n
+is-alive (Not (Fault from to)) n = n
 is-alive (Served body) n = tt
-is-alive (Moved place) n = tt
-is-alive (Absent status) n = tt
-is-alive TooBig n = tt
-is-alive (Garbled at) n = tt
+is-alive (Not (Moved place)) n = tt
+is-alive (Not (Absent status)) n = tt
+is-alive (Not TooBig) n = tt
+is-alive (Not (Garbled at)) n = tt
 
 -- where the mirror's answer leads, the rest of its positions are a trail
 leads-on : (part : List ℕ) (ask : Ask) (w : Way) (more : Uri → List Position) (there : Uri → Ending) (T : Uri → List Position → Ending → Type 0)

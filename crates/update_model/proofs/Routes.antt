@@ -14,7 +14,8 @@ use Rattle.update_model.specs.declared.wanted.Wanted.{Wanted}
 use Rattle.update_model.specs.declared.ask.Ask.{Ask}
 use Rattle.update_model.specs.declared.ask.Body.TheVariants.{Bytes, Staged}
 use Rattle.update_model.specs.declared.ask.Closed.{Closed}
-use Rattle.update_model.specs.declared.ask.Closed.TheVariants.{Served, Moved, Absent, TooBig, Garbled, Fault}
+use Rattle.update_model.specs.declared.ask.Closed.TheVariants.{Served, Not}
+use Rattle.acq_base.specs.declared.fetch.NotServed.TheVariants.{Moved, Absent, TooBig, Garbled, Fault}
 use Rattle.update_model.specs.declared.ask.Ending.{Ending}
 use Rattle.update_model.specs.declared.ask.Ending.TheVariants as endings
 use Rattle.update_model.specs.declared.end.End.{End}
@@ -46,10 +47,10 @@ way-answered part ask (suc left) uri (answers.Moved (Some to)) =
     elim (may_move uri.scheme to.scheme) as (λ b. (if b then On to else Stop endings.Lost) ≡ seen_way part ask (if b then On to else Stop endings.Lost)) [ true ↦ refl | false ↦ refl ]
 way-answered part ask left uri (answers.Served bytes) =
     elim (nat_le (length bytes) ask.max) as (λ b.
-    way left uri (if b then (if nat_lt 0 ask.from && nat_le (length bytes) ask.from then Absent 416 else Served (body_for ask.stage (take ask.from part ++ drop ask.from bytes))) else TooBig)
-    ≡ seen_way part ask (way left uri (if b then Served (Bytes bytes) else TooBig))) [
+    way left uri (if b then (if nat_lt 0 ask.from && nat_le (length bytes) ask.from then (Not (Absent 416)) else Served (body_for ask.stage (take ask.from part ++ drop ask.from bytes))) else (Not TooBig))
+    ≡ seen_way part ask (way left uri (if b then Served (Bytes bytes) else (Not TooBig)))) [
       | true ↦ elim (nat_lt 0 ask.from && nat_le (length bytes) ask.from) as (λ c.
-          way left uri (if c then Absent 416 else Served (body_for ask.stage (take ask.from part ++ drop ask.from bytes)))
+          way left uri (if c then (Not (Absent 416)) else Served (body_for ask.stage (take ask.from part ++ drop ask.from bytes)))
           ≡ Stop (if c then endings.Absent 416 else endings.Served (body_for ask.stage (take ask.from part ++ drop ask.from bytes))))
           [ true ↦ refl | false ↦ refl ]
       | false ↦ refl
@@ -65,22 +66,22 @@ position-way retries left uri (t ∷ ts) P said h a l = one retries t.closed h a
         → Leads left uri t.lane closed n (λ m. IsPosition m left uri ts P) (λ w. (ts ≡ []) × P w)
         → IsFaultOr closed said → answers_or closed (HasAnswer ts)
         → ((n : ℕ) → IsPosition n left uri ts P → HasAnswer ts → P (way left uri said)) → P (way left uri said)
-    one zero (Fault from to) h s l again = absurd (subst HasAnswer h.0 l)
-    one (suc n) (Fault from to) h s l again = again n h l
+    one zero (Not (Fault from to)) h s l again = absurd (subst HasAnswer h.0 l)
+    one (suc n) (Not (Fault from to)) h s l again = again n h l
     one n (Served body) h s l again = subst (λ c. P (way left uri c)) s h.1
-    one n (Moved place) h s l again = subst (λ c. P (way left uri c)) s h.1
-    one n (Absent status) h s l again = subst (λ c. P (way left uri c)) s h.1
-    one n TooBig h s l again = subst (λ c. P (way left uri c)) s h.1
-    one n (Garbled at) h s l again = subst (λ c. P (way left uri c)) s h.1
+    one n (Not (Moved place)) h s l again = subst (λ c. P (way left uri c)) s h.1
+    one n (Not (Absent status)) h s l again = subst (λ c. P (way left uri c)) s h.1
+    one n (Not TooBig) h s l again = subst (λ c. P (way left uri c)) s h.1
+    one n (Not (Garbled at)) h s l again = subst (λ c. P (way left uri c)) s h.1
 
 pub no_moves : (uri to : Uri) (c : Closed) → On to ≡ way zero uri c → ⊥
 no_moves uri to (Served body) e = cc
-no_moves uri to (Moved None) e = cc
-no_moves uri to (Moved (Some place)) e = cc
-no_moves uri to (Absent status) e = cc
-no_moves uri to TooBig e = cc
-no_moves uri to (Garbled at) e = cc
-no_moves uri to (Fault from until) e = cc
+no_moves uri to (Not (Moved None)) e = cc
+no_moves uri to (Not (Moved (Some place))) e = cc
+no_moves uri to (Not (Absent status)) e = cc
+no_moves uri to (Not TooBig) e = cc
+no_moves uri to (Not (Garbled at)) e = cc
+no_moves uri to (Not (Fault from until)) e = cc
 
 abbrev pub AgreesAt : MirrorMap → List ℕ → Ask → List Position → Type 0
 AgreesAt world part ask = Each (λ p. Each (λ t. IsFaultOr t.closed (answered part ask (answer_at world p.uri))) p.told)
@@ -141,7 +142,7 @@ way-plain left uri max (answers.Absent status) = tt
 way-plain left uri max (answers.Moved None) = tt
 way-plain zero uri max (answers.Moved (Some to)) = tt
 way-plain (suc left) uri max (answers.Moved (Some to)) = elim (may_move uri.scheme to.scheme) as (λ b. PlainWay (if b then On to else Stop endings.Lost)) [ true ↦ tt | false ↦ tt ]
-way-plain left uri max (answers.Served bytes) = elim (nat_le (length bytes) max) as (λ b. PlainWay (way left uri (if b then Served (Bytes bytes) else TooBig))) [ true ↦ tt | false ↦ tt ]
+way-plain left uri max (answers.Served bytes) = elim (nat_le (length bytes) max) as (λ b. PlainWay (way left uri (if b then Served (Bytes bytes) else (Not TooBig)))) [ true ↦ tt | false ↦ tt ]
 
 followed-plain : (w : Way) (there : Uri → Ending) → PlainWay w → ((to : Uri) → Plain (there to)) → Plain (followed w there)
 followed-plain (On to) there p h = h to
@@ -358,13 +359,13 @@ UndeadWay (Stop e) = Undead e
 
 way-undead : (left : ℕ) (uri : Uri) (c : Closed) → UndeadWay (way left uri c)
 way-undead left uri (Served body) = tt
-way-undead left uri (Moved None) = tt
-way-undead zero uri (Moved (Some to)) = tt
-way-undead (suc left) uri (Moved (Some to)) = elim (may_move uri.scheme to.scheme) as (λ b. UndeadWay (if b then On to else Stop endings.Lost)) [ true ↦ tt | false ↦ tt ]
-way-undead left uri (Absent status) = tt
-way-undead left uri TooBig = tt
-way-undead left uri (Garbled at) = tt
-way-undead left uri (Fault from to) = tt
+way-undead left uri (Not (Moved None)) = tt
+way-undead zero uri (Not (Moved (Some to))) = tt
+way-undead (suc left) uri (Not (Moved (Some to))) = elim (may_move uri.scheme to.scheme) as (λ b. UndeadWay (if b then On to else Stop endings.Lost)) [ true ↦ tt | false ↦ tt ]
+way-undead left uri (Not (Absent status)) = tt
+way-undead left uri (Not TooBig) = tt
+way-undead left uri (Not (Garbled at)) = tt
+way-undead left uri (Not (Fault from to)) = tt
 
 followed-undead : (w : Way) (there : Uri → Ending) → UndeadWay w → ((to : Uri) → Undead (there to)) → Undead (followed w there)
 followed-undead (On to) there p h = h to

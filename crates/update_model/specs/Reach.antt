@@ -8,7 +8,8 @@ use Rattle.acq_base.specs.declared.uri.Scheme.TheVariants.{Http, File}
 use Rattle.acq_base.specs.declared.uri.Uri.{Uri}
 use Rattle.update_model.specs.declared.ask.Body.TheVariants.{Bytes}
 use Rattle.update_model.specs.declared.ask.Closed.{Closed}
-use Rattle.update_model.specs.declared.ask.Closed.TheVariants.{Served, Moved, Absent, TooBig, Garbled, Fault}
+use Rattle.update_model.specs.declared.ask.Closed.TheVariants.{Served, Not}
+use Rattle.acq_base.specs.declared.fetch.NotServed.TheVariants.{Moved, Absent, TooBig, Garbled, Fault}
 use Rattle.update_model.specs.declared.ask.Ending.{Ending}
 use Rattle.update_model.specs.declared.ask.Ending.TheVariants as endings
 
@@ -31,12 +32,12 @@ moved (suc left) from to = if may_move from.scheme to.scheme then On to else Sto
 -- where an answer to an ask at a URI leads. A fault is no answer and leads nowhere
 abbrev pub way : ℕ → Uri → Closed → Way
 way left uri (Served body) = Stop (endings.Served body)
-way left uri (Moved None) = Stop endings.Lost
-way left uri (Moved (Some to)) = moved left uri to
-way left uri (Absent status) = Stop (endings.Absent status)
-way left uri TooBig = Stop endings.TooBig
-way left uri (Garbled at) = Stop (endings.Garbled at)
-way left uri (Fault before after) = Stop endings.Lost
+way left uri (Not (Moved None)) = Stop endings.Lost
+way left uri (Not (Moved (Some to))) = moved left uri to
+way left uri (Not (Absent status)) = Stop (endings.Absent status)
+way left uri (Not TooBig) = Stop endings.TooBig
+way left uri (Not (Garbled at)) = Stop (endings.Garbled at)
+way left uri (Not (Fault before after)) = Stop endings.Lost
 
 abbrev pub followed : Way → (Uri → Ending) → Ending
 followed (On to) from_there = from_there to
@@ -44,9 +45,9 @@ followed (Stop ending) from_there = ending
 
 -- a mirror's answer, in which a file may have `max` bytes
 abbrev pub within : ℕ → Answer → Closed
-within max (answers.Served bytes) = if nat_le (length bytes) max then Served (Bytes bytes) else TooBig
-within max (answers.Moved place) = Moved place
-within max (answers.Absent status) = Absent status
+within max (answers.Served bytes) = if nat_le (length bytes) max then Served (Bytes bytes) else (Not TooBig)
+within max (answers.Moved place) = Not (Moved place)
+within max (answers.Absent status) = Not (Absent status)
 
 -- what is reached from a URI, where this many moves are left
 abbrev pub reach_by : ℕ → MirrorMap → Uri → ℕ → Ending

@@ -12,7 +12,8 @@ use Rattle.update_model.specs.declared.ask.Ask.{Ask}
 use Rattle.update_model.specs.declared.ask.Body.{Body}
 use Rattle.update_model.specs.declared.ask.Body.TheVariants.{Bytes, Staged}
 use Rattle.update_model.specs.declared.ask.Closed.{Closed}
-use Rattle.update_model.specs.declared.ask.Closed.TheVariants.{Served, Moved, Absent, TooBig, Garbled, Fault}
+use Rattle.update_model.specs.declared.ask.Closed.TheVariants.{Served, Not}
+use Rattle.acq_base.specs.declared.fetch.NotServed.TheVariants.{Moved, Absent, TooBig, Garbled, Fault}
 use Rattle.update_model.specs.declared.ask.Ending.{Ending}
 use Rattle.update_model.specs.declared.ask.Ending.TheVariants as endings
 use Rattle.update_model.specs.declared.log.Asked.{Asked}
@@ -39,8 +40,8 @@ pub record Trail : Type 0 where
 
 -- one answer: a fault is asked again while retries are left, and is the end where none is; any other leads its way
 abbrev pub Leads {ℓ} : {A : Type ℓ} → ℕ → Uri → ℕ → Closed → ℕ → (ℕ → A) → (Way → A) → A
-Leads left uri lane (Fault before after) zero again goes = goes (Stop (endings.Dead lane before after))
-Leads left uri lane (Fault before after) (suc retries) again goes = again retries
+Leads left uri lane (Not (Fault before after)) zero again goes = goes (Stop (endings.Dead lane before after))
+Leads left uri lane (Not (Fault before after)) (suc retries) again goes = again retries
 Leads left uri lane closed retries again goes = goes (way left uri closed)
 
 -- All the answers at a URI: at most `retries` faults and then one that is none, or one fault more. P holds of the way
@@ -79,15 +80,15 @@ abbrev pub answered : List ℕ → Ask → Answer → Closed
 answered part ask (answers.Served bytes) =
     if nat_le (length bytes) ask.max
     then (if nat_lt 0 ask.from && nat_le (length bytes) ask.from
-    then Absent 416
+    then (Not (Absent 416))
     else Served (body_for ask.stage (take ask.from part ++ drop ask.from bytes)))
-    else TooBig
-answered part ask (answers.Moved place) = Moved place
-answered part ask (answers.Absent status) = Absent status
+    else (Not TooBig)
+answered part ask (answers.Moved place) = Not (Moved place)
+answered part ask (answers.Absent status) = Not (Absent status)
 
 -- an answer is this one, or a fault
 abbrev pub IsFaultOr : Closed → Closed → Type 0
-IsFaultOr (Fault before after) said = Unit {0}
+IsFaultOr (Not (Fault before after)) said = Unit {0}
 IsFaultOr closed said = closed ≡ said
 
 -- each answer that is no fault is the mirror's to that ask, beside this partial file
@@ -96,7 +97,7 @@ Agrees world part =
     Each (λ trail. Each (λ position. Each (λ told. IsFaultOr told.closed (answered part trail.ask (answer_at world position.uri))) position.told) trail.positions)
 
 abbrev pub answers_or : Closed → Type 0 → Type 0
-answers_or (Fault before after) other = other
+answers_or (Not (Fault before after)) other = other
 answers_or closed other = Unit {0}
 
 -- some answer is no fault
@@ -112,11 +113,7 @@ Lives = Each (λ trail. Each (λ position. HasAnswer position.told) trail.positi
 
 abbrev pub heard_of : Closed → Heard
 heard_of (Served body) = heards.Served (sum_of_body body)
-heard_of (Moved place) = heards.Moved place
-heard_of (Absent status) = heards.Absent status
-heard_of TooBig = heards.TooBig
-heard_of (Garbled at) = heards.Garbled at
-heard_of (Fault before after) = heards.Fault before after
+heard_of (Not end) = heards.Not end
 
 -- the entries of trails: one for each answer, in order
 abbrev pub entries : ℕ → List ℕ → List Trail → List Asked

@@ -1,6 +1,6 @@
 //! What is asked at one URI, and how it ended.
 
-use acq_base::{Bytes, NoMemory, Sum, TryCopy, Uri};
+use acq_base::{Bytes, NoMemory, NotServed, Sum, TryCopy, Uri};
 use std::alloc::Global;
 
 /// What is asked at one URI.
@@ -27,16 +27,7 @@ pub enum Body {
 pub enum Closed {
     /// The whole file, with the bytes at its front that were at hand.
     Served(Body),
-    /// The place to ask instead, or `None` where that is no URI of this profile.
-    Moved(Option<Uri>),
-    /// The HTTP status of a refusal (RFC 9110, section 15).
-    Absent(u16),
-    /// More bytes than the ask allows.
-    TooBig,
-    /// The peer broke its protocol at this byte of its answer.
-    Garbled(u64),
-    /// The method failed, and its count of faults rose from `before` to `after`.
-    Fault { before: u64, after: u64 },
+    Not(NotServed),
 }
 
 /// How a trail of asks ended, each at the place to which the one before was moved.
@@ -67,14 +58,7 @@ impl TryCopy for Closed {
     fn copy(&self, alloc: Global) -> Result<Closed, NoMemory> {
         Ok(match self {
             Closed::Served(body) => Closed::Served(body.copy(alloc)?),
-            Closed::Moved(place) => Closed::Moved(place.copy(alloc)?),
-            Closed::Absent(status) => Closed::Absent(*status),
-            Closed::TooBig => Closed::TooBig,
-            Closed::Garbled(at) => Closed::Garbled(*at),
-            Closed::Fault { before, after } => Closed::Fault {
-                before: *before,
-                after: *after,
-            },
+            Closed::Not(end) => Closed::Not(end.copy(alloc)?),
         })
     }
 }

@@ -1,7 +1,7 @@
 //! What a run tells: of each ask, and in the end of all.
 
 use crate::Verdict2;
-use acq_base::{ListName, NoMemory, Row, Sum, Text, TryCopy, Uri};
+use acq_base::{ListName, NoMemory, NotServed, Row, Sum, Text, TryCopy, Uri};
 use std::alloc::Global;
 
 /// An answer as the log keeps it.
@@ -9,16 +9,7 @@ use std::alloc::Global;
 pub enum Heard {
     /// The sum of the whole file, with the bytes at its front that were at hand.
     Served(Sum),
-    /// The place to ask instead, or `None` where that is no URI of this profile.
-    Moved(Option<Uri>),
-    /// The HTTP status of a refusal.
-    Absent(u16),
-    /// More bytes than the ask allows.
-    TooBig,
-    /// The peer broke its protocol at this byte of its answer.
-    Garbled(u64),
-    /// The method failed, and its count of faults rose from `before` to `after`.
-    Fault { before: u64, after: u64 },
+    Not(NotServed),
 }
 
 /// One entry of the log: an ask and its answer.
@@ -53,14 +44,7 @@ impl TryCopy for Heard {
     fn copy(&self, alloc: Global) -> Result<Heard, NoMemory> {
         Ok(match self {
             Heard::Served(sum) => Heard::Served(*sum),
-            Heard::Moved(place) => Heard::Moved(place.copy(alloc)?),
-            Heard::Absent(status) => Heard::Absent(*status),
-            Heard::TooBig => Heard::TooBig,
-            Heard::Garbled(at) => Heard::Garbled(*at),
-            Heard::Fault { before, after } => Heard::Fault {
-                before: *before,
-                after: *after,
-            },
+            Heard::Not(end) => Heard::Not(end.copy(alloc)?),
         })
     }
 }

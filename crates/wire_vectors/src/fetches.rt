@@ -89,7 +89,7 @@ fn append_words<M: Method>(
     append_word(line, &word)?;
     match word {
         Word::Piece { at: _, bytes: _ } => go_on(alloc, method, line, MOST_WORDS),
-        Word::Done { size: _ } | Word::Other(_) => Ok(()),
+        Word::Done { size: _ } | Word::Not(_) | Word::NoMemory => Ok(()),
     }
 }
 
@@ -110,7 +110,7 @@ fn go_on<M: Method>(
     append_word(line, &word)?;
     match word {
         Word::Piece { at: _, bytes: _ } => go_on(alloc, method, line, most - 1),
-        Word::Done { size: _ } | Word::Other(_) => Ok(()),
+        Word::Done { size: _ } | Word::Not(_) | Word::NoMemory => Ok(()),
     }
 }
 

@@ -1,7 +1,7 @@
 //! Values as text.
 
 use crate::cases::Refused;
-use acq_base::Reply;
+use acq_base::{NotServed, Reply};
 use std::alloc::AllocError;
 
 /// Appends bytes between quotation marks. What isn't printed, a quotation mark and a backslash stand as escapes.
@@ -34,12 +34,16 @@ pub fn append_named(line: &mut String, word: &str, bytes: &[u8]) -> Result<(), R
 pub fn append_reply(line: &mut String, reply: &Reply) -> Result<(), Refused> {
     match reply {
         Reply::Served(bytes) => append_named(line, " served ", bytes.as_slice())?,
-        Reply::Moved(Some(uri)) => append_named(line, " moved ", uri.path.as_bytes())?,
-        Reply::Moved(None) => line.push_str(" moved nowhere")?,
-        Reply::Absent(status) => write!(line, " absent {status}")?,
-        Reply::TooBig => line.push_str(" too big")?,
-        Reply::Garbled(at) => write!(line, " garbled {at}")?,
-        Reply::Fault { before, after } => write!(line, " fault {before} {after}")?,
+        Reply::Not(NotServed::Moved(Some(uri))) => append_named(
+            line,
+            " moved ",
+            uri.path.as_bytes(),
+        )?,
+        Reply::Not(NotServed::Moved(None)) => line.push_str(" moved nowhere")?,
+        Reply::Not(NotServed::Absent(status)) => write!(line, " absent {status}")?,
+        Reply::Not(NotServed::TooBig) => line.push_str(" too big")?,
+        Reply::Not(NotServed::Garbled(at)) => write!(line, " garbled {at}")?,
+        Reply::Not(NotServed::Fault { before, after }) => write!(line, " fault {before} {after}")?,
         Reply::NoMemory => return Err(Refused::NoMemory),
     }
     Ok(())
