@@ -1,14 +1,16 @@
--- A reply that is no file, as the answer to a whole fetch.
+-- What wasn't served, as the answer to a whole fetch.
 use Rattle.std.proofs.Common.{◌≡◌, ◌⊎◌, inr, ⊎_elim, refl, ap, ℕ, ◌<◌, ◌≤◌, Bool, true, List, length, take, Option, Some, None, IfSome, Result, Ok, Err, OnErr, arith}
 use Rattle.std.proofs.lemmas.Bool.{le-leb, lt-leb, lt-ltb}
 use Rattle.acq_base.specs.Mirror.{MirrorMap, answer_at}
 use Rattle.acq_base.specs.declared.uri.Uri.{Uri}
 use Rattle.acq_base.specs.declared.fetch.Answer.{Answer}
 use Rattle.acq_base.specs.declared.fetch.Answer.TheVariants as answers
+use Rattle.acq_base.specs.Fetch.{IsSoundReply}
 use Rattle.acq_base.specs.declared.fetch.Job.{Job}
+use Rattle.acq_base.specs.declared.fetch.NotServed.{NotServed}
 use Rattle.acq_base.specs.declared.fetch.Reply.{Reply}
 use Rattle.acq_base.specs.declared.fetch.Reply.TheVariants as replies
-use Rattle.acq_outside.specs.Word.{CanBegin, IsReplyOf}
+use Rattle.acq_outside.specs.Word.{CanBegin, IsCounted as IsCountedReply, IsReplyOf}
 use Rattle.acq_outside.specs.Crash.{State}
 use Rattle.acq_outside.specs.States.{IsTold}
 use Rattle.journal_model.specs.Rest.{part_bytes}
@@ -16,7 +18,7 @@ use Rattle.update_model.specs.Trails.{IsFaultOr, answered}
 use Rattle.update_model.specs.declared.ask.Closed.{Closed}
 use Rattle.update_model.specs.declared.ask.Closed.TheVariants.{Served, Not}
 use Rattle.acq_base.specs.declared.fetch.NotServed.TheVariants.{Moved, Absent, TooBig, Garbled, Fault}
-use Rattle.job_fetch.specs.Fetched.{IsAnswer, IsKnown, LeavesFile, ask_of}
+use Rattle.job_fetch.specs.Fetched.{IsAnswer, IsCounted, IsKnown, IsSoundEnd, LeavesFile, ask_of}
 use Rattle.job_fetch.specs.Pieces.{AnswersOver, HasMore}
 
 abbrev Telling : Option MirrorMap → Job → Reply → Type 0
@@ -27,88 +29,90 @@ lifted : (world : Option MirrorMap) (front : List ℕ) (stage : Bool) (job : Job
 lifted None front stage job reply closed says tells = record { told = tt }
 lifted (Some entries) front stage job reply closed says tells = record { told = says (answer_at entries job.uri) tells }
 
-moved : (front : List ℕ) (stage : Bool) (job : Job) (place : Option Uri) (answer : Answer) → IsReplyOf answer job (replies.Not (Not (Moved place))) → (Not (Moved place)) ≡ answered front (ask_of stage job) answer
+moved : (front : List ℕ) (stage : Bool) (job : Job) (place : Option Uri) (answer : Answer) → IsReplyOf answer job (replies.Not (Moved place)) → (Not (Moved place)) ≡ answered front (ask_of stage job) answer
 moved front stage job place (answers.Served all) tells = absurd tells
 moved front stage job place (answers.Moved to) tells = ap (λ p. (Not (Moved p))) tells
 moved front stage job place (answers.Absent code) tells = absurd tells
 
-pub moved_answer : (world : Option MirrorMap) (front : List ℕ) (stage : Bool) (job : Job) (place : Option Uri) → Telling world job (replies.Not (Not (Moved place))) → IsAnswer world front stage job (Not (Moved place))
-moved_answer world front stage job place = lifted world front stage job (replies.Not (Not (Moved place))) (Not (Moved place)) (moved front stage job place)
+moved_answer : (world : Option MirrorMap) (front : List ℕ) (stage : Bool) (job : Job) (place : Option Uri) → Telling world job (replies.Not (Moved place)) → IsAnswer world front stage job (Not (Moved place))
+moved_answer world front stage job place = lifted world front stage job (replies.Not (Moved place)) (Not (Moved place)) (moved front stage job place)
 
-absent : (front : List ℕ) (stage : Bool) (job : Job) (status : ℕ) → CanBegin job → (answer : Answer) → IsReplyOf answer job (replies.Not (Not (Absent status))) → (Not (Absent status)) ≡ answered front (ask_of stage job) answer
+absent : (front : List ℕ) (stage : Bool) (job : Job) (status : ℕ) → CanBegin job → (answer : Answer) → IsReplyOf answer job (replies.Not (Absent status)) → (Not (Absent status)) ≡ answered front (ask_of stage job) answer
 absent front stage job status begins (answers.Served all) tells =
     let few : length all ≤ job.max = ⊎_elim (λ none. absurd (omega (arith, none, tells.1))) (λ below. omega (arith, below, tells.2)) begins in
     rw (le-leb (length all) job.max few, lt-ltb 0 job.from tells.1, le-leb (length all) job.from tells.2) (ap (λ s. (Not (Absent s))) tells.0)
 absent front stage job status begins (answers.Moved to) tells = absurd tells
 absent front stage job status begins (answers.Absent code) tells = ap (λ s. (Not (Absent s))) tells
 
-pub absent_answer : (world : Option MirrorMap) (front : List ℕ) (stage : Bool) (job : Job) (status : ℕ) → CanBegin job → Telling world job (replies.Not (Not (Absent status))) → IsAnswer world front stage job (Not (Absent status))
-absent_answer world front stage job status begins = lifted world front stage job (replies.Not (Not (Absent status))) (Not (Absent status)) (absent front stage job status begins)
+absent_answer : (world : Option MirrorMap) (front : List ℕ) (stage : Bool) (job : Job) (status : ℕ) → CanBegin job → Telling world job (replies.Not (Absent status)) → IsAnswer world front stage job (Not (Absent status))
+absent_answer world front stage job status begins = lifted world front stage job (replies.Not (Absent status)) (Not (Absent status)) (absent front stage job status begins)
 
-too_big : (front : List ℕ) (stage : Bool) (job : Job) (answer : Answer) → IsReplyOf answer job (replies.Not (Not TooBig)) → (Not TooBig) ≡ answered front (ask_of stage job) answer
+too_big : (front : List ℕ) (stage : Bool) (job : Job) (answer : Answer) → IsReplyOf answer job (replies.Not TooBig) → (Not TooBig) ≡ answered front (ask_of stage job) answer
 too_big front stage job (answers.Served all) tells = rw (lt-leb (length all) job.max tells) refl
 too_big front stage job (answers.Moved to) tells = absurd tells
 too_big front stage job (answers.Absent code) tells = absurd tells
 
-pub too_big_answer : (world : Option MirrorMap) (front : List ℕ) (stage : Bool) (job : Job) → Telling world job (replies.Not (Not TooBig)) → IsAnswer world front stage job (Not TooBig)
-too_big_answer world front stage job = lifted world front stage job (replies.Not (Not TooBig)) (Not TooBig) (too_big front stage job)
+too_big_answer : (world : Option MirrorMap) (front : List ℕ) (stage : Bool) (job : Job) → Telling world job (replies.Not TooBig) → IsAnswer world front stage job (Not TooBig)
+too_big_answer world front stage job = lifted world front stage job (replies.Not TooBig) (Not TooBig) (too_big front stage job)
 
-garbled : (front : List ℕ) (stage : Bool) (job : Job) (at : ℕ) (answer : Answer) → IsReplyOf answer job (replies.Not (Not (Garbled at))) → (Not (Garbled at)) ≡ answered front (ask_of stage job) answer
+garbled : (front : List ℕ) (stage : Bool) (job : Job) (at : ℕ) (answer : Answer) → IsReplyOf answer job (replies.Not (Garbled at)) → (Not (Garbled at)) ≡ answered front (ask_of stage job) answer
 garbled front stage job at (answers.Served all) tells = absurd tells
 garbled front stage job at (answers.Moved to) tells = absurd tells
 garbled front stage job at (answers.Absent code) tells = absurd tells
 
-pub garbled_answer : (world : Option MirrorMap) (front : List ℕ) (stage : Bool) (job : Job) (at : ℕ) → Telling world job (replies.Not (Not (Garbled at))) → IsAnswer world front stage job (Not (Garbled at))
-garbled_answer world front stage job at = lifted world front stage job (replies.Not (Not (Garbled at))) (Not (Garbled at)) (garbled front stage job at)
+garbled_answer : (world : Option MirrorMap) (front : List ℕ) (stage : Bool) (job : Job) (at : ℕ) → Telling world job (replies.Not (Garbled at)) → IsAnswer world front stage job (Not (Garbled at))
+garbled_answer world front stage job at = lifted world front stage job (replies.Not (Garbled at)) (Not (Garbled at)) (garbled front stage job at)
 
-pub fault_answer : (world : Option MirrorMap) (front : List ℕ) (stage : Bool) (job : Job) (before after : ℕ) → IsAnswer world front stage job (Not (Fault before after))
+fault_answer : (world : Option MirrorMap) (front : List ℕ) (stage : Bool) (job : Job) (before after : ℕ) → IsAnswer world front stage job (Not (Fault before after))
 fault_answer None front stage job before after = record { told = tt }
 fault_answer (Some entries) front stage job before after = record { told = tt }
+
+-- what wasn't served is the answer
+pub not_answer : (world : Option MirrorMap) (front : List ℕ) (stage : Bool) (job : Job) (end : NotServed) → CanBegin job → Telling world job (replies.Not end) → IsAnswer world front stage job (Not end)
+not_answer world front stage job (Moved place) begins = moved_answer world front stage job place
+not_answer world front stage job (Absent status) begins = absent_answer world front stage job status begins
+not_answer world front stage job TooBig begins = too_big_answer world front stage job
+not_answer world front stage job (Garbled at) begins = garbled_answer world front stage job at
+not_answer world front stage job (Fault before after) begins = λ tells. fault_answer world front stage job before after
+
+pub not_counted : (before after : ℕ) (end : NotServed) → IsCountedReply before after (replies.Not end) → IsCounted before after (Not end)
+not_counted before after (Moved place) is = is
+not_counted before after (Absent status) is = is
+not_counted before after TooBig is = is
+not_counted before after (Garbled at) is = is
+not_counted before after (Fault told_before told_after) is = is
+
+pub not_sound : (end : NotServed) → IsSoundReply (replies.Not end) → IsSoundEnd (Not end)
+not_sound (Moved place) is = is
+not_sound (Absent status) is = tt
+not_sound TooBig is = tt
+not_sound (Garbled at) is = tt
+not_sound (Fault before after) is = tt
 
 -- what an end that served nothing leaves of the file
 pub any_left : (from : ℕ) (name : List ℕ) (old new : List State) (closed : Closed) → (new ≡ old) ⊎ (IsTold new → from < length (part_bytes new name)) → LeavesFile from name old new closed
 any_left from name old new (Served body) left = tt
-any_left from name old new (Not (Moved place)) left = left
-any_left from name old new (Not (Absent status)) left = left
-any_left from name old new (Not TooBig) left = left
-any_left from name old new (Not (Garbled at)) left = left
-any_left from name old new (Not (Fault before after)) left = left
+any_left from name old new (Not end) left = left
 
 -- what more came is left
 pub more_left : (from : ℕ) (name : List ℕ) (old new : List State) (closed : Closed) → HasMore from name new closed → LeavesFile from name old new closed
 more_left from name old new (Served body) more = tt
-more_left from name old new (Not (Moved place)) more = inr more
-more_left from name old new (Not (Absent status)) more = inr more
-more_left from name old new (Not TooBig) more = inr more
-more_left from name old new (Not (Garbled at)) more = inr more
-more_left from name old new (Not (Fault before after)) more = inr more
+more_left from name old new (Not end) more = inr more
 
 pub any_more : (from : ℕ) (name : List ℕ) (new : List State) (closed : Closed) → (IsTold new → from < length (part_bytes new name)) → HasMore from name new closed
 any_more from name new (Served body) more = tt
-any_more from name new (Not (Moved place)) more = more
-any_more from name new (Not (Absent status)) more = more
-any_more from name new (Not TooBig) more = more
-any_more from name new (Not (Garbled at)) more = more
-any_more from name new (Not (Fault before after)) more = more
+any_more from name new (Not end) more = more
 
 -- an answer beside all bytes
 pub any_answers : (world : Option MirrorMap) (name : List ℕ) (old new : List State) (job : Job) (closed : Closed) → ((part : List ℕ) → IsAnswer world part true job closed) → AnswersOver world name old new job closed
 any_answers world name old new job (Served body) is = λ told part front. is part
-any_answers world name old new job (Not (Moved place)) is = is
-any_answers world name old new job (Not (Absent status)) is = is
-any_answers world name old new job (Not TooBig) is = is
-any_answers world name old new job (Not (Garbled at)) is = is
-any_answers world name old new job (Not (Fault before after)) is = is
+any_answers world name old new job (Not end) is = is
 
 -- beside what the file on its way had before it was opened
 pub answers_beside : (world : Option MirrorMap) (name : List ℕ) (mid new : List State) (part : List ℕ) (job : Job) (closed : Closed) → (IsTold new → part_bytes mid name ≡ take job.from part)
     → AnswersOver world name mid new job closed → IsKnown new closed → IsAnswer world part true job closed
 answers_beside world name mid new part job (Served body) front is known = is known part (front known)
-answers_beside world name mid new part job (Not (Moved place)) front is known = is part
-answers_beside world name mid new part job (Not (Absent status)) front is known = is part
-answers_beside world name mid new part job (Not TooBig) front is known = is part
-answers_beside world name mid new part job (Not (Garbled at)) front is known = is part
-answers_beside world name mid new part job (Not (Fault before after)) front is known = is part
+answers_beside world name mid new part job (Not end) front is known = is part
 
 pub on_err : {T E : Type 0} {P : Type 0} (result : Result T E) → P → OnErr result P
 on_err (Ok x) p = tt

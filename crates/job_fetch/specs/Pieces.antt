@@ -5,6 +5,8 @@ use Rattle.acq_base.specs.declared.fetch.Job.{Job}
 use Rattle.acq_outside.specs.Crash.{State}
 use Rattle.acq_outside.specs.States.{IsTold, IsNow}
 use Rattle.acq_outside.specs.declared.word.Fetch.{Fetch}
+use Rattle.acq_outside.specs.declared.word.Word.{Word}
+use Rattle.acq_outside.specs.declared.word.Word.TheVariants.{Piece, Done, Not, NoMemory}
 use Rattle.hash_gate.specs.Pieces.{HasSummed, size_so_far}
 use Rattle.hash_gate.specs.declared.total.Total.{Total}
 use Rattle.journal_model.specs.Rest.{IsPartThere, part_bytes}
@@ -16,6 +18,13 @@ use Rattle.job_fetch.specs.declared.filling.Filling.{Filling}
 -- a fetch of the job at this place
 abbrev pub fetch_at : Job → ℕ → Fetch
 fetch_at job at = record { job = job; at = at }
+
+-- a word of a file that is served
+abbrev pub Serves : Word → Type 0
+Serves (Piece place bytes) = Unit {0}
+Serves (Done size) = Unit {0}
+Serves (Not end) = ⊥
+Serves NoMemory = ⊥
 
 -- The list's file on its way is there and as long as the part says, and the total is that of its bytes.
 pub record IsFilling (now : List State) (filling : Filling) : Type 0 where

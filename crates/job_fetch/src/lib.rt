@@ -13,7 +13,6 @@
 pub use memory::fetch_into_memory;
 pub use staged::fetch_staged;
 
-mod closing;
 mod filling;
 mod memory;
 mod staged;

@@ -4,7 +4,6 @@ ghost use Rattle.acq_base.specs.Uri.{IsSound};
 ghost use Rattle.acq_outside.specs.Fetches.{Fetches};
 ghost use Rattle.job_fetch.specs.Fetched.{IsAnswer, IsCounted, IsInMemory, IsSoundEnd};
 
-use crate::closing::closed_of;
 use acq_base::{Bytes, Job, NoMemory};
 use acq_outside::{Method, Word};
 use std::alloc::Global;
@@ -35,7 +34,8 @@ pub fn fetch_into_memory<M: Method>(
         match word {
             Word::Piece { at: _, bytes } => joined.append(bytes.as_slice())?,
             Word::Done { size: _ } => return Ok(Closed::Served(Body::Bytes(joined))),
-            Word::Other(reply) => return closed_of(reply),
+            Word::Not(end) => return Ok(Closed::Not(end)),
+            Word::NoMemory => return Err(NoMemory),
         }
         word = method.more(alloc);
     }

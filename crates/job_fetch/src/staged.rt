@@ -1,17 +1,14 @@
 //! A fetch whose pieces go into the list's file under `partial/` as they come.
-ghost use Rattle.std.specs.Prelude.{◌≡◌, ◌≢◌, ◌<◌, ◌≤◌, ◌^◌, length, IfOk};
+ghost use Rattle.std.specs.Prelude.{◌≡◌, ◌<◌, ◌≤◌, ◌^◌, length, IfOk};
 ghost use Rattle.acq_base.specs.Uri.{IsSound};
-ghost use Rattle.acq_base.specs.declared.fetch.Reply.{Reply};
-ghost use Rattle.acq_outside.specs.declared.word.Word.TheVariants.{Other};
 ghost use Rattle.acq_outside.specs.Stays.{StaysCounting};
 ghost use Rattle.acq_outside.specs.States.{IsTold};
 ghost use Rattle.acq_outside.specs.Word.{CanBegin, IsSoundWord, IsWord};
 ghost use Rattle.journal_model.specs.Names.{IsPutName};
 ghost use Rattle.journal_model.specs.Rest.{part_bytes};
 ghost use Rattle.job_fetch.specs.Fetched.{Comes, ComesWhole};
-ghost use Rattle.job_fetch.specs.Pieces.{AnswersOver, HasMore, IsFilling, fetch_at};
+ghost use Rattle.job_fetch.specs.Pieces.{AnswersOver, HasMore, IsFilling, Serves, fetch_at};
 
-use crate::closing::closed_of;
 use crate::filling::{Filling, add, finish_file, open};
 use acq_base::{Job, ListName};
 use acq_outside::{Disk, Method, OutError, Word};
@@ -46,7 +43,8 @@ pub fn fetch_staged<D: Disk, M: Method>(
             fill(alloc, disk, method, name, job, Word::Piece { at, bytes })
         }
         Word::Done { size } => fill(alloc, disk, method, name, job, Word::Done { size }),
-        Word::Other(reply) => Ok(closed_of(reply)?),
+        Word::Not(end) => Ok(Closed::Not(end)),
+        Word::NoMemory => Err(OutError::NoMemory),
     }
 }
 
@@ -64,7 +62,7 @@ fn fill<D: Disk, M: Method>(
     requires limit { job.now.max < 2 ^ 64 }
     requires keep { IsTold (D.trace disk.old) → job.now.from ≤ length (part_bytes (D.trace disk.old) name.now.0) }
     requires sound { IsSoundWord first }
-    requires opens { (reply : Reply) → first ≢ Other reply }
+    requires serves { Serves first }
     requires word { IsWord (M.faults method.old) (M.faults method.old) (M.world method.old) (fetch_at job.now job.now.from) (M.under method.old) first }
 
     ensures frame { StaysCounting OutError.Fault D.Disk disk.old disk.new result }
@@ -89,7 +87,7 @@ fn receive<D: Disk, M: Method>(
     requires filling { IsFilling (D.trace disk.old) opened }
     requires at { opened.part.len ≡ job.now.from }
     requires sound { IsSoundWord first }
-    requires opens { (reply : Reply) → first ≢ Other reply }
+    requires serves { Serves first }
     requires word { IsWord (M.faults method.old) (M.faults method.old) (M.world method.old) (fetch_at job.now opened.part.len) (M.under method.old) first }
 
     ensures frame { StaysCounting OutError.Fault D.Disk disk.old disk.new result }
@@ -107,7 +105,8 @@ fn receive<D: Disk, M: Method>(
                 let sum = finish_file(disk, filling)?;
                 return Ok(Closed::Served(Body::Staged(sum)));
             }
-            Word::Other(reply) => return Ok(closed_of(reply)?),
+            Word::Not(end) => return Ok(Closed::Not(end)),
+            Word::NoMemory => return Err(OutError::NoMemory),
         }
         word = method.more(alloc);
     }

@@ -1,14 +1,23 @@
-use Rattle.std.proofs.Common.{◌≡◌, ◌+◌, [], ◌++◌, length, length-append, sym, ap, ◌∙◌, subst, arith}
+use Rattle.std.proofs.Common.{false, inl, ◌≡◌, ◌+◌, [], ◌++◌, length, length-append, sym, ap, ◌∙◌, subst, arith}
 use Rattle.acq_outside.specs.Word.{IsWord}
 use Rattle.job_fetch.specs.Pieces.{fetch_at}
 use Rattle.job_fetch.proofs.Fronts.{more_came, HasCome}
+use Rattle.job_fetch.proofs.Ends.{not_answer, not_counted, not_sound}
 use Rattle.job_fetch.proofs.Words.{next_word}
 use Rattle.job_fetch.proofs.memory.fetch_into_memory.Goals as goal
 
-pub returns-in-Other-clause-counted : goal.returns-in-Other-clause-counted
-returns-in-Other-clause-counted g c =
-    let word = rw c.in-Other.is at c.loop-word.invariant.word in
-    c.closed_of.ensures.counted (g.M.Method.faults c.args.method.now) (g.M.Method.faults c.loop-word.method) word.counted
+pub returns-in-Not-clause-counted : goal.returns-in-Not-clause-counted
+returns-in-Not-clause-counted g c =
+    let word = rw c.in-Not.is at c.loop-word.invariant.word in
+    not_counted (g.M.Method.faults c.args.method.now) (g.M.Method.faults c.loop-word.method) c.in-Not.end word.counted
+
+pub returns-in-Not-clause-sound : goal.returns-in-Not-clause-sound
+returns-in-Not-clause-sound g c = not_sound c.in-Not.end (rw c.in-Not.is at c.loop-word.invariant.sound)
+
+pub returns-in-Not-clause-answer : goal.returns-in-Not-clause-answer
+returns-in-Not-clause-answer g c =
+    let word = rw c.in-Not.is at c.loop-word.invariant.word in
+    not_answer (g.M.Method.world c.args.method.now) [] false c.args.job.now c.in-Not.end (inl c.requires.from) word.told
 
 pub loop-word-preserved : goal.loop-word-preserved
 loop-word-preserved g c =

@@ -1,10 +1,11 @@
-use Rattle.std.proofs.Common.{rules, ◌≡◌, ◌<◌, true, ◌+◌, ◌++◌, length, sym, ap, ◌∙◌, subst, arith}
+use Rattle.std.proofs.Common.{rules, ◌≡◌, ◌<◌, true, ◌+◌, ◌++◌, length, sym, ap, ◌∙◌, subst, arith, inr, ⊎_elim}
 use Rattle.acq_base.specs.Sum.{sum_of}
 use Rattle.acq_outside.proofs.Framed.{stayed_on}
 use Rattle.acq_outside.specs.Word.{IsWord}
 use Rattle.journal_model.specs.Rest.{part_bytes}
-use Rattle.job_fetch.specs.Pieces.{fetch_at}
-use Rattle.job_fetch.proofs.Ends.{any_answers, any_more, on_err}
+use Rattle.job_fetch.specs.Pieces.{Serves, fetch_at}
+use Rattle.update_model.specs.declared.ask.Closed.TheVariants.{Not}
+use Rattle.job_fetch.proofs.Ends.{any_answers, any_more, not_answer, not_counted, not_sound}
 use Rattle.job_fetch.proofs.Fillings.{bytes_named, longer, front_more, staging_more, staging_named, told_before}
 use Rattle.job_fetch.proofs.Pieces.{all_staged, come_more}
 use Rattle.job_fetch.proofs.Words.{next_word}
@@ -45,7 +46,7 @@ loop-word-preserved g c =
       filling = c.in_ok-add-in-Piece.ensures.filling;
       staging = staging_more _ _ _ _ inv.staging (staging_named _ _ _ _ inv.name c.add.ensures.staging);
       front = front_more c.args.opened.part.name job.from (g.D.Disk.trace c.args.disk.now) (g.D.Disk.trace c.loop-word.disk) (g.D.Disk.trace c.add.new.disk) c.in-Piece.bytes before bytes inv.front;
-      fresh = λ reply is. omega (arith, inv.past, len, piece.nonempty);
+      fresh = inr (omega (arith, inv.past, len, piece.nonempty));
       sound = c.more-word.ensures.sound;
       word = subst (λ n. IsWord (g.M.Method.faults c.args.method.now) (g.M.Method.faults c.more-word.new.self) world (fetch_at job n) (g.M.Method.under c.more-word.new.self) c.more-word.result) (sym len)
           (next_word (g.M.Method.faults c.args.method.now) (g.M.Method.faults c.loop-word.method) (g.M.Method.faults c.more-word.new.self) world (g.M.Method.world c.loop-word.method) (fetch_at job c.loop-word.filling.part.len)
@@ -54,17 +55,17 @@ loop-word-preserved g c =
           inv.past len before bytes piece.told inv.come;
     }
 
-pub returns-in-Other-clause-more : goal.returns-in-Other-clause-more
-returns-in-Other-clause-more g c =
-    let past : c.args.job.now.from < c.loop-word.filling.part.len = c.loop-word.invariant.fresh c.in-Other.reply c.in-Other.is in
-    any_more c.args.job.now.from c.args.opened.part.name (g.D.Disk.trace c.loop-word.disk) c.in_ok-closed_of-in-Other.field-0
+pub returns-in-Not-clause-more : goal.returns-in-Not-clause-more
+returns-in-Not-clause-more g c =
+    let past : c.args.job.now.from < c.loop-word.filling.part.len = ⊎_elim (λ (s : Serves c.loop-word.word). absurd (subst Serves c.in-Not.is s)) (λ (p : c.args.job.now.from < c.loop-word.filling.part.len). p) c.loop-word.invariant.fresh in
+    any_more c.args.job.now.from c.args.opened.part.name (g.D.Disk.trace c.loop-word.disk) (Not c.in-Not.end)
     (longer c.args.job.now.from c.loop-word.filling.part.name c.args.opened.part.name (g.D.Disk.trace c.loop-word.disk) c.loop-word.filling.part.len c.loop-word.invariant.name c.loop-word.invariant.filling.len past)
 
-pub returns-in-Other-clause-answer : goal.returns-in-Other-clause-answer
-returns-in-Other-clause-answer g c =
-    let word = rw c.in-Other.is at c.loop-word.invariant.word in
-    any_answers (g.M.Method.world c.args.method.now) c.args.opened.part.name (g.D.Disk.trace c.args.disk.now) (g.D.Disk.trace c.loop-word.disk) c.args.job.now c.in_ok-closed_of-in-Other.field-0
-    (λ part. c.in_ok-closed_of-in-Other.ensures.answer (g.M.Method.world c.args.method.now) part true c.args.job.now c.requires.from word.told)
+pub returns-in-Not-clause-answer : goal.returns-in-Not-clause-answer
+returns-in-Not-clause-answer g c =
+    let word = rw c.in-Not.is at c.loop-word.invariant.word in
+    any_answers (g.M.Method.world c.args.method.now) c.args.opened.part.name (g.D.Disk.trace c.args.disk.now) (g.D.Disk.trace c.loop-word.disk) c.args.job.now (Not c.in-Not.end)
+    (λ part. not_answer (g.M.Method.world c.args.method.now) part true c.args.job.now c.in-Not.end c.requires.from word.told)
 
 pub returns-in_err-add-in-Piece-clause-comes : goal.returns-in_err-add-in-Piece-clause-comes
 returns-in_err-add-in-Piece-clause-comes g c =
@@ -102,25 +103,25 @@ returns-in-Done-clause-comes g c =
       staged = search rules;
     }
 
-pub returns-in-Other-clause-comes : goal.returns-in-Other-clause-comes
-returns-in-Other-clause-comes g c =
-    let word = rw c.in-Other.is at c.loop-word.invariant.word in
+pub returns-in-Not-clause-comes : goal.returns-in-Not-clause-comes
+returns-in-Not-clause-comes g c =
+    let word = rw c.in-Not.is at c.loop-word.invariant.word in
     record {
       method = search rules;
       method_dry = search rules;
-      counted = c.in_ok-closed_of-in-Other.ensures.counted (g.M.Method.faults c.args.method.now) (g.M.Method.faults c.loop-word.method) word.counted;
-      sound = search rules;
+      counted = not_counted (g.M.Method.faults c.args.method.now) (g.M.Method.faults c.loop-word.method) c.in-Not.end word.counted;
+      sound = not_sound c.in-Not.end (rw c.in-Not.is at c.loop-word.invariant.sound);
       staging = search rules;
       front = search rules;
-      staged = c.in_ok-closed_of-in-Other.ensures.staged (g.M.Method.faults c.args.method.now) (g.M.Method.faults c.loop-word.method) word.counted c.args.opened.part.name (g.D.Disk.trace c.loop-word.disk);
+      staged = search rules;
     }
 
-pub returns-in_err-closed_of-in-Other-clause-comes : goal.returns-in_err-closed_of-in-Other-clause-comes
-returns-in_err-closed_of-in-Other-clause-comes g c =
-    let word = rw c.in-Other.is at c.loop-word.invariant.word in
+pub returns-in-NoMemory-clause-comes : goal.returns-in-NoMemory-clause-comes
+returns-in-NoMemory-clause-comes g c =
+    let word = rw c.in-NoMemory.is at c.loop-word.invariant.word in
     record {
       method = search rules;
-      method_dry = on_err _ (c.in_err-closed_of-in-Other.ensures.dry (g.M.Method.faults c.args.method.now) (g.M.Method.faults c.loop-word.method) word.counted);
+      method_dry = word.counted;
       counted = search rules;
       sound = search rules;
       staging = search rules;

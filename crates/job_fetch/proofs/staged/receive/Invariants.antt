@@ -1,11 +1,9 @@
-use Rattle.std.proofs.Common.{◌≡◌, ◌-◌, ◌<◌, ◌≤◌}
-use Rattle.acq_base.specs.declared.fetch.Reply.{Reply}
+use Rattle.std.proofs.Common.{◌≡◌, ◌⊎◌, ◌-◌, ◌<◌, ◌≤◌}
 use Rattle.acq_outside.specs.Fetches.{Fetches}
 use Rattle.acq_outside.specs.Stays.{HasStayed}
 use Rattle.acq_outside.specs.Word.{IsSoundWord, IsWord}
-use Rattle.acq_outside.specs.declared.word.Word.TheVariants.{Other}
 use Rattle.job_fetch.specs.Fetched.{KeepsFront, Staging}
-use Rattle.job_fetch.specs.Pieces.{IsFilling, fetch_at}
+use Rattle.job_fetch.specs.Pieces.{IsFilling, Serves, fetch_at}
 use Rattle.job_fetch.proofs.Pieces.{ComesOver}
 use Rattle.job_fetch.proofs.staged.receive.Given as goal
 
@@ -18,7 +16,7 @@ invariant-loop-word g l = record {
   filling : IsFilling (g.D.Disk.trace l.disk) l.filling;
   staging : Staging l.fn.opened.part.name (g.D.Disk.trace l.fn.disk) (g.D.Disk.trace l.disk);
   front : KeepsFront l.fn.opened.part.name l.job.from (g.D.Disk.trace l.fn.disk) (g.D.Disk.trace l.disk);
-  fresh : (reply : Reply) → l.word ≡ Other reply → l.job.from < l.filling.part.len;
+  fresh : Serves l.word ⊎ (l.job.from < l.filling.part.len);
   sound : IsSoundWord l.word;
   word : IsWord (g.M.Method.faults l.fn.method) (g.M.Method.faults l.method) (g.M.Method.world l.fn.method) (fetch_at l.job l.filling.part.len) (g.M.Method.under l.method) l.word;
   come : ComesOver (g.M.Method.world l.fn.method) l.fn.opened.part.name (g.D.Disk.trace l.fn.disk) (g.D.Disk.trace l.disk) l.job l.filling.part.len;
