@@ -1,15 +1,14 @@
 -- Walks that ask at sound URIs, and answers that keep them.
-use Rattle.std.proofs.Common.{◌≡◌, ◌≤◌, ◌∙◌, ℕ, zero, suc, Bool, true, false, List, [], ◌∷◌, length, Option, Some, None, refl, sym, ap, subst}
-use Rattle.std.specs.Prelude.{IfSome, if◌then◌else◌}
+use Rattle.std.proofs.Common.{ℕ, zero, suc, Bool, true, false, List, [], ◌∷◌, Some, None, refl}
+use Rattle.std.specs.Prelude.{if◌then◌else◌}
 use Rattle.std.specs.List.{AllByRecursion as Each}
-use Rattle.acq_base.specs.Fetch.{IsSoundPlace}
-use Rattle.acq_base.specs.Uri.{IsSound, list_name}
+use Rattle.acq_base.specs.Uri.{IsSound}
 use Rattle.acq_base.specs.declared.uri.Uri.{Uri}
 use Rattle.update_model.specs.Laws.{AsksAreSound, MirrorsGiveRoutes}
 use Rattle.update_model.specs.Mirrored.{over, trails_over}
 use Rattle.update_model.specs.Points.{Point, Over, At, start, point_after, lead}
-use Rattle.update_model.specs.Reach.{Way, On, Stop, way, moved, may_move}
-use Rattle.update_model.specs.Trails.{LaneAnswer, Trail, Position, Leads, IsTrail, less}
+use Rattle.update_model.specs.Reach.{Way, On, Stop, moved, may_move}
+use Rattle.update_model.specs.Trails.{LaneAnswer, Trail, Leads, IsTrail}
 use Rattle.update_model.specs.Walks.{Walk, Finish, Try, IsRoute, target_walk}
 use Rattle.update_model.specs.declared.ask.Ask.{Ask}
 use Rattle.update_model.specs.declared.ask.Closed.{Closed}
@@ -18,7 +17,6 @@ use Rattle.acq_base.specs.declared.fetch.NotServed.TheVariants.{Moved, Absent, T
 use Rattle.update_model.specs.declared.ask.Ending.{Ending}
 use Rattle.update_model.specs.declared.ask.Ending.TheVariants as endings
 use Rattle.update_model.specs.declared.end.End.{End}
-use Rattle.update_model.specs.declared.wanted.Wanted.{Wanted}
 use Rattle.item_graph.specs.Sound.{AsksSoundly, IsSoundAt, IsSoundAnswer, ListsAskSoundly}
 
 -- ---- one answer

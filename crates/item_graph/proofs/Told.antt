@@ -13,7 +13,7 @@ use Rattle.update_model.specs.declared.ask.Ending.{Ending}
 use Rattle.update_model.specs.declared.ask.Ending.TheVariants as endings
 use Rattle.update_model.specs.declared.end.End.{End}
 use Rattle.update_model.specs.declared.log.Asked.{Asked}
-use Rattle.update_model.specs.Points.{At, Over, Point, entry, entry_at, lead, ran, run, start, point_after}
+use Rattle.update_model.specs.Points.{At, Over, Point, entry, lead, ran, run, start, point_after}
 use Rattle.update_model.specs.Reach.{On, Stop, Way, way}
 use Rattle.update_model.specs.Trails.{Along, IsPosition, IsTrail, Leads, Position, LaneAnswer, Trail, Agrees, Lives, HasAnswer, IsFaultOr, answered, entries, heard_of, less}
 use Rattle.update_model.specs.Walks.{Finish, IsRoute, Try, Walk}

@@ -1,9 +1,8 @@
 -- Where the answers to an item come from a mirror, it ends as its file is obtained.
-use Rattle.std.proofs.Common.{◌≡◌, ◌∙◌, ℕ, List, [], length, sym}
+use Rattle.std.proofs.Common.{◌∙◌, [], length, sym}
 use Rattle.update_model.specs.Laws.{RunsStandInRoutes, ListsEndAsObtained, ReleasesEndAsObtained}
 use Rattle.update_model.specs.Walks.{release_walk, target_walk}
 use Rattle.item_graph.specs.Laws.{ItemsStandInRoutes, ItemsEndInRoutes, ItemsEndAsObtained, ReleaseItemsEndAsObtained}
-use Rattle.item_graph.specs.Refinement.{point_of}
 use Rattle.item_graph.proofs.Told.{told-routes}
 
 pub items-stand : RunsStandInRoutes → ItemsStandInRoutes

@@ -1,5 +1,5 @@
 -- What comes after a trail, and where an item stands.
-use Rattle.std.specs.Prelude.{ℕ, reverse, option_and_then}
+use Rattle.std.specs.Prelude.{reverse, option_and_then}
 use Rattle.update_model.specs.Files.{served, fitting}
 use Rattle.update_model.specs.Obtained.{list_cause}
 use Rattle.update_model.specs.Points.{Point, Over, At}

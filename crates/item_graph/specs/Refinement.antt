@@ -1,5 +1,5 @@
 -- Where an item stands in the route of its Release or list.
-use Rattle.std.specs.Prelude.{◌≡◌, ℕ, Option, Some, None}
+use Rattle.std.specs.Prelude.{ℕ, Option, Some, None}
 use Rattle.update_model.specs.Points.{Point, Over, At}
 use Rattle.update_model.specs.declared.ask.Ask.{Ask}
 use Rattle.item_graph.specs.Nexts.{point_in}

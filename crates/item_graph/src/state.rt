@@ -72,32 +72,34 @@ impl State {
     ) -> Result<State, NoMemory>
         ensures { IfOk result (λ state. point_in state ≡ point_after retries (point_in self) (record { lane = lane; closed = closed })) }
     {
-        match self {
-            State::Ended(end) => Ok(State::Ended(end)),
-            State::Asks {
-                ask,
-                moves,
-                retries: left,
-                next,
-            } => match closed {
-                Closed::Not(NotServed::Fault { before, after }) if left == 0 => {
-                    next.follow(
-                        alloc,
-                        retries,
-                        Ending::Dead {
-                            lane,
-                            before,
-                            after,
-                        },
-                    )
-                }
-                Closed::Not(NotServed::Fault { .. }) => Ok(State::Asks {
+        let State::Asks {
+            ask,
+            moves,
+            retries: left,
+            next,
+        } = self
+        else {
+            return Ok(self);
+        };
+        match closed {
+            Closed::Served(body) => next.follow(alloc, retries, Ending::Served(body)),
+            Closed::Not(end) => match end {
+                NotServed::Fault { before, after } if left == 0 => next.follow(
+                    alloc,
+                    retries,
+                    Ending::Dead {
+                        lane,
+                        before,
+                        after,
+                    },
+                ),
+                NotServed::Fault { .. } => Ok(State::Asks {
                     ask,
                     moves,
                     retries: left - 1,
                     next,
                 }),
-                answer => match way(moves, ask.uri.scheme, answer) {
+                other => match way(moves, ask.uri.scheme, other) {
                     Ok(uri) => Ok(State::Asks {
                         ask: Ask { uri, ..ask },
                         moves: moves.saturating_sub(1),

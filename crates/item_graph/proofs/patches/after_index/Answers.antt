@@ -1,8 +1,8 @@
-use Rattle.std.proofs.Common.{◌≡◌, ◌∙◌, List, ℕ, Option, Some, sym, ap, subst, rules}
+use Rattle.std.proofs.Common.{◌≡◌, ◌∙◌, List, ℕ, Option, Some, sym, ap, subst}
 use Rattle.std.specs.Prelude.{reverse, IfOk, option_and_then}
 use Rattle.std.proofs.lemmas.List.{reverse-reverse}
 use Rattle.pdiff_index.specs.declared.index.Step.{Step}
-use Rattle.update_model.specs.Points.{Point, start}
+use Rattle.update_model.specs.Points.{start}
 use Rattle.update_model.specs.Walks.{Walk, patches_walk, resume_walk, on_some}
 use Rattle.update_model.specs.Wanted.{chain}
 use Rattle.item_graph.specs.Nexts.{point_in, after_index}

@@ -1,4 +1,4 @@
-use Rattle.std.proofs.Common.{◌≡◌, ◌⊎◌, inl, inr, rules}
+use Rattle.std.proofs.Common.{◌≡◌, inl, inr, rules}
 use mathlib.Core.Logic.{∥∥₁_map}
 use Rattle.item_graph.proofs.OnePatch.{is-of, patch-edits, patch-outside}
 use Rattle.item_graph.proofs.patches.edit.Goals as goal

@@ -1,5 +1,4 @@
-use Rattle.std.proofs.Common.{◌∙◌, ap, sym, refl, subst}
-use Rattle.update_model.specs.Points.{Point}
+use Rattle.std.proofs.Common.{ap, sym, subst}
 use Rattle.item_graph.specs.Refinement.{point_of, asked}
 use Rattle.item_graph.specs.Nexts.{point_in}
 use Rattle.item_graph.specs.Sound.{IsSoundAt}

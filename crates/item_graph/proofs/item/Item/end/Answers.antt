@@ -1,4 +1,4 @@
-use Rattle.std.proofs.Common.{◌≡◌, ◌∙◌, Some, None, ap, sym, refl, rules}
+use Rattle.std.proofs.Common.{◌≡◌, ◌∙◌, Some, None, ap, sym}
 use Rattle.update_model.specs.Points.{Over}
 use Rattle.update_model.specs.declared.end.End.{End}
 use Rattle.item_graph.specs.Refinement.{point_of, asked}

@@ -1,4 +1,4 @@
-use Rattle.std.proofs.Common.{◌≤◌, ◌∙◌, List, ℕ, [], length, subst, sym, refl, arith}
+use Rattle.std.proofs.Common.{◌≤◌, List, ℕ, [], length, subst, refl, arith}
 use Rattle.item_graph.specs.Refinement.{point_of, retries_of}
 use Rattle.item_graph.proofs.item.Item.for_release.Goals as goal
 
