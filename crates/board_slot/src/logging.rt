@@ -6,7 +6,7 @@ ghost use Rattle.update_model.specs.Files.{sum_of_body};
 ghost use Rattle.update_model.specs.Points.{entry as entry_of};
 ghost use Rattle.update_model.specs.Trails.{heard_of};
 
-use acq_base::{ListName, NoMemory, NotServed, Source, Sum, Text, TryCopy, sum_of};
+use acq_base::{ListName, NoMemory, Source, Sum, Text, TryCopy, sum_of};
 use std::alloc::Global;
 use update_model::{Ask, Asked, Body, Closed, Heard};
 
@@ -63,14 +63,7 @@ fn heard(alloc: Global, closed: &Closed) -> Result<Heard, NoMemory>
 {
     Ok(match closed {
         Closed::Served(body) => Heard::Served(body_sum(body)),
-        Closed::Not(NotServed::Moved(place)) => Heard::Not(NotServed::Moved(place.copy(alloc)?)),
-        Closed::Not(NotServed::Absent(status)) => Heard::Not(NotServed::Absent(*status)),
-        Closed::Not(NotServed::TooBig) => Heard::Not(NotServed::TooBig),
-        Closed::Not(NotServed::Garbled(at)) => Heard::Not(NotServed::Garbled(*at)),
-        Closed::Not(NotServed::Fault { before, after }) => Heard::Not(NotServed::Fault {
-            before: *before,
-            after: *after,
-        }),
+        Closed::Not(end) => Heard::Not(end.copy(alloc)?),
     })
 }
 
