@@ -1,5 +1,5 @@
 -- `InRelease` is a short name, and a list's URI under its digest is sound.
-use Rattle.std.proofs.Common.{◌≤◌, Bool, true, false, [], length, codes, Some, None, refl, arith}
+use Rattle.std.proofs.Common.{◌≤◌, Bool, true, false, length, codes, Some, None, refl, arith}
 use Rattle.std.specs.Prelude.{IfSome, if◌then◌else◌}
 use Rattle.std.proofs.lemmas.List.Sums.{AllPass-from_list_all}
 use Rattle.acq_base.specs.Uri.{list_name, is_uri_character, IsSound}

@@ -19,8 +19,6 @@ use Rattle.update_model.specs.Trails.{LaneAnswer}
 use Rattle.update_model.specs.Walks.{Walk, Finish, Try, after_in_release, release_walk, target_walk, whole_ask}
 use Rattle.update_model.specs.Wanted.{want}
 use Rattle.update_model.specs.declared.ask.Ask.{Ask}
-use Rattle.update_model.specs.declared.ask.Closed.TheVariants.{Served}
-use Rattle.acq_base.specs.declared.fetch.NotServed.TheVariants.{Absent, TooBig, Garbled}
 use Rattle.update_model.specs.declared.ask.Ending.{Ending}
 use Rattle.update_model.specs.declared.ask.Ending.TheVariants as endings
 use Rattle.item_graph.proofs.Soundness.{start-sound, step-sound}
