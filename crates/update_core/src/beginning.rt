@@ -52,7 +52,7 @@ pub fn begin_board(
         let Some(old) = rest.pop() else {
             unreachable!()
         };
-        let slot = Slot::begin_board(alloc, setup, source, old)?;
+        let slot = Slot::begin(alloc, setup, source, old)?;
         begun.add(alloc, source, slot)?;
     }
     Ok(begun)

@@ -82,7 +82,7 @@ impl Board {
     }
 
     /// The board with which a run begins.
-    #[tactic(auto, unfolding(crate::specs::Standing::board_of))]
+    #[tactic(auto, unfolding(crate::specs::BoardRefinement::board_of))]
     fn first(alloc: Global, setup: Setup, old: Row<Old>, lanes: u32) -> Result<Board, NoMemory>
         requires few { length (keys_from 0 setup.sources) ≤ 4096 }
         requires each { length old ≡ length setup.sources }
@@ -114,7 +114,7 @@ impl Board {
 
     /// The next job of a lane, which is out then: that of the oldest ask that waits in it. `None` where a job of the lane
     /// is out, or none waits.
-    #[tactic(auto, unfolding(crate::specs::Standing::board_of))]
+    #[tactic(auto, unfolding(crate::specs::BoardRefinement::board_of))]
     pub fn issue(&mut self, alloc: Global, lane: u32) -> Result<Option<Job>, NoMemory>
         ensures job { IfOk result (λ job. job ≡ model.issued_job (board_of self.old) lane) }
         ensures board { OnOk result (board_of self.new ≡ model.issued (board_of self.old) lane) }
@@ -131,7 +131,7 @@ impl Board {
     }
 
     /// Whether a job is out. It takes no memory.
-    #[tactic(auto, unfolding(crate::specs::Standing::board_of))]
+    #[tactic(auto, unfolding(crate::specs::BoardRefinement::board_of))]
     pub fn is_out(&self, number: u64) -> bool
         ensures { result ≡ model.is_out (board_of self.now) number }
     {
@@ -139,7 +139,7 @@ impl Board {
     }
 
     /// The list into whose partial file a job's answer goes, if the job is out and there is one. It takes no memory.
-    #[tactic(auto, unfolding(crate::specs::Standing::board_of))]
+    #[tactic(auto, unfolding(crate::specs::BoardRefinement::board_of))]
     pub fn stage(&self, number: u64) -> Option<&ListName>
         ensures { option_copied result ≡ model.staged_name (board_of self.now) number }
     {
@@ -154,7 +154,7 @@ impl Board {
     }
 
     /// The answer of a lane's method to a job comes in. `judge` says which heads of Releases may follow which.
-    #[tactic(auto, unfolding(crate::specs::Standing::board_of))]
+    #[tactic(auto, unfolding(crate::specs::BoardRefinement::board_of))]
     pub fn absorb(
         &mut self,
         alloc: Global,
@@ -179,7 +179,7 @@ impl Board {
     }
 
     /// The item of a number hears the answer to its job, which was out from a lane.
-    #[tactic(auto, unfolding(crate::specs::Standing::board_of))]
+    #[tactic(auto, unfolding(crate::specs::BoardRefinement::board_of))]
     fn take_in(
         &mut self,
         alloc: Global,
@@ -220,7 +220,7 @@ impl Board {
 
     /// The first source all whose items have ended and that isn't settled; `None` exactly where there is none. It takes no
     /// memory.
-    #[tactic(auto, unfolding(crate::specs::Standing::board_of))]
+    #[tactic(auto, unfolding(crate::specs::BoardRefinement::board_of))]
     pub fn ready(&self) -> Option<u32>
         ensures { result ≡ model.first_ready (board_of self.now).slots }
     {
@@ -228,7 +228,7 @@ impl Board {
     }
 
     /// What the source of `ready` comes to, and which of its files change for it. It is settled then.
-    #[tactic(auto, unfolding(crate::specs::Standing::board_of))]
+    #[tactic(auto, unfolding(crate::specs::BoardRefinement::board_of))]
     pub fn settle(&mut self, alloc: Global, source: u32) -> Result<Settled, NoMemory>
         requires { model.first_ready (board_of self.old).slots ≡ Some source }
         ensures settled { IfOk result (λ settled. model.settled_of (board_of self.old) source ≡ Some settled) }
@@ -250,7 +250,7 @@ impl Board {
     }
 
     /// Whether each source is settled. It takes no memory.
-    #[tactic(auto, unfolding(crate::specs::Standing::board_of))]
+    #[tactic(auto, unfolding(crate::specs::BoardRefinement::board_of))]
     pub fn finished(&self) -> bool
         ensures { result ≡ model.is_finished (board_of self.now) }
     {
@@ -259,7 +259,7 @@ impl Board {
 
     /// What a finished board tells: `verdicts` in plan order, `settled` in the order of the calls of `settle`, `asks` in
     /// the order of the answers. `removed` is empty. It takes no memory.
-    #[tactic(auto, unfolding(crate::specs::Standing::board_of))]
+    #[tactic(auto, unfolding(crate::specs::BoardRefinement::board_of))]
     pub fn into_log(self) -> RunLog
         requires { model.is_finished (board_of self) ≡ true }
         ensures { result ≡ model.log_of (board_of self) }
@@ -280,7 +280,7 @@ impl Board {
     }
 
     /// The sources of the plan, in order. It takes no memory.
-    #[tactic(auto, unfolding(crate::specs::Standing::board_of))]
+    #[tactic(auto, unfolding(crate::specs::BoardRefinement::board_of))]
     pub fn sources(&self) -> &[Source]
         ensures { result.now ≡ (board_of self.now).config.sources }
     {
@@ -295,7 +295,7 @@ impl Board {
     }
 
     /// What is asked under a number, if an item asks under it.
-    #[tactic(auto, unfolding(crate::specs::Standing::board_of))]
+    #[tactic(auto, unfolding(crate::specs::BoardRefinement::board_of))]
     fn ask(&self, number: u64) -> Option<&Ask>
         ensures { option_copied result ≡ option_map (λ (a : model.Asker). a.ask) (model.asker_of (board_of self.now) number) }
     {
@@ -304,7 +304,7 @@ impl Board {
     }
 
     /// Which item asks under a number, if one does.
-    #[tactic(auto, unfolding(crate::specs::Standing::board_of))]
+    #[tactic(auto, unfolding(crate::specs::BoardRefinement::board_of))]
     fn asker(&self, number: u64) -> Option<Key>
         ensures { result ≡ option_map (λ (a : model.Asker). a.key) (model.asker_of (board_of self.now) number) }
     {
@@ -316,7 +316,7 @@ impl Board {
     }
 
     /// The name of the list under a number, if an item asks under it and it is a list.
-    #[tactic(auto, unfolding(crate::specs::Standing::board_of))]
+    #[tactic(auto, unfolding(crate::specs::BoardRefinement::board_of))]
     fn name(&self, number: u64) -> Option<&ListName>
         ensures { option_copied result ≡ option_and_then (λ (a : model.Asker). name_at a.source a.key.place) (model.asker_of (board_of self.now) number) }
     {
