@@ -8,7 +8,7 @@ use Rattle.acq_base.specs.declared.fetch.Reply.TheVariants as replies
 use Rattle.acq_base.specs.declared.uri.Uri.{Uri}
 use Rattle.acq_outside.specs.declared.word.Fetch.{Fetch}
 use Rattle.acq_outside.specs.declared.word.Word.{Word}
-use Rattle.acq_outside.specs.declared.word.Word.TheVariants.{Piece, Done, Other, NoMemory}
+use Rattle.acq_outside.specs.declared.word.Word.TheVariants.{Piece, Done, Not, NoMemory}
 use Rattle.acq_outside.specs.Word.{CanBegin, IsWord}
 use Rattle.acq_base.specs.Mirror.{MirrorMap, answer_at}
 use Rattle.acq_net.specs.declared.link.Link.{Ghosts}
@@ -162,7 +162,7 @@ other_ends : (stays : Stays) (line later : Line) (r : Reading) (before : Talk) (
 other_ends stays line later r before given end reads same answer =
     let t = answer.tells in
     let x = t.heard in
-    let is : IsReply r.fetch.job.uri given x.ending x.body (replies.Not end) = ⊎_elim (λ (dry : replies.Not end ≡ replies.NoMemory). absurd (cc)) (λ (found : IsReply r.fetch.job.uri given x.ending x.body (replies.Not end)). found) answer.is in
+    let is : IsReply r.fetch.job.uri given x.ending x.body (replies.Not end) = ⊎_elim (λ (dry : replies.Not end ≡ replies.NoMemory). absurd cc) (λ (found : IsReply r.fetch.job.uri given x.ending x.body (replies.Not end)). found) answer.is in
     let shut : leaves_open x.ending ≡ false = not_open x.ending r.fetch.job.uri given x.body (replies.Not end) refl is in
     record {
       heard = followed x reads.rest;
@@ -238,11 +238,7 @@ last_told one stays till tells line later r reply same is over all says = record
 keeps_last : (one : OneReading) (stays : Stays) (till : StaysAtEnd) (line : Line) (job : Job) (before : Talk) (given : List ℕ) (at : ℕ) (reply : Reply) (keep : Bool) → CanBegin job
     → Hears line job before given (word_of at reply) (kept_if (is_file reply && keep) job.uri) None → IfSome (kept_if (is_file reply && keep) job.uri) (IsOpen line)
 keeps_last one stays till line job before given at (replies.Served bytes) keep can hears = ends_open one stays till line job before given (Done at) (kept_if keep job.uri) can hears
-keeps_last one stays till line job before given at (replies.Not (nots.Moved place)) keep can hears = tt
-keeps_last one stays till line job before given at (replies.Not (nots.Absent status)) keep can hears = tt
-keeps_last one stays till line job before given at (replies.Not nots.TooBig) keep can hears = tt
-keeps_last one stays till line job before given at (replies.Not (nots.Garbled place)) keep can hears = tt
-keeps_last one stays till line job before given at (replies.Not (nots.Fault a b)) keep can hears = tt
+keeps_last one stays till line job before given at (replies.Not end) keep can hears = tt
 keeps_last one stays till line job before given at replies.NoMemory keep can hears = tt
 
 last_keeps : (one : OneReading) (stays : Stays) (till : StaysAtEnd) (tells : AllTell) (line later : Line) (r : Reading) (reply : Reply) → later ≡ line → IsReading line r [] → wire_state r.wire ≢ states.More → (IsDone (wire_state r.wire) → held r.wire ≡ [])

@@ -13,7 +13,7 @@ use Rattle.acq_base.specs.declared.uri.Uri.{Uri}
 use Rattle.acq_base.specs.Mirror.{MirrorMap, answer_at}
 use Rattle.acq_outside.specs.declared.word.Fetch.{Fetch}
 use Rattle.acq_outside.specs.declared.word.Word.{Word}
-use Rattle.acq_outside.specs.declared.word.Word.TheVariants.{Piece, Done, Other, Not, NoMemory}
+use Rattle.acq_outside.specs.declared.word.Word.TheVariants.{Piece, Done, Not, NoMemory}
 use Rattle.acq_outside.specs.Word.{CanBegin, HasSize, IsPieceOf, IsWord, IsReplyOf}
 use Rattle.acq_net.specs.Due.{Due, HeardAnswer, HeardFile, Big, Short, Whole, owing}
 use Rattle.acq_net.specs.Talk.{Talk, is_none}
