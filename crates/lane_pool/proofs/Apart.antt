@@ -1,12 +1,12 @@
 -- The faults of a lane don't overlap.
 use Rattle.std.proofs.Common.{◌≡◌, ◌∙◌, ℕ, List, [], ◌∷◌, ◌++◌, Option, None, sym, refl, subst, arith}
-use Rattle.acq_base.specs.declared.fetch.Reply.{Reply}
+use Rattle.acq_base.specs.declared.fetch.NotServed.{NotServed}
 use Rattle.acq_base.specs.declared.fetch.NotServed.TheVariants as nots
 use Rattle.acq_base.specs.declared.fetch.Reply.TheVariants as replies
 use Rattle.acq_base.specs.Mirror.{MirrorMap}
 use Rattle.acq_outside.specs.declared.word.Fetch.{Fetch}
 use Rattle.acq_outside.specs.declared.word.Word.{Word}
-use Rattle.acq_outside.specs.declared.word.Word.TheVariants.{Piece, Done, Other, Not, NoMemory}
+use Rattle.acq_outside.specs.declared.word.Word.TheVariants.{Piece, Done, Not, NoMemory}
 use Rattle.acq_outside.specs.Count.{Rose}
 use Rattle.acq_outside.specs.Word.{IsSoundWord, IsOther}
 use Rattle.lane_pool.specs.Words.{count_after, IsHeard}
@@ -29,14 +29,14 @@ faults_apart world start count [] heard = heard
 faults_apart world start count (step ∷ steps) heard =
     one_word world start count step.0 step.1 (faults_of steps) heard.0 (faults_apart world (count_after start step.1) count steps heard.1)
 
-quiet_own : (before after : ℕ) (world : Option MirrorMap) (fetch : Fetch) (under : Option Fetch) (reply : Reply) → IsSoundWord (Other reply) → IsOther before after world fetch under reply → after ≡ before
-    → count_after before (Other reply) ≡ before → IsHeard before world fetch (Other reply) × (count_after before (Other reply) ≡ after)
-quiet_own before after world fetch under reply sound is still same = (
+quiet_own : (before after : ℕ) (world : Option MirrorMap) (fetch : Fetch) (under : Option Fetch) (end : NotServed) → IsSoundWord (Not end) → IsOther before after world fetch under (replies.Not end) → after ≡ before
+    → count_after before (Not end) ≡ before → IsHeard before world fetch (Not end) × (count_after before (Not end) ≡ after)
+quiet_own before after world fetch under end sound is still same = (
   record {
     before = before;
     in_order = omega arith;
     rises = omega arith;
-    says = subst (λ n. IsOther before n world fetch None reply) (still ∙ sym same) record { counted = is.counted; ended = refl; told = is.told };
+    says = subst (λ n. IsOther before n world fetch None (replies.Not end)) (still ∙ sym same) record { counted = is.counted; ended = refl; told = is.told };
     sound = sound;
   },
   same ∙ sym still,
@@ -68,8 +68,17 @@ own_heard before after world fetch under (Not (nots.Fault told_before told_after
       },
       c.1,
     )
-own_heard before after world fetch under (Not (nots.Moved place)) rises sound is = quiet_own before after world fetch under (replies.Not (nots.Moved place)) sound is is.counted refl
-own_heard before after world fetch under (Not (nots.Absent status)) rises sound is = quiet_own before after world fetch under (replies.Not (nots.Absent status)) sound is is.counted refl
-own_heard before after world fetch under (Not nots.TooBig) rises sound is = quiet_own before after world fetch under (replies.Not nots.TooBig) sound is is.counted refl
-own_heard before after world fetch under (Not (nots.Garbled at)) rises sound is = quiet_own before after world fetch under (replies.Not (nots.Garbled at)) sound is is.counted refl
-own_heard before after world fetch under NoMemory rises sound is = quiet_own before after world fetch under replies.NoMemory sound is is.counted refl
+own_heard before after world fetch under (Not (nots.Moved place)) rises sound is = quiet_own before after world fetch under (nots.Moved place) sound is is.counted refl
+own_heard before after world fetch under (Not (nots.Absent status)) rises sound is = quiet_own before after world fetch under (nots.Absent status) sound is is.counted refl
+own_heard before after world fetch under (Not nots.TooBig) rises sound is = quiet_own before after world fetch under nots.TooBig sound is is.counted refl
+own_heard before after world fetch under (Not (nots.Garbled at)) rises sound is = quiet_own before after world fetch under (nots.Garbled at) sound is is.counted refl
+own_heard before after world fetch under NoMemory rises sound is = (
+  record {
+    before = before;
+    in_order = omega arith;
+    rises = omega arith;
+    says = record { counted = refl; ended = refl; told = is.told };
+    sound = sound;
+  },
+  sym is.counted,
+)

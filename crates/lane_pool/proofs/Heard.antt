@@ -1,13 +1,14 @@
 -- From what a method says to what a worker sends, and from that to what the coordinator takes.
 use Rattle.std.proofs.Common.{◌≡◌, ◌∙◌, ℕ, ◌≤◌, true, true≢false, List, length, Option, Some, None, IfSome, IsSome, sym, refl, ap, subst, arith}
 use Rattle.acq_base.specs.declared.fetch.Job.{Job}
+use Rattle.acq_base.specs.declared.fetch.NotServed.{NotServed}
 use Rattle.acq_base.specs.declared.fetch.Reply.{Reply}
 use Rattle.acq_base.specs.declared.fetch.NotServed.TheVariants as nots
 use Rattle.acq_base.specs.declared.fetch.Reply.TheVariants as replies
 use Rattle.acq_base.specs.Mirror.{MirrorMap, answer_at}
 use Rattle.acq_outside.specs.declared.word.Fetch.{Fetch}
 use Rattle.acq_outside.specs.declared.word.Word.{Word}
-use Rattle.acq_outside.specs.declared.word.Word.TheVariants.{Piece, Done, Other, Not, NoMemory}
+use Rattle.acq_outside.specs.declared.word.Word.TheVariants.{Piece, Done, Not, NoMemory}
 use Rattle.acq_outside.specs.Count.{Rose}
 use Rattle.acq_outside.specs.Word.{IsWord, IsPiece, IsDone, IsOther, IsCounted, IsSoundWord, IsReplyOf, begun, further}
 use Rattle.lane_pool.specs.declared.rule.View.{View}
@@ -144,14 +145,14 @@ still_worker lane v w told world count job under before is next sent = record {
   below = let a = ap (λ (u : View). u.last) sent.then in let b = stays_below v.last count world job under told.word next in omega arith;
 }
 
-quiet : (last : ℕ) (world : Option MirrorMap) (fetch : Fetch) (job : Job) (reply : Reply) → IsWordTo world job (Other reply) → job ≡ fetch.job → count_after last (Other reply) ≡ last → IsCounted last last reply
-    → IsHeard last world fetch (Other reply)
-quiet last world fetch job reply is same still counted = record {
+quiet : (last : ℕ) (world : Option MirrorMap) (fetch : Fetch) (job : Job) (end : NotServed) → IsWordTo world job (Not end) → job ≡ fetch.job → count_after last (Not end) ≡ last → IsCounted last last (replies.Not end)
+    → IsHeard last world fetch (Not end)
+quiet last world fetch job end is same still counted = record {
   before = last;
   in_order = omega arith;
   rises = omega arith;
-  says = subst (λ n. IsOther last n world fetch None reply) (sym still)
-      (count_to is.before is.after last world fetch None reply counted (other_to is.before is.after world (fetch_at job (Other reply)) fetch _ reply same is.says));
+  says = subst (λ n. IsOther last n world fetch None (replies.Not end)) (sym still)
+      (count_to is.before is.after last world fetch None (replies.Not end) counted (other_to is.before is.after world (fetch_at job (Not end)) fetch _ (replies.Not end) same is.says));
   sound = is.sound;
 }
 
@@ -184,11 +185,17 @@ is_heard last world fetch job (Not (nots.Fault before after)) is same stands ord
       record { counted = (refl, refl, subst (λ (y : ℕ × ℕ). Rose y.0 y.1) (λ i. (sym c.0 i, sym c.1 i)) c.2); ended = refl; told = o.told };
   sound = is.sound;
 }
-is_heard last world fetch job (Not (nots.Moved place)) is same stands order = quiet last world fetch job (replies.Not (nots.Moved place)) is same refl refl
-is_heard last world fetch job (Not (nots.Absent status)) is same stands order = quiet last world fetch job (replies.Not (nots.Absent status)) is same refl refl
-is_heard last world fetch job (Not nots.TooBig) is same stands order = quiet last world fetch job (replies.Not nots.TooBig) is same refl refl
-is_heard last world fetch job (Not (nots.Garbled at)) is same stands order = quiet last world fetch job (replies.Not (nots.Garbled at)) is same refl refl
-is_heard last world fetch job NoMemory is same stands order = quiet last world fetch job replies.NoMemory is same refl refl
+is_heard last world fetch job (Not (nots.Moved place)) is same stands order = quiet last world fetch job (nots.Moved place) is same refl refl
+is_heard last world fetch job (Not (nots.Absent status)) is same stands order = quiet last world fetch job (nots.Absent status) is same refl refl
+is_heard last world fetch job (Not nots.TooBig) is same stands order = quiet last world fetch job nots.TooBig is same refl refl
+is_heard last world fetch job (Not (nots.Garbled at)) is same stands order = quiet last world fetch job (nots.Garbled at) is same refl refl
+is_heard last world fetch job NoMemory is same stands order = record {
+  before = last;
+  in_order = omega arith;
+  rises = omega arith;
+  says = count_to is.before is.after last world fetch None replies.NoMemory refl (other_to is.before is.after world (fetch_at job NoMemory) fetch _ replies.NoMemory same is.says);
+  sound = is.sound;
+}
 
 -- a fetch is under way exactly behind a piece
 pub is_under_way : (before after : ℕ) (world : Option MirrorMap) (fetch : Fetch) (under : Option Fetch) (word : Word) → IsWord before after world fetch under word → is_piece word ≡ true → IsSome under

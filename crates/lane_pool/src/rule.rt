@@ -35,9 +35,9 @@ impl Protocol<Told, View> for LaneRule {
 /// What a new lane begins with, picked by each call: the mirror that its method tells, and its method's count.
 pub trait Opening {
     ghost use Rattle.std.specs.Prelude.{ℕ, Option};
-    ghost use Rattle.acq_base.specs.Mirror.{World};
+    ghost use Rattle.acq_base.specs.Mirror.{MirrorMap};
 
-    ghost world: { Option World };
+    ghost world: { Option MirrorMap };
 
     ghost count: { ℕ };
 }

@@ -28,7 +28,7 @@ pub struct FetchOut {
 impl Model for FetchOut {
     ghost use Rattle.std.specs.Prelude.{◌≤◌, Option, vec_capacity};
     ghost use Rattle.acq_outside.specs.declared.word.Fetch.{Fetch as fetch_type};
-    ghost use Rattle.lane_pool.specs.FetchOut.{fetch_of};
+    ghost use Rattle.lane_pool.specs.Slot.{fetch_of};
 
     ghost Value = { Option fetch_type };
 
