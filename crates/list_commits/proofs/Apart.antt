@@ -1,5 +1,5 @@
 -- Lists of names, never two of which are one.
-use Rattle.std.proofs.Common.{◌≡◌, ◌≢◌, ◌⊎◌, ⊎_elim, refl, sym, arith, ℕ, suc, List, [], ◌∷◌, ◌++◌, Contains, AllPairs}
+use Rattle.std.proofs.Common.{◌≡◌, ◌≢◌, ⊎_elim, refl, sym, arith, ℕ, suc, List, [], ◌∷◌, ◌++◌, Contains, AllPairs}
 use Rattle.std.proofs.lemmas.List.Elements.{Contains-append_right}
 use Rattle.board_model.proofs.Making.{none-in}
 use Rattle.commit_journal.specs.Changes.{IsNone, AreApart}

@@ -130,11 +130,11 @@ answered retries left (note ∷ notes) quiet = by note.told.closed quiet.0 (answ
   where
     by : (answer : Closed) → IsQuiet (heard_of answer) → IsAnswered retries retries notes → AfterAnswer answer left (λ n. IsAnswered retries n notes) (IsAnswered retries retries notes)
     by (closed.Served body) q rest = rest
-    by (closed.Not (Not (Moved place))) q rest = rest
-    by (closed.Not (Not (Absent status))) q rest = rest
-    by (closed.Not (Not TooBig)) q rest = rest
-    by (closed.Not (Not (Garbled at))) q rest = rest
-    by (closed.Not (Not (Fault before after))) q rest = absurd q
+    by (closed.Not (Moved place)) q rest = rest
+    by (closed.Not (Absent status)) q rest = rest
+    by (closed.Not TooBig) q rest = rest
+    by (closed.Not (Garbled at)) q rest = rest
+    by (closed.Not (Fault before after)) q rest = absurd q
 
 none_is_dead : (retries : ℕ) (notes : List Note) → AreQuietNotes notes → NoneIsDead retries notes
 none_is_dead retries notes quiet = λ key. answered retries retries (of_key key notes) (quiet_of_key key notes quiet)

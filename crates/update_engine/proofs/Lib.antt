@@ -14,4 +14,3 @@ mod PutNames
 mod Over
 mod Stepping
 mod Known
-mod Known

@@ -12,9 +12,9 @@ pub returns-in_err-self-clause-retries : goal.returns-in_err-self-clause-retries
 unfolding retries_of
 returns-in_err-self-clause-retries c = refl
 
-pub returns-clause-point_after : goal.returns-clause-point_after
+pub returns-clause-step : goal.returns-clause-step
 unfolding point_of retries_of
-returns-clause-point_after c =
+returns-clause-step c =
     let told : LaneAnswer = record { lane = c.args.lane; closed = c.args.closed } in
     c.in_ok-self.ensures ∙ ap (λ (s : State). point_after c.args.self.now.retries (point_in s) told) c.replace-state.ensures.value
 
