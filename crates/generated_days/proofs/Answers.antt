@@ -10,17 +10,20 @@ use Rattle.update_model.specs.Trails.{IsFaultOr, LaneAnswer, answered}
 use Rattle.update_model.specs.declared.ask.Ask.{Ask}
 use Rattle.update_model.specs.declared.ask.Closed.{Closed}
 use Rattle.update_model.specs.declared.ask.Closed.TheVariants.{Served, Not}
+use Rattle.acq_base.specs.declared.fetch.NotServed.{NotServed}
 use Rattle.acq_base.specs.declared.fetch.NotServed.TheVariants.{Moved, Absent, TooBig, Garbled, Fault}
 
+abbrev pub IsNoFault : NotServed → Type 0
+IsNoFault (Fault before after) = ⊥
+IsNoFault end = Unit {0}
+
 abbrev pub NoFault : Closed → Type 0
-NoFault (Not (Fault from to)) = ⊥
-NoFault closed = Unit {0}
+NoFault (Served body) = Unit {0}
+NoFault (Not end) = IsNoFault end
 
 -- an answer to an item is a fault, or the mirror's
 abbrev pub Said : MirrorMap → List ℕ → Note → Type 0
 Said mirror part note = IsFaultOr note.told.closed (answered part note.ask (answer_at mirror note.ask.uri))
-
--- ---- where an answer leads
 
 -- ---- what an item heard
 

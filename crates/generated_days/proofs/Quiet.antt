@@ -7,7 +7,7 @@ use Rattle.board_model.specs.Keys.{same_key}
 use Rattle.board_model.specs.Runs.{Note}
 use Rattle.board_model.specs.Stands.{entries_of, of_key}
 use Rattle.board_model.specs.declared.key.Key.{Key}
-use Rattle.generated_days.proofs.Answers.{NoFault}
+use Rattle.generated_days.proofs.Answers.{IsNoFault, NoFault}
 use Rattle.run_jobs.specs.Counting.{CountsOn, CountsUp}
 use Rattle.update_engine.specs.Run.{FaultsRise, asks_of_lane}
 use Rattle.update_model.specs.Trails.{heard_of}
@@ -20,8 +20,8 @@ use Rattle.acq_base.specs.declared.fetch.NotServed.TheVariants.{Moved, Absent, T
 use Rattle.run_jobs.proofs.Telling.{counts_rise}
 
 abbrev pub IsQuietHeard : Heard → Type 0
-IsQuietHeard (Not (Fault before after)) = ⊥
-IsQuietHeard heard = Unit {0}
+IsQuietHeard (Served sum) = Unit {0}
+IsQuietHeard (Not end) = IsNoFault end
 
 -- ---- a log
 
@@ -59,11 +59,7 @@ quiet-asks asks faults = quiet-entries asks faults.lanes (none-told 0 (asks_of_l
 
 quiet-answer : (answer : Closed) → IsQuietHeard (heard_of answer) → NoFault answer
 quiet-answer (closed.Served body) quiet = tt
-quiet-answer (closed.Not (Not (Moved place))) quiet = tt
-quiet-answer (closed.Not (Not (Absent status))) quiet = tt
-quiet-answer (closed.Not (Not TooBig)) quiet = tt
-quiet-answer (closed.Not (Not (Garbled at))) quiet = tt
-quiet-answer (closed.Not (Not (Fault before after))) quiet = absurd quiet
+quiet-answer (closed.Not end) quiet = quiet
 
 pub quiet-notes : (notes : List Note) → Each (λ e. IsQuietHeard e.heard) (entries_of notes) → Each (λ note. NoFault note.told.closed) notes
 quiet-notes [] quiet = tt
@@ -83,11 +79,11 @@ answered retries left (note ∷ notes) quiet = by note.told.closed quiet.0 (answ
   where
     by : (answer : Closed) → NoFault answer → IsAnswered retries retries notes → AfterAnswer answer left (λ n. IsAnswered retries n notes) (IsAnswered retries retries notes)
     by (closed.Served body) q rest = rest
-    by (closed.Not (Not (Moved place))) q rest = rest
-    by (closed.Not (Not (Absent status))) q rest = rest
-    by (closed.Not (Not TooBig)) q rest = rest
-    by (closed.Not (Not (Garbled at))) q rest = rest
-    by (closed.Not (Not (Fault before after))) q rest = absurd q
+    by (closed.Not (Moved place)) q rest = rest
+    by (closed.Not (Absent status)) q rest = rest
+    by (closed.Not TooBig) q rest = rest
+    by (closed.Not (Garbled at)) q rest = rest
+    by (closed.Not (Fault before after)) q rest = absurd q
 
 pub none-dead : (retries : ℕ) (notes : List Note) → Each (λ note. NoFault note.told.closed) notes → NoneIsDead retries notes
 none-dead retries notes quiet = λ key. answered retries retries (of_key key notes) (quiet-key key notes quiet)
