@@ -18,7 +18,6 @@ use Rattle.update_model.specs.Walks.{release_walk, target_walk}
 use Rattle.update_model.specs.Wanted.{want}
 use Rattle.update_model.specs.declared.ask.Body.TheVariants.{Bytes, Staged}
 use Rattle.update_model.specs.declared.ask.Closed.{Closed as Answer_of}
-use Rattle.acq_base.specs.declared.fetch.NotServed.TheVariants as nots
 use Rattle.update_model.specs.declared.ask.Closed.TheVariants as answers
 use Rattle.update_model.specs.declared.log.Asked.{Asked}
 use Rattle.update_model.specs.declared.settled.Verdict2.{Verdict2}
@@ -123,11 +122,7 @@ release-few config n source heard logged =
     one : (closed : Answer_of) → Brings (λ bytes. Unit {0}) closed
     one (answers.Served (Bytes bytes)) = tt
     one (answers.Served (Staged sum)) = tt
-    one (answers.Not (nots.Moved place)) = tt
-    one (answers.Not (nots.Absent status)) = tt
-    one (answers.Not nots.TooBig) = tt
-    one (answers.Not (nots.Garbled at)) = tt
-    one (answers.Not (nots.Fault before after)) = tt
+    one (answers.Not end) = tt
 
     all : (notes : List Note) → Each (λ (t : LaneAnswer). Brings (λ bytes. Unit {0}) t.closed) (lane_answers notes)
     all [] = tt

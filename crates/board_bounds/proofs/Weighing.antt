@@ -254,11 +254,7 @@ list-weighs retries source path installed part w ts most few =
     one : (closed : Closed) → links_by installed w closed ≤ most → Brings (LinksWithin installed w most) closed
     one (Served (Bytes bytes)) h = h
     one (Served (Staged sum)) h = tt
-    one (Not (Moved place)) h = tt
-    one (Not (Absent status)) h = tt
-    one (Not TooBig) h = tt
-    one (Not (Garbled at)) h = tt
-    one (Not (Fault before after)) h = tt
+    one (Not end) h = tt
 
     all : (ts : List LaneAnswer) → Each (λ (t : LaneAnswer). links_by installed w t.closed ≤ most) ts → Each (λ (t : LaneAnswer). Brings (LinksWithin installed w most) t.closed) ts
     all [] h = tt

@@ -68,17 +68,17 @@ step-shows R retries ask left faults next t h = one t.closed faults
     ends : (closed : Closed) (e : Ending) → closing t.lane closed ≡ e → Shown R (record { lane = t.lane; closed = closed }) (start retries (next e))
     ends closed e is = start-shows R retries (record { lane = t.lane; closed = closed }) (next e) (subst (λ (x : Ending). LastIs R x (next e)) (sym is) (h e).0) (h e).1
 
-    follows : (l : ℕ) (to : Uri) (go : Bool) → Shown R (record { lane = t.lane; closed = (closings.Not (nots.Moved (Some to))) }) (lead retries ask left next (if go then On to else Stop Lost))
-    follows l to true = at-shows R (record { lane = t.lane; closed = (closings.Not (nots.Moved (Some to))) }) (record ask { uri = to }) (less left) retries next h
+    follows : (l : ℕ) (to : Uri) (go : Bool) → Shown R (record { lane = t.lane; closed = closings.Not (nots.Moved (Some to)) }) (lead retries ask left next (if go then On to else Stop Lost))
+    follows l to true = at-shows R (record { lane = t.lane; closed = closings.Not (nots.Moved (Some to)) }) (record ask { uri = to }) (less left) retries next h
     follows l to false = ends (closings.Not (nots.Moved (Some to))) Lost refl
 
-    goes : (l : ℕ) (to : Uri) → Shown R (record { lane = t.lane; closed = (closings.Not (nots.Moved (Some to))) }) (lead retries ask left next (moved l ask.uri to))
+    goes : (l : ℕ) (to : Uri) → Shown R (record { lane = t.lane; closed = closings.Not (nots.Moved (Some to)) }) (lead retries ask left next (moved l ask.uri to))
     goes zero to = ends (closings.Not (nots.Moved (Some to))) Lost refl
     goes (suc l) to = follows l to (may_move ask.uri.scheme to.scheme)
 
     one : (closed : Closed) (faults : ℕ) → Shown R (record { lane = t.lane; closed = closed }) (Leads left ask.uri t.lane closed faults (λ n. At ask left n next) (λ w. lead retries ask left next w))
     one (closings.Not (nots.Fault from to)) zero = ends (closings.Not (nots.Fault from to)) (Dead t.lane from to) refl
-    one (closings.Not (nots.Fault from to)) (suc n) = at-shows R (record { lane = t.lane; closed = (closings.Not (nots.Fault from to)) }) ask left n next h
+    one (closings.Not (nots.Fault from to)) (suc n) = at-shows R (record { lane = t.lane; closed = closings.Not (nots.Fault from to) }) ask left n next h
     one (closings.Served body) faults = ends (closings.Served body) (Served body) refl
     one (closings.Not (nots.Moved None)) faults = ends (closings.Not (nots.Moved None)) Lost refl
     one (closings.Not (nots.Moved (Some to))) faults = goes left to

@@ -63,11 +63,11 @@ step-sound retries (At ask left faults next) t h sound = led-sound retries ask l
 -- an answer without a fault before it, by which a trail ends so
 answer_for : Ending → LaneAnswer
 answer_for (endings.Served body) = record { lane = 0; closed = Served body }
-answer_for endings.TooBig = record { lane = 0; closed = (Not TooBig) }
-answer_for (endings.Absent status) = record { lane = 0; closed = (Not (Absent status)) }
-answer_for endings.Lost = record { lane = 0; closed = (Not (Moved None)) }
-answer_for (endings.Garbled at) = record { lane = 0; closed = (Not (Garbled at)) }
-answer_for (endings.Dead lane before after) = record { lane = lane; closed = (Not (Fault before after)) }
+answer_for endings.TooBig = record { lane = 0; closed = Not TooBig }
+answer_for (endings.Absent status) = record { lane = 0; closed = Not (Absent status) }
+answer_for endings.Lost = record { lane = 0; closed = Not (Moved None) }
+answer_for (endings.Garbled at) = record { lane = 0; closed = Not (Garbled at) }
+answer_for (endings.Dead lane before after) = record { lane = lane; closed = Not (Fault before after) }
 
 trail_for : Ask → Ending → Trail
 trail_for ask e = record { ask = ask; positions = record { uri = ask.uri; told = answer_for e ∷ [] } ∷ []; ending = e }

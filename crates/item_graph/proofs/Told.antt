@@ -142,15 +142,15 @@ in-front-at : (retries : ℕ) (ask : Ask) (left : ℕ) (next : Ending → Walk) 
     → TellsAt retries (At ask left faults next) (record { lane = lane; closed = closed } ∷ ts) end
 unfolding TellsAt
 in-front-at retries ask left next lane (Not (Fault from to)) zero ts end r =
-    answer retries ask left zero next (record { lane = lane; closed = (Not (Fault from to)) }) ts end (Stop (endings.Dead lane from to)) ⊥ (λ ps e g. (refl, g)) (λ h. absurd h) r
+    answer retries ask left zero next (record { lane = lane; closed = Not (Fault from to) }) ts end (Stop (endings.Dead lane from to)) ⊥ (λ ps e g. (refl, g)) (λ h. absurd h) r
 in-front-at retries ask left next lane (Not (Fault from to)) (suc n) ts end r = record {
-  here = record { lane = lane; closed = (Not (Fault from to)) } ∷ r.here;
+  here = record { lane = lane; closed = Not (Fault from to) } ∷ r.here;
   there = r.there;
   ending = r.ending;
   behind = r.behind;
   position = r.position;
   route = r.route;
-  told = λ source path. ap (λ es. entry source path ask (record { lane = lane; closed = (Not (Fault from to)) }) ∷ es) (r.told source path);
+  told = λ source path. ap (λ es. entry source path ask (record { lane = lane; closed = Not (Fault from to) }) ∷ es) (r.told source path);
   agrees = λ world part h. let a = r.agrees world part h.1 in ((h.0, a.0), a.1, a.2);
   lives = λ h. r.lives h.1;
 }
@@ -158,16 +158,16 @@ in-front-at retries ask left next lane (Served body) faults ts end r =
     let t : LaneAnswer = record { lane = lane; closed = Served body } in
     answer retries ask left faults next t ts end (way left ask.uri (Served body)) (LivesAt (At ask left faults next) t) (λ ps e g. (refl, g)) (λ h. tt) r
 in-front-at retries ask left next lane (Not (Moved place)) faults ts end r =
-    let t : LaneAnswer = record { lane = lane; closed = (Not (Moved place)) } in
+    let t : LaneAnswer = record { lane = lane; closed = Not (Moved place) } in
     answer retries ask left faults next t ts end (way left ask.uri (Not (Moved place))) (LivesAt (At ask left faults next) t) (λ ps e g. (refl, g)) (λ h. tt) r
 in-front-at retries ask left next lane (Not (Absent status)) faults ts end r =
-    let t : LaneAnswer = record { lane = lane; closed = (Not (Absent status)) } in
+    let t : LaneAnswer = record { lane = lane; closed = Not (Absent status) } in
     answer retries ask left faults next t ts end (way left ask.uri (Not (Absent status))) (LivesAt (At ask left faults next) t) (λ ps e g. (refl, g)) (λ h. tt) r
 in-front-at retries ask left next lane (Not TooBig) faults ts end r =
-    let t : LaneAnswer = record { lane = lane; closed = (Not TooBig) } in
+    let t : LaneAnswer = record { lane = lane; closed = Not TooBig } in
     answer retries ask left faults next t ts end (way left ask.uri (Not TooBig)) (LivesAt (At ask left faults next) t) (λ ps e g. (refl, g)) (λ h. tt) r
 in-front-at retries ask left next lane (Not (Garbled at)) faults ts end r =
-    let t : LaneAnswer = record { lane = lane; closed = (Not (Garbled at)) } in
+    let t : LaneAnswer = record { lane = lane; closed = Not (Garbled at) } in
     answer retries ask left faults next t ts end (way left ask.uri (Not (Garbled at))) (LivesAt (At ask left faults next) t) (λ ps e g. (refl, g)) (λ h. tt) r
 
 -- ---- all answers

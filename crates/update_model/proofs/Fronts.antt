@@ -69,19 +69,19 @@ in-front-at : (retries source : ℕ) (path : List ℕ) (ask : Ask) (left : ℕ) 
     → Completes retries source path (Leads left ask.uri lane closed faults (λ n. At ask left n next) (λ w. lead retries ask left next w)) rest end
     → Completes retries source path (At ask left faults next) (entry source path ask (record { lane = lane; closed = closed }) ∷ rest) end
 in-front-at retries source path ask left next lane (Not (Fault from to)) zero rest end c =
-    answer retries source path ask left zero next (record { lane = lane; closed = (Not (Fault from to)) }) rest end (Stop (endings.Dead lane from to)) (λ ps e g. (refl, g)) c
+    answer retries source path ask left zero next (record { lane = lane; closed = Not (Fault from to) }) rest end (Stop (endings.Dead lane from to)) (λ ps e g. (refl, g)) c
 in-front-at retries source path ask left next lane (Not (Fault from to)) (suc n) rest end c =
-    (record { lane = lane; closed = (Not (Fault from to)) } ∷ c.0, c.1, c.2, c.3, c.4, c.5, ap (λ r. entry source path ask (record { lane = lane; closed = (Not (Fault from to)) }) ∷ r) c.6)
+    (record { lane = lane; closed = Not (Fault from to) } ∷ c.0, c.1, c.2, c.3, c.4, c.5, ap (λ r. entry source path ask (record { lane = lane; closed = Not (Fault from to) }) ∷ r) c.6)
 in-front-at retries source path ask left next lane (Served body) faults rest end c =
     answer retries source path ask left faults next (record { lane = lane; closed = Served body }) rest end (way left ask.uri (Served body)) (λ ps e g. (refl, g)) c
 in-front-at retries source path ask left next lane (Not (Moved place)) faults rest end c =
-    answer retries source path ask left faults next (record { lane = lane; closed = (Not (Moved place)) }) rest end (way left ask.uri (Not (Moved place))) (λ ps e g. (refl, g)) c
+    answer retries source path ask left faults next (record { lane = lane; closed = Not (Moved place) }) rest end (way left ask.uri (Not (Moved place))) (λ ps e g. (refl, g)) c
 in-front-at retries source path ask left next lane (Not (Absent status)) faults rest end c =
-    answer retries source path ask left faults next (record { lane = lane; closed = (Not (Absent status)) }) rest end (way left ask.uri (Not (Absent status))) (λ ps e g. (refl, g)) c
+    answer retries source path ask left faults next (record { lane = lane; closed = Not (Absent status) }) rest end (way left ask.uri (Not (Absent status))) (λ ps e g. (refl, g)) c
 in-front-at retries source path ask left next lane (Not TooBig) faults rest end c =
-    answer retries source path ask left faults next (record { lane = lane; closed = (Not TooBig) }) rest end (way left ask.uri (Not TooBig)) (λ ps e g. (refl, g)) c
+    answer retries source path ask left faults next (record { lane = lane; closed = Not TooBig }) rest end (way left ask.uri (Not TooBig)) (λ ps e g. (refl, g)) c
 in-front-at retries source path ask left next lane (Not (Garbled at)) faults rest end c =
-    answer retries source path ask left faults next (record { lane = lane; closed = (Not (Garbled at)) }) rest end (way left ask.uri (Not (Garbled at))) (λ ps e g. (refl, g)) c
+    answer retries source path ask left faults next (record { lane = lane; closed = Not (Garbled at) }) rest end (way left ask.uri (Not (Garbled at))) (λ ps e g. (refl, g)) c
 
 in-front : (retries source : ℕ) (path : List ℕ) (p : Point) (t : LaneAnswer) (rest : List Asked) (end : End)
     → Completes retries source path (point_after retries p t) rest end → Completes retries source path p (entry_at source path p t ++ rest) end
@@ -100,7 +100,7 @@ all-in-front retries source path p (t ∷ ts) rest end c =
 completed : (retries source : ℕ) (path : List ℕ) (p : Point) → (rest : List Asked) × (end : End) × Completes retries source path p rest end × AsksFirst p rest end
 completed retries source path (Over last) = ([], last, (refl, refl), (refl, refl))
 completed retries source path (At ask left faults next) =
-    let t : LaneAnswer = record { lane = 0; closed = (Not (Absent 404)) } in
+    let t : LaneAnswer = record { lane = 0; closed = Not (Absent 404) } in
     let w : Walk = next (endings.Absent 404) in
     let h : List Trail = trails_over [] [] w in (
       entry source path ask t ∷ entries source path h,

@@ -148,7 +148,7 @@ retried : (s : Sum) → same_sum s (sum_as 3 (171 ∷ [])) ≡ true
     → IsRoute 1 (target_walk None 0 (list false (171 ∷ [])))
     (record {
       ask = list_ask list_uri (list false (171 ∷ [])) 0;
-      positions = record { uri = list_uri; told = record { lane = 0; closed = (closed.Not (nots.Fault 0 1)) } ∷ record { lane = 0; closed = closed.Served (Staged s) } ∷ [] } ∷ [];
+      positions = record { uri = list_uri; told = record { lane = 0; closed = closed.Not (nots.Fault 0 1) } ∷ record { lane = 0; closed = closed.Served (Staged s) } ∷ [] } ∷ [];
       ending = endings.Served (Staged s);
     } ∷ [])
     (Got (Staged s))
@@ -158,7 +158,7 @@ retried s has = (refl, (refl, (refl, (refl, refl))), rw has (refl, refl))
 -- Where nothing answers under the digest, the list's own URI is asked, and the list is had.
 abbrev own_trails : Sum → List Trail
 own_trails s =
-    record { ask = list_ask hashed_uri (list true (171 ∷ [])) 0; positions = record { uri = hashed_uri; told = record { lane = 0; closed = (closed.Not (nots.Fault 0 1)) } ∷ [] } ∷ []; ending = endings.Dead 0 0 1 }
+    record { ask = list_ask hashed_uri (list true (171 ∷ [])) 0; positions = record { uri = hashed_uri; told = record { lane = 0; closed = closed.Not (nots.Fault 0 1) } ∷ [] } ∷ []; ending = endings.Dead 0 0 1 }
     ∷ record { ask = list_ask list_uri (list true (171 ∷ [])) 0; positions = heard (closed.Served (Staged s)) ∷ []; ending = endings.Served (Staged s) } ∷ []
 
 own_uri : (s : Sum) → same_sum s (sum_as 3 (171 ∷ [])) ≡ true → IsRoute 0 (target_walk None 0 (list true (171 ∷ []))) (own_trails s) (Got (Staged s))

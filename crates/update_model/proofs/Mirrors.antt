@@ -27,8 +27,8 @@ no-fault : (part : List ℕ) (ask : Ask) (a : Answer) → NoFault (answered part
 no-fault part ask (answers.Absent status) = tt
 no-fault part ask (answers.Moved place) = tt
 no-fault part ask (answers.Served bytes) =
-    elim (nat_le (length bytes) ask.max) as (λ b. NoFault (if b then (if nat_lt 0 ask.from && nat_le (length bytes) ask.from then (Not (Absent 416)) else Served (body_for ask.stage (take ask.from part ++ drop ask.from bytes))) else (Not TooBig))) [
-      | true ↦ elim (nat_lt 0 ask.from && nat_le (length bytes) ask.from) as (λ c. NoFault (if c then (Not (Absent 416)) else Served (body_for ask.stage (take ask.from part ++ drop ask.from bytes)))) [ true ↦ tt | false ↦ tt ]
+    elim (nat_le (length bytes) ask.max) as (λ b. NoFault (if b then (if nat_lt 0 ask.from && nat_le (length bytes) ask.from then Not (Absent 416) else Served (body_for ask.stage (take ask.from part ++ drop ask.from bytes))) else Not TooBig)) [
+      | true ↦ elim (nat_lt 0 ask.from && nat_le (length bytes) ask.from) as (λ c. NoFault (if c then Not (Absent 416) else Served (body_for ask.stage (take ask.from part ++ drop ask.from bytes)))) [ true ↦ tt | false ↦ tt ]
       | false ↦ tt
     ]
 

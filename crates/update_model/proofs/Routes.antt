@@ -47,10 +47,10 @@ way-answered part ask (suc left) uri (answers.Moved (Some to)) =
     elim (may_move uri.scheme to.scheme) as (λ b. (if b then On to else Stop endings.Lost) ≡ seen_way part ask (if b then On to else Stop endings.Lost)) [ true ↦ refl | false ↦ refl ]
 way-answered part ask left uri (answers.Served bytes) =
     elim (nat_le (length bytes) ask.max) as (λ b.
-    way left uri (if b then (if nat_lt 0 ask.from && nat_le (length bytes) ask.from then (Not (Absent 416)) else Served (body_for ask.stage (take ask.from part ++ drop ask.from bytes))) else (Not TooBig))
-    ≡ seen_way part ask (way left uri (if b then Served (Bytes bytes) else (Not TooBig)))) [
+    way left uri (if b then (if nat_lt 0 ask.from && nat_le (length bytes) ask.from then Not (Absent 416) else Served (body_for ask.stage (take ask.from part ++ drop ask.from bytes))) else Not TooBig)
+    ≡ seen_way part ask (way left uri (if b then Served (Bytes bytes) else Not TooBig))) [
       | true ↦ elim (nat_lt 0 ask.from && nat_le (length bytes) ask.from) as (λ c.
-          way left uri (if c then (Not (Absent 416)) else Served (body_for ask.stage (take ask.from part ++ drop ask.from bytes)))
+          way left uri (if c then Not (Absent 416) else Served (body_for ask.stage (take ask.from part ++ drop ask.from bytes)))
           ≡ Stop (if c then endings.Absent 416 else endings.Served (body_for ask.stage (take ask.from part ++ drop ask.from bytes))))
           [ true ↦ refl | false ↦ refl ]
       | false ↦ refl
@@ -142,7 +142,7 @@ way-plain left uri max (answers.Absent status) = tt
 way-plain left uri max (answers.Moved None) = tt
 way-plain zero uri max (answers.Moved (Some to)) = tt
 way-plain (suc left) uri max (answers.Moved (Some to)) = elim (may_move uri.scheme to.scheme) as (λ b. PlainWay (if b then On to else Stop endings.Lost)) [ true ↦ tt | false ↦ tt ]
-way-plain left uri max (answers.Served bytes) = elim (nat_le (length bytes) max) as (λ b. PlainWay (way left uri (if b then Served (Bytes bytes) else (Not TooBig)))) [ true ↦ tt | false ↦ tt ]
+way-plain left uri max (answers.Served bytes) = elim (nat_le (length bytes) max) as (λ b. PlainWay (way left uri (if b then Served (Bytes bytes) else Not TooBig))) [ true ↦ tt | false ↦ tt ]
 
 followed-plain : (w : Way) (there : Uri → Ending) → PlainWay w → ((to : Uri) → Plain (there to)) → Plain (followed w there)
 followed-plain (On to) there p h = h to

@@ -98,7 +98,7 @@ bad_frame : (b : List ℕ) (line : ℕ) (now : ℤ) → release_of b ≡ Err (Ba
 bad_frame b line now is = rw is refl
 
 abbrev fault : ℕ → LaneAnswer
-fault n = record { lane = 0; closed = (closed.Not (nots.Fault n (n + 1))) }
+fault n = record { lane = 0; closed = closed.Not (nots.Fault n (n + 1)) }
 
 -- two faults with one retry: no other file may stand in for an answer that never came
 dead_in_release : IsRoute 1 (release_walk source)
@@ -110,7 +110,7 @@ dead_in_release = (refl, (refl, (refl, (refl, refl))), (refl, refl))
 abbrev AsksRelease : Closed → Ending → Type 0
 AsksRelease said ending = IsRoute 1 (release_walk source)
     (record { ask = whole_ask in_release 16777216; positions = record { uri = in_release; told = record { lane = 0; closed = said } ∷ [] } ∷ []; ending = ending }
-    ∷ record { ask = whole_ask source.release 16777216; positions = record { uri = source.release; told = record { lane = 0; closed = (closed.Not (nots.Absent 403)) } ∷ [] } ∷ []; ending = endings.Absent 403 } ∷ [])
+    ∷ record { ask = whole_ask source.release 16777216; positions = record { uri = source.release; told = record { lane = 0; closed = closed.Not (nots.Absent 403) } ∷ [] } ∷ []; ending = endings.Absent 403 } ∷ [])
     (Ended (causes.NoRelease 403))
 
 absent_in_release : AsksRelease (closed.Not (nots.Absent 404)) (endings.Absent 404)

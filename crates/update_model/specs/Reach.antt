@@ -45,7 +45,7 @@ followed (Stop ending) from_there = ending
 
 -- a mirror's answer, in which a file may have `max` bytes
 abbrev pub within : ℕ → Answer → Closed
-within max (answers.Served bytes) = if nat_le (length bytes) max then Served (Bytes bytes) else (Not TooBig)
+within max (answers.Served bytes) = if nat_le (length bytes) max then Served (Bytes bytes) else Not TooBig
 within max (answers.Moved place) = Not (Moved place)
 within max (answers.Absent status) = Not (Absent status)
 

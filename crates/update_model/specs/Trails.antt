@@ -80,9 +80,9 @@ abbrev pub answered : List ℕ → Ask → Answer → Closed
 answered part ask (answers.Served bytes) =
     if nat_le (length bytes) ask.max
     then (if nat_lt 0 ask.from && nat_le (length bytes) ask.from
-    then (Not (Absent 416))
+    then Not (Absent 416)
     else Served (body_for ask.stage (take ask.from part ++ drop ask.from bytes)))
-    else (Not TooBig)
+    else Not TooBig
 answered part ask (answers.Moved place) = Not (Moved place)
 answered part ask (answers.Absent status) = Not (Absent status)
 
