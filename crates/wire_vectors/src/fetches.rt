@@ -4,7 +4,7 @@ ghost use Rattle.acq_base.specs.Uri.{IsSound};
 ghost use Rattle.acq_outside.specs.Word.{CanBegin};
 
 use crate::cases::{Argument, Refused, Step};
-use crate::shown::{append_bytes, append_reply};
+use crate::shown::{append_bytes, append_not_served, append_reply};
 use acq_base::Job;
 use acq_outside::{Method, Word};
 use std::alloc::Global;
@@ -138,7 +138,8 @@ fn append_word(line: &mut String, word: &Word) -> Result<(), Refused> {
     match word {
         Word::Piece { at, bytes } => append_piece(line, *at, bytes.as_slice()),
         Word::Done { size } => Ok(write!(line, " ={size}")?),
-        Word::Other(reply) => append_reply(line, reply),
+        Word::Not(end) => append_not_served(line, end),
+        Word::NoMemory => Err(Refused::NoMemory),
     }
 }
 

@@ -33,18 +33,21 @@ pub fn append_named(line: &mut String, word: &str, bytes: &[u8]) -> Result<(), R
 /// Appends a reply.
 pub fn append_reply(line: &mut String, reply: &Reply) -> Result<(), Refused> {
     match reply {
-        Reply::Served(bytes) => append_named(line, " served ", bytes.as_slice())?,
-        Reply::Not(NotServed::Moved(Some(uri))) => append_named(
-            line,
-            " moved ",
-            uri.path.as_bytes(),
-        )?,
-        Reply::Not(NotServed::Moved(None)) => line.push_str(" moved nowhere")?,
-        Reply::Not(NotServed::Absent(status)) => write!(line, " absent {status}")?,
-        Reply::Not(NotServed::TooBig) => line.push_str(" too big")?,
-        Reply::Not(NotServed::Garbled(at)) => write!(line, " garbled {at}")?,
-        Reply::Not(NotServed::Fault { before, after }) => write!(line, " fault {before} {after}")?,
-        Reply::NoMemory => return Err(Refused::NoMemory),
+        Reply::Served(bytes) => append_named(line, " served ", bytes.as_slice()),
+        Reply::Not(end) => append_not_served(line, end),
+        Reply::NoMemory => Err(Refused::NoMemory),
+    }
+}
+
+/// Appends what came where no file was served.
+pub fn append_not_served(line: &mut String, end: &NotServed) -> Result<(), Refused> {
+    match end {
+        NotServed::Moved(Some(uri)) => append_named(line, " moved ", uri.path.as_bytes())?,
+        NotServed::Moved(None) => line.push_str(" moved nowhere")?,
+        NotServed::Absent(status) => write!(line, " absent {status}")?,
+        NotServed::TooBig => line.push_str(" too big")?,
+        NotServed::Garbled(at) => write!(line, " garbled {at}")?,
+        NotServed::Fault { before, after } => write!(line, " fault {before} {after}")?,
     }
     Ok(())
 }
