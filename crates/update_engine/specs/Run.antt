@@ -1,5 +1,5 @@
 -- What is asked of a run, and what it promises.
-use Rattle.std.specs.Prelude.{◌≡◌, ◌≢◌, ◌⊎◌, ℕ, ℤ, ◌<◌, ◌≤◌, ◌-◌, ◌^◌, ◌==◌, Bool, true, false, Contains, IfSome, List, [], ◌∷◌, filter, length, map, slice_get, take, Option, Some, None, Result, Err}
+use Rattle.std.specs.Prelude.{◌≡◌, ◌≢◌, ◌⊎◌, ℕ, ℤ, ◌<◌, ◌≤◌, ◌-◌, ◌^◌, ◌==◌, Bool, true, false, Contains, IfOk, IfSome, IsTrue, List, [], ◌∷◌, filter, length, map, slice_get, take, Option, Some, None, Result, Err}
 use Rattle.std.specs.List.{flat_map, AllByRecursion as Each}
 use Rattle.acq_base.specs.Mirror.{MirrorMap}
 use Rattle.acq_base.specs.declared.plan.Plan.{Plan}
@@ -13,7 +13,7 @@ use Rattle.board_model.specs.Agreeing.{Agrees}
 use Rattle.board_model.specs.Boards.{Board, is_finished}
 use Rattle.board_model.specs.Reached.{Reached}
 use Rattle.board_model.specs.Runs.{Note}
-use Rattle.commit_journal.specs.Opening.{IsOfOpening, KeepsFilesBut, Recovers}
+use Rattle.commit_journal.specs.Opening.{IsOfOpening, KeepsFilesBut, Recovers, damage_of}
 use Rattle.commit_journal.specs.Runs.{CommitProgress}
 use Rattle.journal_model.specs.Names.{journal}
 use Rattle.journal_model.specs.Reopen.{installed_now}
@@ -171,3 +171,13 @@ pub record LogIsTrue (run : Run) (before after : Engine) (log : RunLog) : Type 0
   pub answers : IsTold after.trace → ForMirror before.mirrors (λ mirror. Agrees mirror begun.parts begun.config.sources heard)
   pub faults : FaultsRise before.faults after.faults log.asks
   pub commits : ToldAs IsSynced before.trace → HasFinished run begun heard before.trace after.trace log
+
+-- What a run answers, and what it does to the outside: a journal that can't be read changes no file, damage is told just
+-- where it is there, a log has a verdict for each source and is true, and a crash at any moment leaves whole commits.
+pub record Runs {D M : Type 0} (d : Disks D) (m : Methods M) (run : Run) (old new : D) (asked answered : List M)
+    (result : Result RunLog RunError) : Type 0 where
+  pub unchanged : (at : ℕ) → result ≡ Err (BadJournal at) → d.files new ≡ d.files old
+  pub damage : IsTrue (d.tells old) → FindsDamage (damage_of (d.files old)) result
+  pub verdicts : IfOk result (λ log. length log.verdicts ≡ length run.plan.sources)
+  pub log : IfOk result (LogIsTrue run (engine d m old asked) (engine d m new answered))
+  pub crash : SurvivesCrash run (engine d m old asked) (engine d m new answered)

@@ -1,10 +1,9 @@
 //! A run.
-ghost use Rattle.std.specs.Prelude.{◌≡◌, ◌≤◌, ◌∷◌, ℕ, Err, List, IfOk, IsTrue, length, vec_len};
+ghost use Rattle.std.specs.Prelude.{◌≤◌, ◌∷◌, List, vec_len};
 ghost use Rattle.acq_base.specs.Plan.{IsSound};
 ghost use Rattle.acq_outside.specs.Fetches.{Fetches};
 ghost use Rattle.acq_outside.specs.Stays.{StaysCounting};
-ghost use Rattle.commit_journal.specs.Opening.{damage_of};
-ghost use Rattle.update_engine.specs.Run.{FindsDamage, KeepsMethods, LogIsTrue, SurvivesCrash, engine, run_of};
+ghost use Rattle.update_engine.specs.Run.{KeepsMethods, Runs, engine, run_of};
 
 use crate::beginning::begin_run;
 use crate::ending::end_run;
@@ -38,15 +37,8 @@ pub fn run_update<D: Disk, M: Method>(
 
     ensures frame { StaysCounting RunError.DiskFault D.Disk disk.old disk.new result }
     ensures methods { KeepsMethods (engine D.Disk M.Method disk.old methods.old.items) (engine D.Disk M.Method disk.new methods.new.items) }
-    ensures unchanged { (at : ℕ) → result ≡ Err (RunError.BadJournal at) → D.files disk.new ≡ D.files disk.old }
-
-    ensures damage { IsTrue (D.tells disk.old) → FindsDamage (damage_of (D.files disk.old)) result }
-    ensures verdicts { IfOk result (λ log. length log.verdicts ≡ length plan.sources) }
-    ensures log { IfOk result (LogIsTrue (run_of plan settings judge.now.change now together)
-        (engine D.Disk M.Method disk.old methods.old.items) (engine D.Disk M.Method disk.new methods.new.items)) }
-
-    ensures crash { SurvivesCrash (run_of plan settings judge.now.change now together)
-        (engine D.Disk M.Method disk.old methods.old.items) (engine D.Disk M.Method disk.new methods.new.items) }
+    ensures run { Runs D.Disk M.Method (run_of plan settings judge.now.change now together)
+        disk.old disk.new methods.old.items methods.new.items result }
 {
     let method = &mut methods.as_mut_slice()[0];
     run_over(alloc, plan, settings, now, together, disk, method, judge)
@@ -67,15 +59,8 @@ fn run_over<D: Disk, M: Method>(
 
     ensures frame { StaysCounting RunError.DiskFault D.Disk disk.old disk.new result }
     ensures method { Fetches M.Method method.old method.new }
-    ensures unchanged { (at : ℕ) → result ≡ Err (RunError.BadJournal at) → D.files disk.new ≡ D.files disk.old }
-
-    ensures damage { IsTrue (D.tells disk.old) → FindsDamage (damage_of (D.files disk.old)) result }
-    ensures verdicts { IfOk result (λ log. length log.verdicts ≡ length plan.sources) }
-    ensures log { (others : List M) → IfOk result (LogIsTrue (run_of plan settings judge.now.change now together)
-        (engine D.Disk M.Method disk.old (method.old ∷ others)) (engine D.Disk M.Method disk.new (method.new ∷ others))) }
-
-    ensures crash { (others : List M) → SurvivesCrash (run_of plan settings judge.now.change now together)
-        (engine D.Disk M.Method disk.old (method.old ∷ others)) (engine D.Disk M.Method disk.new (method.new ∷ others)) }
+    ensures run { (others : List M) → Runs D.Disk M.Method (run_of plan settings judge.now.change now together)
+        disk.old disk.new (method.old ∷ others) (method.new ∷ others) result }
 {
     let cleanup = settings.cleanup;
     let mut journal = open_journal(alloc, disk)?;

@@ -1,4 +1,4 @@
-use Rattle.std.proofs.Common.{◌≡◌, ◌∙◌, ◌≤◌, ℕ, ℤ, w64, arith, refl, subst, sym, List}
+use Rattle.std.proofs.Common.{rules, ◌≡◌, ◌∙◌, ◌≤◌, ℕ, ℤ, w64, arith, refl, subst, sym, List}
 use Rattle.std.proofs.lemmas.Int.{to_z-of_z}
 use Rattle.acq_outside.specs.Crash.{State}
 use Rattle.update_core.specs.BoardRefinement.{board_of}
@@ -25,46 +25,67 @@ pub end_run-requires-clause-stands : goal.end_run-requires-clause-stands
 end_run-requires-clause-stands g c = far_stands _ _ _ (board_of c.in_ok-board.board) (board_of c.ask_until_done.new.board) _ _
     (starts_ready _ _ _ _ _ (board_of c.in_ok-board.board) (c.in_ok-board.ensures.starts c.args.together) c.begin_run.ensures.frame.still c.in_ok-journal.ensures.opens.idle) c.in_ok-ask_until_done.ensures.goes c.in_ok-ask_until_done.ensures.idle
 
-pub returns-in_err-journal-clause-crash : goal.returns-in_err-journal-clause-crash
-returns-in_err-journal-clause-crash g c = λ others. stays_unopened _ _ _ _ c.open_journal.ensures.opens.recovers c.open_journal.ensures.settled refl
+pub returns-in_err-journal-clause-run : goal.returns-in_err-journal-clause-run
+returns-in_err-journal-clause-run g c = λ others. record {
+  unchanged = search rules;
+  damage = search rules;
+  verdicts = search rules;
+  log = search rules;
+  crash = stays_unopened _ _ _ _ c.open_journal.ensures.opens.recovers c.open_journal.ensures.settled refl;
+}
 
-pub returns-in_err-board-clause-crash : goal.returns-in_err-board-clause-crash
-returns-in_err-board-clause-crash g c = λ others. stays_unopened _ _ _ _ c.open_journal.ensures.opens.recovers c.open_journal.ensures.settled c.begin_run.ensures.frame.still
+pub returns-in_err-board-clause-run : goal.returns-in_err-board-clause-run
+returns-in_err-board-clause-run g c = λ others. record {
+  unchanged = search rules;
+  damage = search rules;
+  verdicts = search rules;
+  log = search rules;
+  crash = stays_unopened _ _ _ _ c.open_journal.ensures.opens.recovers c.open_journal.ensures.settled c.begin_run.ensures.frame.still;
+}
 
-pub returns-in_err-ask_until_done-clause-crash : goal.returns-in_err-ask_until_done-clause-crash
-returns-in_err-ask_until_done-clause-crash g c = λ others. safe_asking commits_known (run_of c.args.plan c.args.settings c.args.judge.now.change c.args.now c.args.together)
-    _ _ _ _ _ _ _ _ _ _ (board_of c.in_ok-board.board)
-    (is_open (g.D.Disk.tells c.args.disk.now) (g.D.Disk.files c.args.disk.now) _ _ _ (g.met.D.Disk.shown c.args.disk.now) c.open_journal.ensures.opens.recovers c.open_journal.ensures.opens.others c.in_ok-journal.ensures.rests c.in_ok-journal.ensures.opens.idle c.begin_run.ensures.frame.still)
-    (starts_there (λ (z : ℤ). run_of c.args.plan c.args.settings c.args.judge.now.change z c.args.together) _ _ _ _ (board_of c.in_ok-board.board) (to_z-of_z w64 c.args.now c.ranges.now) c.begin_run.ensures.frame.still (c.in_ok-board.ensures.starts c.args.together))
-    (still_told _ _ _ _ _ _ (g.met.D.Disk.shown c.args.disk.now) (g.met.D.Disk.shown c.ask_until_done.new.disk) (c.ask_until_done.ensures.frame.telling ∙ (c.begin_run.ensures.frame.telling ∙ c.open_journal.ensures.frame.telling)))
-    c.in_err-ask_until_done.ensures.stops c.ask_until_done.ensures.bare
+pub returns-in_err-ask_until_done-clause-run : goal.returns-in_err-ask_until_done-clause-run
+returns-in_err-ask_until_done-clause-run g c = λ others. record {
+  unchanged = search rules;
+  damage = search rules;
+  verdicts = search rules;
+  log = search rules;
+  crash = safe_asking commits_known (run_of c.args.plan c.args.settings c.args.judge.now.change c.args.now c.args.together)
+      _ _ _ _ _ _ _ _ _ _ (board_of c.in_ok-board.board)
+      (is_open (g.D.Disk.tells c.args.disk.now) (g.D.Disk.files c.args.disk.now) _ _ _ (g.met.D.Disk.shown c.args.disk.now) c.open_journal.ensures.opens.recovers c.open_journal.ensures.opens.others c.in_ok-journal.ensures.rests c.in_ok-journal.ensures.opens.idle c.begin_run.ensures.frame.still)
+      (starts_there (λ (z : ℤ). run_of c.args.plan c.args.settings c.args.judge.now.change z c.args.together) _ _ _ _ (board_of c.in_ok-board.board) (to_z-of_z w64 c.args.now c.ranges.now) c.begin_run.ensures.frame.still (c.in_ok-board.ensures.starts c.args.together))
+      (still_told _ _ _ _ _ _ (g.met.D.Disk.shown c.args.disk.now) (g.met.D.Disk.shown c.ask_until_done.new.disk) (c.ask_until_done.ensures.frame.telling ∙ (c.begin_run.ensures.frame.telling ∙ c.open_journal.ensures.frame.telling)))
+      c.in_err-ask_until_done.ensures.stops c.ask_until_done.ensures.bare;
+}
 
-pub returns-in_err-log-clause-crash : goal.returns-in_err-log-clause-crash
-returns-in_err-log-clause-crash g c = λ others. safe_ending (run_of c.args.plan c.args.settings c.args.judge.now.change c.args.now c.args.together) _ _ _ _ _ _ _ _ _ _ _ _ (board_of c.in_ok-board.board) (board_of c.ask_until_done.new.board) c.args.settings.cleanup
-    (is_open (g.D.Disk.tells c.args.disk.now) (g.D.Disk.files c.args.disk.now) _ _ _ (g.met.D.Disk.shown c.args.disk.now) c.open_journal.ensures.opens.recovers c.open_journal.ensures.opens.others c.in_ok-journal.ensures.rests c.in_ok-journal.ensures.opens.idle c.begin_run.ensures.frame.still)
-    (starts_there (λ (z : ℤ). run_of c.args.plan c.args.settings c.args.judge.now.change z c.args.together) _ _ _ _ (board_of c.in_ok-board.board) (to_z-of_z w64 c.args.now c.ranges.now) c.begin_run.ensures.frame.still (c.in_ok-board.ensures.starts c.args.together))
-    (still_told _ _ _ _ _ _ (g.met.D.Disk.shown c.args.disk.now) (g.met.D.Disk.shown c.end_run.new.disk) (c.end_run.ensures.frame.telling ∙ (c.ask_until_done.ensures.frame.telling ∙ (c.begin_run.ensures.frame.telling ∙ c.open_journal.ensures.frame.telling))))
-    refl c.in_ok-ask_until_done.ensures.goes c.in_ok-ask_until_done.ensures.unsettled c.in_err-log.ensures.stops
+pub returns-in_err-log-clause-run : goal.returns-in_err-log-clause-run
+returns-in_err-log-clause-run g c = λ others. record {
+  unchanged = search rules;
+  damage = search rules;
+  verdicts = search rules;
+  log = search rules;
+  crash = safe_ending (run_of c.args.plan c.args.settings c.args.judge.now.change c.args.now c.args.together) _ _ _ _ _ _ _ _ _ _ _ _ (board_of c.in_ok-board.board) (board_of c.ask_until_done.new.board) c.args.settings.cleanup
+      (is_open (g.D.Disk.tells c.args.disk.now) (g.D.Disk.files c.args.disk.now) _ _ _ (g.met.D.Disk.shown c.args.disk.now) c.open_journal.ensures.opens.recovers c.open_journal.ensures.opens.others c.in_ok-journal.ensures.rests c.in_ok-journal.ensures.opens.idle c.begin_run.ensures.frame.still)
+      (starts_there (λ (z : ℤ). run_of c.args.plan c.args.settings c.args.judge.now.change z c.args.together) _ _ _ _ (board_of c.in_ok-board.board) (to_z-of_z w64 c.args.now c.ranges.now) c.begin_run.ensures.frame.still (c.in_ok-board.ensures.starts c.args.together))
+      (still_told _ _ _ _ _ _ (g.met.D.Disk.shown c.args.disk.now) (g.met.D.Disk.shown c.end_run.new.disk) (c.end_run.ensures.frame.telling ∙ (c.ask_until_done.ensures.frame.telling ∙ (c.begin_run.ensures.frame.telling ∙ c.open_journal.ensures.frame.telling))))
+      refl c.in_ok-ask_until_done.ensures.goes c.in_ok-ask_until_done.ensures.unsettled c.in_err-log.ensures.stops;
+}
 
-pub returns-clause-crash : goal.returns-clause-crash
-returns-clause-crash g c = λ others. safe_ended commits_known (run_of c.args.plan c.args.settings c.args.judge.now.change c.args.now c.args.together) _ _ _ _ _ _ _ _ _ _ _ _ (board_of c.in_ok-board.board) (board_of c.ask_until_done.new.board) c.args.settings.cleanup c.in_ok-log.log
-    (is_open (g.D.Disk.tells c.args.disk.now) (g.D.Disk.files c.args.disk.now) _ _ _ (g.met.D.Disk.shown c.args.disk.now) c.open_journal.ensures.opens.recovers c.open_journal.ensures.opens.others c.in_ok-journal.ensures.rests c.in_ok-journal.ensures.opens.idle c.begin_run.ensures.frame.still)
-    (starts_there (λ (z : ℤ). run_of c.args.plan c.args.settings c.args.judge.now.change z c.args.together) _ _ _ _ (board_of c.in_ok-board.board) (to_z-of_z w64 c.args.now c.ranges.now) c.begin_run.ensures.frame.still (c.in_ok-board.ensures.starts c.args.together))
-    (still_told _ _ _ _ _ _ (g.met.D.Disk.shown c.args.disk.now) (g.met.D.Disk.shown c.end_run.new.disk) (c.end_run.ensures.frame.telling ∙ (c.ask_until_done.ensures.frame.telling ∙ (c.begin_run.ensures.frame.telling ∙ c.open_journal.ensures.frame.telling))))
-    (still_told _ _ _ _ _ _ (g.met.D.Disk.shown c.end_run.new.disk) (g.met.D.Disk.shown c.ask_until_done.new.disk) (sym c.end_run.ensures.frame.telling))
-    refl c.in_ok-ask_until_done.ensures.goes c.in_ok-ask_until_done.ensures.unsettled c.in_ok-log.ensures.ended
-
-pub returns-clause-log : goal.returns-clause-log
-returns-clause-log g c = λ others. logged commits_known (run_of c.args.plan c.args.settings c.args.judge.now.change c.args.now c.args.together) _ _ _ _ _ _ _ _ _ _ _ (board_of c.in_ok-board.board) (board_of c.ask_until_done.new.board) c.args.settings.cleanup c.in_ok-log.log
-    (is_open (g.D.Disk.tells c.args.disk.now) (g.D.Disk.files c.args.disk.now) _ _ _ (g.met.D.Disk.shown c.args.disk.now) c.open_journal.ensures.opens.recovers c.open_journal.ensures.opens.others c.in_ok-journal.ensures.rests c.in_ok-journal.ensures.opens.idle c.begin_run.ensures.frame.still)
-    (starts_there (λ (z : ℤ). run_of c.args.plan c.args.settings c.args.judge.now.change z c.args.together) _ _ _ _ (board_of c.in_ok-board.board) (to_z-of_z w64 c.args.now c.ranges.now) c.begin_run.ensures.frame.still (c.in_ok-board.ensures.starts c.args.together))
-    (still_told _ _ _ _ _ _ (g.met.D.Disk.shown c.end_run.new.disk) (g.met.D.Disk.shown c.ask_until_done.new.disk) (sym c.end_run.ensures.frame.telling))
-    refl c.in_ok-ask_until_done.ensures.goes c.in_ok-ask_until_done.ensures.unsettled c.in_ok-log.ensures.ended c.in_ok-log.ensures.ends
-
-pub returns-clause-verdicts : goal.returns-clause-verdicts
-returns-clause-verdicts g c = verdicts_told (run_of c.args.plan c.args.settings c.args.judge.now.change c.args.now c.args.together) _ _ _ _ _ (board_of c.in_ok-board.board) (board_of c.ask_until_done.new.board) c.args.settings.cleanup c.in_ok-log.log
-    (starts_there (λ (z : ℤ). run_of c.args.plan c.args.settings c.args.judge.now.change z c.args.together) _ _ _ _ (board_of c.in_ok-board.board) (to_z-of_z w64 c.args.now c.ranges.now) c.begin_run.ensures.frame.still (c.in_ok-board.ensures.starts c.args.together))
-    refl c.in_ok-ask_until_done.ensures.goes c.in_ok-log.ensures.ends
-
-pub returns-clause-damage : goal.returns-clause-damage
-returns-clause-damage g c = λ tells. none_found _ c.in_ok-journal.journal c.in_ok-log.log (c.in_ok-journal.ensures.opens.damage tells)
+pub returns-clause-run : goal.returns-clause-run
+returns-clause-run g c = λ others. record {
+  unchanged = search rules;
+  damage = λ tells. none_found _ c.in_ok-journal.journal c.in_ok-log.log (c.in_ok-journal.ensures.opens.damage tells);
+  verdicts = verdicts_told (run_of c.args.plan c.args.settings c.args.judge.now.change c.args.now c.args.together) _ _ _ _ _ (board_of c.in_ok-board.board) (board_of c.ask_until_done.new.board) c.args.settings.cleanup c.in_ok-log.log
+      (starts_there (λ (z : ℤ). run_of c.args.plan c.args.settings c.args.judge.now.change z c.args.together) _ _ _ _ (board_of c.in_ok-board.board) (to_z-of_z w64 c.args.now c.ranges.now) c.begin_run.ensures.frame.still (c.in_ok-board.ensures.starts c.args.together))
+      refl c.in_ok-ask_until_done.ensures.goes c.in_ok-log.ensures.ends;
+  log = logged commits_known (run_of c.args.plan c.args.settings c.args.judge.now.change c.args.now c.args.together) _ _ _ _ _ _ _ _ _ _ _ (board_of c.in_ok-board.board) (board_of c.ask_until_done.new.board) c.args.settings.cleanup c.in_ok-log.log
+      (is_open (g.D.Disk.tells c.args.disk.now) (g.D.Disk.files c.args.disk.now) _ _ _ (g.met.D.Disk.shown c.args.disk.now) c.open_journal.ensures.opens.recovers c.open_journal.ensures.opens.others c.in_ok-journal.ensures.rests c.in_ok-journal.ensures.opens.idle c.begin_run.ensures.frame.still)
+      (starts_there (λ (z : ℤ). run_of c.args.plan c.args.settings c.args.judge.now.change z c.args.together) _ _ _ _ (board_of c.in_ok-board.board) (to_z-of_z w64 c.args.now c.ranges.now) c.begin_run.ensures.frame.still (c.in_ok-board.ensures.starts c.args.together))
+      (still_told _ _ _ _ _ _ (g.met.D.Disk.shown c.end_run.new.disk) (g.met.D.Disk.shown c.ask_until_done.new.disk) (sym c.end_run.ensures.frame.telling))
+      refl c.in_ok-ask_until_done.ensures.goes c.in_ok-ask_until_done.ensures.unsettled c.in_ok-log.ensures.ended c.in_ok-log.ensures.ends;
+  crash = safe_ended commits_known (run_of c.args.plan c.args.settings c.args.judge.now.change c.args.now c.args.together) _ _ _ _ _ _ _ _ _ _ _ _ (board_of c.in_ok-board.board) (board_of c.ask_until_done.new.board) c.args.settings.cleanup c.in_ok-log.log
+      (is_open (g.D.Disk.tells c.args.disk.now) (g.D.Disk.files c.args.disk.now) _ _ _ (g.met.D.Disk.shown c.args.disk.now) c.open_journal.ensures.opens.recovers c.open_journal.ensures.opens.others c.in_ok-journal.ensures.rests c.in_ok-journal.ensures.opens.idle c.begin_run.ensures.frame.still)
+      (starts_there (λ (z : ℤ). run_of c.args.plan c.args.settings c.args.judge.now.change z c.args.together) _ _ _ _ (board_of c.in_ok-board.board) (to_z-of_z w64 c.args.now c.ranges.now) c.begin_run.ensures.frame.still (c.in_ok-board.ensures.starts c.args.together))
+      (still_told _ _ _ _ _ _ (g.met.D.Disk.shown c.args.disk.now) (g.met.D.Disk.shown c.end_run.new.disk) (c.end_run.ensures.frame.telling ∙ (c.ask_until_done.ensures.frame.telling ∙ (c.begin_run.ensures.frame.telling ∙ c.open_journal.ensures.frame.telling))))
+      (still_told _ _ _ _ _ _ (g.met.D.Disk.shown c.end_run.new.disk) (g.met.D.Disk.shown c.ask_until_done.new.disk) (sym c.end_run.ensures.frame.telling))
+      refl c.in_ok-ask_until_done.ensures.goes c.in_ok-ask_until_done.ensures.unsettled c.in_ok-log.ensures.ended;
+}

@@ -9,22 +9,22 @@ pub returns-in-Ok-run_update-clause-ended : goal.returns-in-Ok-run_update-clause
 returns-in-Ok-run_update-clause-ended g c =
     let by = c.in-Ok-run_update.ensures in
     inl (record {
-      crash = rw (c.new-judge.ensures, to_z-of_z w64 c.args.now c.ranges.now) at by.crash;
-      log = rw (c.new-judge.ensures, to_z-of_z w64 c.args.now c.ranges.now) at by.log;
+      crash = rw (c.new-judge.ensures, to_z-of_z w64 c.args.now c.ranges.now) at by.run.crash;
+      log = rw (c.new-judge.ensures, to_z-of_z w64 c.args.now c.ranges.now) at by.run.log;
       said = rw c.in-Ok.ensures at c.write_report.ensures.told;
       why = tt;
-      undamaged = λ tells some. none_told _ c.in-Ok-run_update.log (by.damage tells);
+      undamaged = λ tells some. none_told _ c.in-Ok-run_update.log (by.run.damage tells);
     })
 
 pub returns-in-Err-BadJournal-clause-ended : goal.returns-in-Err-BadJournal-clause-ended
 returns-in-Err-BadJournal-clause-ended g c =
-    let finds = rw c.in-Err-BadJournal.field-0-is at c.in-Err-BadJournal.ensures.damage in
-    let keeps = rw c.in-Err-BadJournal.field-0-is at c.in-Err-BadJournal.ensures.unchanged in
+    let finds = rw c.in-Err-BadJournal.field-0-is at c.in-Err-BadJournal.ensures.run.damage in
+    let keeps = rw c.in-Err-BadJournal.field-0-is at c.in-Err-BadJournal.ensures.run.unchanged in
     let left = c.without_log-in-Err-BadJournal.ensures in
     let was = objects g.D.Disk g.M.Method g.S.Sink c.args.disk.now c.args.methods.now.items c.args.out.now in
     let is = objects g.D.Disk g.M.Method g.S.Sink c.run_update.new.disk c.run_update.new.methods.items c.write_fault.new.out in
     inl (record {
-      crash = rw (c.new-judge.ensures, to_z-of_z w64 c.args.now c.ranges.now) at c.in-Err-BadJournal.ensures.crash;
+      crash = rw (c.new-judge.ensures, to_z-of_z w64 c.args.now c.ranges.now) at c.in-Err-BadJournal.ensures.run.crash;
       log = rw left.log tt;
       said = rw left.log tt;
       why = rw (left.log, left.status) (says_damage was is c.in-Err-BadJournal.at c.write_fault.result.0 finds (keeps c.in-Err-BadJournal.at refl) c.write_fault.ensures.said);
