@@ -28,9 +28,9 @@ pub struct Journal {
 #[derive(Clone, Copy, Debug, PartialEq, Eq)]
 pub enum FirstByte {
     /// It is 0.
-    Closed,
+    Shut,
     /// It is 1.
-    Opened,
+    Open,
     /// It is neither, or there is none.
     Other,
 }
@@ -82,8 +82,8 @@ fn first_of(n: usize, gate: u8) -> FirstByte
         return FirstByte::Other;
     }
     match gate {
-        0 => FirstByte::Closed,
-        1 => FirstByte::Opened,
+        0 => FirstByte::Shut,
+        1 => FirstByte::Open,
         _ => FirstByte::Other,
     }
 }
@@ -140,8 +140,8 @@ fn open_whole<D: Disk>(alloc: Global, disk: &mut D) -> Result<Journal, JournalEr
     sync_found(disk)?;
     let found = first_byte(disk)?;
     match found {
-        FirstByte::Closed => Ok(Journal { opened: () }),
-        FirstByte::Opened => {
+        FirstByte::Shut => Ok(Journal { opened: () }),
+        FirstByte::Open => {
             act_on_open_gate(alloc, disk)?;
             Ok(Journal { opened: () })
         }

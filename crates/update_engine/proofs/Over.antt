@@ -30,7 +30,7 @@ use Rattle.update_model.specs.declared.log.Asked.{Asked}
 use Rattle.update_model.specs.declared.log.RunLog.{RunLog}
 use Rattle.run_model.proofs.Counting.{verdicts_count}
 use Rattle.update_engine.proofs.Known.{CommittingLaws}
-use Rattle.update_engine.specs.Run.{Engine, FaultsRise, FindsDamage, ForMirror, HasFinished, HasOpenedJournal, IsReadFromDisk, KeepsMethods, LogIsTrue, Run, SurvivesCrash, StopsAmongCommits, asks_of_lane}
+use Rattle.update_engine.specs.Run.{Engine, FaultsRise, RunFindsDamage, ForMirror, HasFinished, HasOpenedJournal, IsReadFromDisk, KeepsMethods, LogIsTrue, Run, SurvivesCrash, StopsAmongCommits, asks_of_lane}
 use Rattle.update_engine.specs.Session.{EndsWithLog, CommitsAll, RunGoesOn, RunGoesOnWith, RunsOverLists, HasCommittedSets, HasCommittedAll, IsNewRun, HasProgress, IsLogOfRun, MayCommit, StartsRun, StopsWhileAsking, StopsWhileEnding, begun_of}
 use Rattle.update_engine.proofs.Committing.{settled_made, told_on}
 use Rattle.update_engine.proofs.Lists.{each_more, none_fall}
@@ -100,7 +100,7 @@ is_open tells files entry opened later shown recovers others at_rest idle same s
 })
 
 -- an opening that goes on has found no damage
-pub none_found : (place : Option ℕ) (j : Journal) (log : RunLog) → FindsNoDamage place (Ok j) → FindsDamage place (Ok log)
+pub none_found : (place : Option ℕ) (j : Journal) (log : RunLog) → FindsNoDamage place (Ok j) → RunFindsDamage place (Ok log)
 none_found None j log finds = λ at wrong. absurd (cc)
 none_found (Some at) j log finds = ⊎_elim (λ wrong. absurd (cc)) (⊎_elim (λ wrong. absurd (cc)) (λ wrong. absurd (cc))) finds
 

@@ -134,9 +134,9 @@ pub record SurvivesCrash (run : Run) (before after : Engine) : Type 0 where
   pub settled : ToldAs IsSynced before.trace → IsNow IsSynced after.trace
 
 -- no damage is told where there is none, and this one, or a fault or want of memory, where there is
-abbrev pub FindsDamage : Option ℕ → Result RunLog RunError → Type 0
-FindsDamage None result = (at : ℕ) → result ≢ Err (BadJournal at)
-FindsDamage (Some at) result = (result ≡ Err (BadJournal at)) ⊎ ((result ≡ Err DiskFault) ⊎ (result ≡ Err NoMemory))
+abbrev pub RunFindsDamage : Option ℕ → Result RunLog RunError → Type 0
+RunFindsDamage None result = (at : ℕ) → result ≢ Err (BadJournal at)
+RunFindsDamage (Some at) result = (result ≡ Err (BadJournal at)) ⊎ ((result ≡ Err DiskFault) ⊎ (result ≡ Err NoMemory))
 
 -- ---- where it answers a log
 
@@ -177,7 +177,7 @@ pub record LogIsTrue (run : Run) (before after : Engine) (log : RunLog) : Type 0
 pub record Runs {D M : Type 0} (d : Disks D) (m : Methods M) (run : Run) (old new : D) (asked answered : List M)
     (result : Result RunLog RunError) : Type 0 where
   pub unchanged : (at : ℕ) → result ≡ Err (BadJournal at) → d.files new ≡ d.files old
-  pub damage : IsTrue (d.tells old) → FindsDamage (damage_of (d.files old)) result
+  pub damage : IsTrue (d.tells old) → RunFindsDamage (damage_of (d.files old)) result
   pub verdicts : IfOk result (λ log. length log.verdicts ≡ length run.plan.sources)
   pub log : IfOk result (LogIsTrue run (engine d m old asked) (engine d m new answered))
   pub crash : SurvivesCrash run (engine d m old asked) (engine d m new answered)

@@ -39,8 +39,8 @@ returns-in_ok-make_new-in-Other-clause-opens g c = record {
   idle = search rules;
 }
 
-pub returns-in_err-act_on_open_gate-in-Opened-clause-opens : goal.returns-in_err-act_on_open_gate-in-Opened-clause-opens
-returns-in_err-act_on_open_gate-in-Opened-clause-opens g c = record {
+pub returns-in_err-act_on_open_gate-in-Open-clause-opens : goal.returns-in_err-act_on_open_gate-in-Open-clause-opens
+returns-in_err-act_on_open_gate-in-Open-clause-opens g c = record {
   finds = record { unchanged = search rules; lists = search rules; damage = search rules };
   thrifty = search rules;
   recovers = onwards _ _ _ c.sync_found.ensures.moves.moments (subst (λ (l : List State). Since l (g.D.Disk.trace c.act_on_open_gate.new.disk) (From Recovers l)) c.first_byte.ensures.frame.still c.act_on_open_gate.ensures.moments);
@@ -48,8 +48,8 @@ returns-in_err-act_on_open_gate-in-Opened-clause-opens g c = record {
   idle = search rules;
 }
 
-pub returns-in_ok-act_on_open_gate-in-Opened-clause-opens : goal.returns-in_ok-act_on_open_gate-in-Opened-clause-opens
-returns-in_ok-act_on_open_gate-in-Opened-clause-opens g c = record {
+pub returns-in_ok-act_on_open_gate-in-Open-clause-opens : goal.returns-in_ok-act_on_open_gate-in-Open-clause-opens
+returns-in_ok-act_on_open_gate-in-Open-clause-opens g c = record {
   finds = record { unchanged = search rules; lists = search rules; damage = search rules };
   thrifty = search rules;
   recovers = onwards _ _ _ c.sync_found.ensures.moves.moments (subst (λ (l : List State). Since l (g.D.Disk.trace c.act_on_open_gate.new.disk) (From Recovers l)) c.first_byte.ensures.frame.still c.act_on_open_gate.ensures.moments);
