@@ -27,6 +27,15 @@ pub fn routes_ask_little()
     ensures sources { law.SourcesAskLittle }
 {}
 
+/// A list's patch Index, and each patch that it may name, lies at a sound URI where the list does. So each ask for a
+/// list is for a sound URI, whatever is answered.
+pub fn patches_lie_at_sound_uris()
+    ensures sound { law.PatchUrisAreSound }
+    ensures short { law.PatchUrisAreShort }
+    ensures index { IsTrue (is_name (codes "Index")) }
+    ensures asks { law.AsksAreSound }
+{}
+
 /// The file that a list comes to is the one that the Release names. It has one exactly where the installed file, the
 /// patched one, the resumed one or one that is reached is that; patches and partial files do no harm.
 pub fn obtained_files_fit()

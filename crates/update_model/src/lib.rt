@@ -10,8 +10,8 @@
 //!   routes alone. Faults may keep a source from its new set, but what is had or come to over a mirror is the
 //!   mirror's (`faults_change_no_file`).
 //! - Whatever is answered: the asks so far are the front of a route (`runs_stand_in_routes`), they are few
-//!   (`routes_ask_little`), those of a list begin at sound URIs (proofs/Theorems), and a list that is had is the listed
-//!   one, a new set's Release admissible (`routes_end_as_listed`).
+//!   (`routes_ask_little`), those of a list begin at sound URIs (`patches_lie_at_sound_uris`), and a list that is
+//!   had is the listed one, a new set's Release admissible (`routes_end_as_listed`).
 //! - What is obtained fits, and wrong patches and stale partial files change no outcome (`obtained_files_fit`). A
 //!   new set's Release is admissible and each of its lists fits (`new_sets_are_admissible`).
 //! - What a run leaves is determined but for bytes of equal sums, and a source without a new set keeps its files
@@ -25,8 +25,9 @@ pub use cause::Cause;
 pub use end::End;
 pub use laws::{
     commits_lead_to_next, deeds_lead_to_next, faults_change_no_file, new_sets_are_admissible,
-    next_is_there, nexts_are_alike, obtained_files_fit, routes_ask_little, routes_end_as_listed,
-    routes_end_as_obtained, routes_make_new_sets, runs_stand_in_routes,
+    next_is_there, nexts_are_alike, obtained_files_fit, patches_lie_at_sound_uris,
+    routes_ask_little, routes_end_as_listed, routes_end_as_obtained, routes_make_new_sets,
+    runs_stand_in_routes,
 };
 pub use log::{Asked, Heard, RunLog};
 pub use settled::{Held, Settled, Verdict2};
