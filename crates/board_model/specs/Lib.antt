@@ -8,7 +8,7 @@ pub mod Runs
 pub mod Jobs
 pub mod Reached
 pub mod Uses
--- what the laws of this crate say:
+-- what laws and lemmas (proofs/Theorems) say:
 pub mod Stands
 pub mod Ends
 pub mod Changes

@@ -2,8 +2,6 @@
 
 ghost use Rattle.board_model.specs.CallLaws as law;
 ghost use Rattle.board_model.specs.CountLaws as count;
-ghost use Rattle.board_model.specs.NameLaws as name;
-ghost use Rattle.board_model.specs.Reached as reached;
 
 /// Each item that asks waits or is out, once, in the lane of the host that it asks, and what is out or was answered is
 /// what its item asks. No job goes out of a lane exactly where one of the lane is out, or each item that asks a host of

@@ -13,7 +13,7 @@
 //! ask its hosts are out (`jobs_stand`); each source is settled at most once (`sources_are_settled_once`); what is
 //! still wanted of a partial file only falls (proofs/Theorems); the changes of a settled source are of its own names,
 //! none twice, and lead them to its outcome (`changes_leave_outcomes`); the last answers show what each item came
-//! to (proofs/Theorems). Whatever is answered, a set that is told is that of an admissible Release with each list as it
+//! to (`last_answers_show_ends`). Whatever is answered, a set that is told is that of an admissible Release with each list as it
 //! names it (`told_sets_hold`). Two finished runs that agree with one mirror, and in which no ask was given up,
 //! tell the same verdicts (`finished_boards_tell`). The bound on the log's entries stands here under two premises
 //! on how Releases and patch indexes are read (`asks_are_few`), which board_bounds proves.
@@ -22,7 +22,9 @@
 pub use calls::{asks_are_few, jobs_stand, sources_are_settled_once};
 pub use key::Key;
 pub use laws::{boards_walk_routes, verdicts_are_of_outcomes};
-pub use outcomes::{changes_leave_outcomes, finished_boards_tell, told_sets_hold};
+pub use outcomes::{
+    changes_leave_outcomes, finished_boards_tell, last_answers_show_ends, told_sets_hold,
+};
 
 mod calls;
 mod key;

@@ -28,3 +28,11 @@ pub fn told_sets_hold()
     ensures listed { law.ToldSetsAreListed }
     ensures mirrors { law.ToldSetsAreMirrors }
 {}
+
+/// Each source comes to what the last answer to its Release shows, and each list that has no file has the cause that the
+/// last answer to it shows.
+pub fn last_answers_show_ends()
+    ensures lists { cause.LastAnswersShowCauses }
+    ensures releases { cause.LastAnswersShowReleases }
+    ensures sources { cause.LastAnswersShowOutcomes }
+{}

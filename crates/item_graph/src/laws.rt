@@ -1,7 +1,6 @@
 //! What holds of items over whole runs, whatever is answered.
 
 ghost use Rattle.item_graph.specs.Laws as law;
-ghost use Rattle.item_graph.specs.Sound.{ListsAskSoundly};
 
 /// Whatever an item has heard is the front of a route of its walk, and what it asks is the next of that; where it has
 /// ended, it is the whole route, and its end is the route's.
