@@ -3,7 +3,8 @@
 pub mod Changes
 pub mod Loose
 pub mod Made
--- And laws: what changes make of the lists, which make one commit, and what that commit makes of the lists.
+-- And what laws and lemmas (proofs/Theorems) say: what changes make of the lists, which make one commit, and what that
+-- commit makes of the lists.
 pub mod SetLaws
 pub mod RecordLaws
 pub mod CarryLaws
