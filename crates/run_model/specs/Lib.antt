@@ -1,4 +1,4 @@
--- What public clauses cite: with what a run begins, its commits, runs, what their sources come to, and the laws.
+-- With what a run begins, its commits, runs, what their sources come to, and what laws and lemmas (proofs/Theorems) say.
 pub mod Asked
 pub mod Beginnings
 pub mod Begun

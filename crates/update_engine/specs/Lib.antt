@@ -2,6 +2,5 @@
 pub mod Run
 -- and where it stands between two of its steps.
 pub mod Session
--- For the crate's own functions: what the crates below say,
--- and what is read as a run begins.
+-- For the crate's own functions: what is read as a run begins.
 pub mod Reading
