@@ -1,11 +1,11 @@
 //! Opening a journal that a stop may have left in any state.
-ghost use Rattle.std.specs.Prelude.{◌≡◌, ◌≢◌, ℕ, [], IsTrue, IfOk, OnOk, Err, true, false};
+ghost use Rattle.std.specs.Prelude.{◌≡◌, ◌≢◌, ℕ, [], IsTrue, IfOk, OnOk, Err, true};
 ghost use Rattle.acq_outside.specs.Stays.{Reads, ReadsCounting, Stays, StaysCounting};
 ghost use Rattle.acq_outside.specs.States.{IsNow, Since, From};
 ghost use Rattle.journal_model.specs.Names.{journal};
 ghost use Rattle.journal_model.specs.Reading.{journal_state_in};
 ghost use Rattle.journal_model.specs.Rest.{IsIdle, IsSynced, IsAtRest};
-ghost use Rattle.journal_model.specs.Reopen.{reopened, installed_now};
+ghost use Rattle.journal_model.specs.Reopen.{installed_now};
 ghost use Rattle.commit_journal.specs.Opening.{Recovers, KeepsFilesBut, IsOfOpening, Finds, Opens, is_open};
 ghost use Rattle.commit_journal.specs.Phases.{NoNamePending, IsJournalSynced, IsFirst, IsFirstOf, IsOfCommit, NamesSteps};
 ghost use Rattle.commit_journal.specs.Moves.{Recovering};
