@@ -52,6 +52,7 @@ pub enum NotServed {
 pub enum Reply {
     /// The file's bytes.
     Served(Bytes),
+    /// No file was served.
     Not(NotServed),
     /// Memory ran out.
     NoMemory,

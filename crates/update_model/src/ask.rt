@@ -27,6 +27,7 @@ pub enum Body {
 pub enum Closed {
     /// The whole file, with the bytes at its front that were at hand.
     Served(Body),
+    /// No file was served.
     Not(NotServed),
 }
 

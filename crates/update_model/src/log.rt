@@ -9,6 +9,7 @@ use std::alloc::Global;
 pub enum Heard {
     /// The sum of the whole file, with the bytes at its front that were at hand.
     Served(Sum),
+    /// No file was served.
     Not(NotServed),
 }
 
