@@ -17,7 +17,7 @@ use Rattle.update_model.specs.Trails.{LaneAnswer}
 use Rattle.update_model.specs.Walks.{release_walk, target_walk}
 use Rattle.update_model.specs.Wanted.{want}
 use Rattle.update_model.specs.declared.ask.Body.TheVariants.{Bytes, Staged}
-use Rattle.update_model.specs.declared.ask.Closed.{Closed as Answer_of}
+use Rattle.update_model.specs.declared.ask.Closed.{Closed}
 use Rattle.update_model.specs.declared.ask.Closed.TheVariants as answers
 use Rattle.update_model.specs.declared.log.Asked.{Asked}
 use Rattle.update_model.specs.declared.settled.Verdict2.{Verdict2}
@@ -119,7 +119,7 @@ release-few config n source heard logged =
     let own : length heard ≡ length (ran config.settings.retries n release_text (start config.settings.retries (release_walk source)) (lane_answers heard)) = sym (length-entries heard) ∙ ap length logged in
     omega (arith, few, own)
   where
-    one : (closed : Answer_of) → Brings (λ bytes. Unit {0}) closed
+    one : (closed : Closed) → Brings (λ bytes. Unit {0}) closed
     one (answers.Served (Bytes bytes)) = tt
     one (answers.Served (Staged sum)) = tt
     one (answers.Not end) = tt

@@ -13,7 +13,7 @@ use Rattle.update_model.specs.Points.{Point, Over, At, run, start}
 use Rattle.update_model.specs.Walks.{release_walk}
 use Rattle.update_model.specs.Wanted.{chain, want}
 use Rattle.update_model.specs.declared.ask.Body.TheVariants.{Bytes}
-use Rattle.update_model.specs.declared.ask.Closed.{Closed as Answer}
+use Rattle.update_model.specs.declared.ask.Closed.{Closed}
 use Rattle.update_model.specs.declared.ask.Closed.TheVariants.{Served}
 use Rattle.update_model.specs.declared.log.Asked.{Asked}
 use Rattle.update_model.specs.declared.wanted.Wanted.{Wanted}
@@ -31,7 +31,7 @@ asks_of n asks = filter (λ asked. asked.source == n) asks
 -- ---- the length of a list's chain
 
 -- how many patches an answer leads by: none where it isn't the listed patch Index, or leads nowhere
-abbrev pub links_by : Option (List ℕ) → Wanted → Answer → ℕ
+abbrev pub links_by : Option (List ℕ) → Wanted → Closed → ℕ
 links_by (Some file) w (Served (Bytes bytes)) = option_map_or length (option_and_then (λ sum. option_and_then (chain w file) (fitting sum (Some bytes))) w.index) 0
 links_by installed w answer = 0
 

@@ -18,7 +18,7 @@ use Rattle.update_model.specs.Reach.{Way, On, Stop, way}
 use Rattle.update_model.specs.Trails.{IsFaultOr, Leads, answered}
 use Rattle.update_model.specs.Walks.{Walk, Finish, Try, IsRoute, release_walk, target_walk}
 use Rattle.update_model.specs.declared.ask.Ask.{Ask}
-use Rattle.update_model.specs.declared.ask.Closed.{Closed as Answer}
+use Rattle.update_model.specs.declared.ask.Closed.{Closed}
 use Rattle.update_model.specs.declared.ask.Closed.TheVariants.{Served, Not}
 use Rattle.acq_base.specs.declared.fetch.NotServed.TheVariants.{Moved, Absent, TooBig, Garbled, Fault}
 use Rattle.update_model.specs.declared.ask.Ending.{Ending}
@@ -83,7 +83,7 @@ lives-along retries (At ask left faults next) (note ∷ notes) h live = one note
         → LivesAlong retries (lead retries ask left next w) (lane_answers notes)
     goes w live asks later = later (lead retries ask left next w) asks (subst (λ (n : ℕ). IsAnswered retries n notes) (sym (left-lead retries ask left next w)) live)
 
-    one : (closed : Answer) (faults : ℕ) → AfterAnswer closed faults (λ n. IsAnswered retries n notes) (IsAnswered retries retries notes)
+    one : (closed : Closed) (faults : ℕ) → AfterAnswer closed faults (λ n. IsAnswered retries n notes) (IsAnswered retries retries notes)
         → AreAsked retries (Leads left ask.uri note.told.lane closed faults (λ n. At ask left n next) (λ w. lead retries ask left next w)) notes
         → ((q : Point) → AreAsked retries q notes → IsAnswered retries (left_at retries q) notes → LivesAlong retries q (lane_answers notes))
         → LivesAt (At ask left faults next) (record { lane = note.told.lane; closed = closed })

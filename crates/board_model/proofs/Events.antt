@@ -16,7 +16,7 @@ use Rattle.update_model.specs.Releases.{release_text}
 use Rattle.update_model.specs.Trails.{LaneAnswer}
 use Rattle.update_model.specs.Walks.{release_walk}
 use Rattle.update_model.specs.declared.ask.Ask.{Ask}
-use Rattle.update_model.specs.declared.ask.Closed.{Closed as closed_type}
+use Rattle.update_model.specs.declared.ask.Closed.{Closed}
 use Rattle.update_model.specs.declared.settled.Settled.{Settled}
 use Rattle.update_model.specs.declared.settled.Verdict2.{Verdict2}
 use Rattle.board_model.specs.Boards.{Board, Asker, asker_of, first_ready, first_release, first_slots, heard_by, issued, issued_job, lane_with, no_verdict, settled_as, settled_of, took, took_from}
@@ -258,7 +258,7 @@ settle-stands config olds w h = one (first_ready w.board.slots) refl
 
 -- ---- all events
 
-answer-stands : (config : Setup) (olds : List Old) (w : BoardRun) (method : ℕ) (closed : closed_type) (job : Option Job) → AllStand config olds w → AllStand config olds (answered w method closed job)
+answer-stands : (config : Setup) (olds : List Old) (w : BoardRun) (method : ℕ) (closed : Closed) (job : Option Job) → AllStand config olds w → AllStand config olds (answered w method closed job)
 answer-stands config olds w method closed None h = h
 answer-stands config olds w method closed (Some job) h = one (list_any (λ (a : Answered). nat_eq a.job.no job.no) w.queue)
   where

@@ -11,7 +11,7 @@ use Rattle.host_queues.specs.Lanes.{changed_at}
 use Rattle.update_model.specs.Outcomes.{AdmittedRelease, Staying, admitted}
 use Rattle.update_model.specs.Points.{Point, Over, At}
 use Rattle.update_model.specs.Trails.{LaneAnswer}
-use Rattle.update_model.specs.declared.ask.Closed.{Closed as Answered_as}
+use Rattle.update_model.specs.declared.ask.Closed.{Closed}
 use Rattle.update_model.specs.declared.settled.Settled.{Settled}
 use Rattle.board_model.specs.Boards.{Asker, asker_of, first_ready, first_slots, lane_with, settled_of, took_from}
 use Rattle.board_model.specs.Laws.{FinishedExactly}
@@ -112,7 +112,7 @@ settled-counted w h = one (first_ready w.board.slots) refl
     one None ready = h
     one (Some n) ready = two n (settled_of w.board n) ready
 
-answered-counted : (w : BoardRun) (method : ℕ) (closed : Answered_as) (job : Option Job) → Counted w → Counted (answered w method closed job)
+answered-counted : (w : BoardRun) (method : ℕ) (closed : Closed) (job : Option Job) → Counted w → Counted (answered w method closed job)
 answered-counted w method closed None h = h
 answered-counted w method closed (Some job) h = one (list_any (λ (a : Answered). nat_eq a.job.no job.no) w.queue)
   where

@@ -9,7 +9,7 @@ use Rattle.acq_base.specs.declared.plan.Source.{Source}
 use Rattle.release_file.specs.Release.{release_of}
 use Rattle.update_model.specs.Laws.{SetsAreAdmissible}
 use Rattle.update_model.specs.Outcomes.{AdmittedRelease, outcome}
-use Rattle.update_model.specs.declared.ask.Closed.{Closed as Answer_of}
+use Rattle.update_model.specs.declared.ask.Closed.{Closed}
 use Rattle.update_model.specs.declared.settled.Settled.{Settled}
 use Rattle.board_model.specs.Boards.{Asker, asker_of, first_ready, lane_with, settled_of, took_from}
 use Rattle.board_model.specs.Jobs.{one_if}
@@ -68,7 +68,7 @@ settle-known config w h = one (first_ready w.board.slots)
     one None = h
     one (Some n) = two n (settled_of w.board n)
 
-answered-known : (config : Setup) (w : BoardRun) (method : ℕ) (closed : Answer_of) (job : Option Job) → AllKnown config w → AllKnown config (answered w method closed job)
+answered-known : (config : Setup) (w : BoardRun) (method : ℕ) (closed : Closed) (job : Option Job) → AllKnown config w → AllKnown config (answered w method closed job)
 answered-known config w method closed None h = h
 answered-known config w method closed (Some job) h = one (list_any (λ (a : Answered). nat_eq a.job.no job.no) w.queue)
   where

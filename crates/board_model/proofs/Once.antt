@@ -13,7 +13,7 @@ use Rattle.host_queues.proofs.Changes.{get-changed, get-other}
 use Rattle.update_model.specs.Outcomes.{AdmittedRelease, Staying, admitted}
 use Rattle.update_model.specs.Points.{Point, Over, At}
 use Rattle.update_model.specs.Trails.{LaneAnswer}
-use Rattle.update_model.specs.declared.ask.Closed.{Closed as Answer_of}
+use Rattle.update_model.specs.declared.ask.Closed.{Closed}
 use Rattle.update_model.specs.declared.settled.Settled.{Settled}
 use Rattle.update_model.specs.declared.settled.Verdict2.{Verdict2}
 use Rattle.board_model.specs.Boards.{Asker, Board, asker_of, first_ready, first_slots, lane_with, settled_as, settled_of, took, took_from}
@@ -212,7 +212,7 @@ settle-well w h = one (first_ready w.board.slots) refl
     one None ready = h
     one (Some n) ready = two n (settled_of w.board n) ready
 
-answered-well : (w : BoardRun) (method : ℕ) (closed : Answer_of) (job : Option Job) → GoesWell w.board → GoesWell (answered w method closed job).board
+answered-well : (w : BoardRun) (method : ℕ) (closed : Closed) (job : Option Job) → GoesWell w.board → GoesWell (answered w method closed job).board
 answered-well w method closed None h = h
 answered-well w method closed (Some job) h = one (list_any (λ (a : Answered). nat_eq a.job.no job.no) w.queue)
   where
@@ -236,4 +236,4 @@ boards-go-well config olds lanes events = run-well events (start config olds lan
 pub settled-once : SourcesAreSettledOnce
 settled-once config olds notes b r =
     let h : GoesWell b = subst (λ (w : BoardRun). GoesWell w.board) r.leads (boards-go-well config olds r.lanes r.events) in
-    record { once = h.once; closed = λ n. (h.closed n, h.back n) }
+    record { once = h.once; settled = λ n. (h.closed n, h.back n) }

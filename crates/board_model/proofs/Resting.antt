@@ -19,7 +19,7 @@ use Rattle.update_model.specs.Walks.{Walk, Finish, Try, release_walk, target_wal
 use Rattle.update_model.specs.Wanted.{want}
 use Rattle.update_model.specs.declared.ask.Ask.{Ask}
 use Rattle.update_model.specs.declared.ask.Body.TheVariants.{Bytes, Staged}
-use Rattle.update_model.specs.declared.ask.Closed.{Closed as Answer}
+use Rattle.update_model.specs.declared.ask.Closed.{Closed}
 use Rattle.update_model.specs.declared.ask.Ending.TheVariants.{Lost}
 use Rattle.update_model.specs.declared.end.End.TheVariants.{Got, Stands, Ended}
 use Rattle.update_model.specs.declared.ask.Closed.TheVariants as closings
@@ -264,7 +264,7 @@ settled-rest b n verdict name =
 -- ---- an answer
 
 -- nothing more is wanted, or the file that was served whole
-abbrev AnswerRests : Option ListName → Answer → List ℕ → WantedPart → WantedPart → Type 0
+abbrev AnswerRests : Option ListName → Closed → List ℕ → WantedPart → WantedPart → Type 0
 AnswerRests staged closed name before after = Falls before after ⊎ IsWholeOf staged closed name after
 
 -- a list begins with what was wanted
@@ -310,11 +310,11 @@ stepped-rest : (size : ℕ) (item : Standing) (ask : Ask) (told : LaneAnswer) (s
     → AnswerRests staged told.closed name (use_at size item.point) (use_at size (item_after told item).point)
 stepped-rest size item ask told staged name h asks fits listed_name = one (step-uses size item.retries h.before item.point told h.uses).falls
   where
-    whole : (closed : Answer) (sum : Sum) (after : WantedPart) → IsServedAs ask.stage closed → closed ≡ closings.Served (Staged sum) → after ≡ Whole sum → IsWholeOf staged closed name after
+    whole : (closed : Closed) (sum : Sum) (after : WantedPart) → IsServedAs ask.stage closed → closed ≡ closings.Served (Staged sum) → after ≡ Whole sum → IsWholeOf staged closed name after
     whole closed sum after fits is used =
         let stage : ask.stage ≡ true = subst (IsServedAs ask.stage) is fits in
         let target = listed_name stage in
-        subst (λ (c : Answer). IsWholeOf staged c name after) (sym is) (subst (λ (s : Option ListName). IsWholeOf s (closings.Served (Staged sum)) name after) (sym target.1) (target.2, used))
+        subst (λ (c : Closed). IsWholeOf staged c name after) (sym is) (subst (λ (s : Option ListName). IsWholeOf s (closings.Served (Staged sum)) name after) (sym target.1) (target.2, used))
 
     one : Falls (use_at size item.point) (use_at size (item_after told item).point) ⊎ WholeBy told.closed (use_at size (item_after told item).point)
         → AnswerRests staged told.closed name (use_at size item.point) (use_at size (item_after told item).point)

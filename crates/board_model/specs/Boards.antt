@@ -11,7 +11,7 @@ use Rattle.update_model.specs.Points.{entry}
 use Rattle.update_model.specs.Trails.{LaneAnswer}
 use Rattle.update_model.specs.Walks.{release_walk}
 use Rattle.update_model.specs.declared.ask.Ask.{Ask}
-use Rattle.update_model.specs.declared.ask.Closed.{Closed as Answer}
+use Rattle.update_model.specs.declared.ask.Closed.{Closed}
 use Rattle.update_model.specs.declared.log.Asked.{Asked}
 use Rattle.update_model.specs.declared.log.RunLog.{RunLog}
 use Rattle.update_model.specs.declared.settled.Settled.{Settled}
@@ -154,7 +154,7 @@ took_from b number told None a = b
 took_from b number told (Some from) None = b
 
 -- the answer of a lane's method to a job; one to a job that isn't out changes nothing
-abbrev pub absorbed : Board → ℕ → ℕ → Answer → Board
+abbrev pub absorbed : Board → ℕ → ℕ → Closed → Board
 absorbed b lane number closed = took_from b number (record { lane = lane; closed = closed }) (lane_with b.out number) (asker_of b number)
 
 -- ---- a source is settled

@@ -4,7 +4,7 @@ use Rattle.std.specs.List.{AllByRecursion as Each}
 use Rattle.acq_base.specs.declared.installed.Old.{Old}
 use Rattle.host_queues.specs.Lanes.{lane_of}
 use Rattle.uri_names.specs.Names.{host_key_of}
-use Rattle.update_model.specs.declared.ask.Closed.{Closed as Answer}
+use Rattle.update_model.specs.declared.ask.Closed.{Closed}
 use Rattle.update_model.specs.declared.settled.Verdict2.{Verdict2}
 use Rattle.board_model.specs.Boards.{Asker, Board, absorbed, asker_of, first_board, first_ready, is_out, issued_job, lane_with, settled_as, staged_name}
 use Rattle.board_model.specs.Jobs.{JobsStand, NoneAsks}
@@ -36,7 +36,7 @@ NewBoardsWantParts =
 -- behind an answer no more than before, but the file that was just served whole
 abbrev pub AbsorbedBoardsWantParts : Type 0
 AbsorbedBoardsWantParts =
-    (config : Setup) (olds : List Old) (notes : List Note) (b : Board) (method number from : ℕ) (closed : Answer) (a : Asker) (name : List ℕ)
+    (config : Setup) (olds : List Old) (notes : List Note) (b : Board) (method number from : ℕ) (closed : Closed) (a : Asker) (name : List ℕ)
     → Reached config olds notes b → lane_with b.out number ≡ Some from → asker_of b number ≡ Some a → IsServedAs a.ask.stage closed
     → Falls (wanted_part b name) (wanted_part (absorbed b method number closed) name)
     ⊎ IsWholeOf (staged_name b number) closed name (wanted_part (absorbed b method number closed) name)
@@ -84,10 +84,10 @@ abbrev pub AreOnce : List ℕ → Type 0
 AreOnce [] = Unit {0}
 AreOnce (n ∷ ns) = Each (λ m. m ≢ n) ns × AreOnce ns
 
--- each source is settled once, and those that are settled are closed
+-- each source is settled once, and those that are settled have a settled slot
 pub record SettledOnce (b : Board) : Type 0 where
   pub once : AreOnce b.settled
-  pub closed : (n : ℕ) → Contains b.settled n ↔ (slice_get b.slots n ≡ Some SettledSlot)
+  pub settled : (n : ℕ) → Contains b.settled n ↔ (slice_get b.slots n ≡ Some SettledSlot)
 
 abbrev pub SourcesAreSettledOnce : Type 0
 SourcesAreSettledOnce = (config : Setup) (olds : List Old) (notes : List Note) (b : Board) → Reached config olds notes b → SettledOnce b

@@ -15,7 +15,7 @@ pub fn jobs_stand()
     ensures quiet { law.QuietBoardsAreReady }
 {}
 
-/// Each source is settled at most once, and those that are settled are closed.
+/// Each source is settled at most once, and those that are settled have a settled slot.
 pub fn sources_are_settled_once()
     ensures { law.SourcesAreSettledOnce }
 {}

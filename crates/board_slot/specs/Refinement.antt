@@ -9,4 +9,4 @@ abbrev pub slot_of : Slot → model.Slot
 slot_of (slots.Asking a) = model.Asking a.old (standing_of a.release)
 slot_of (slots.Listing l) = model.Listing (found_of l.found) l.there (standings l.lists.items.items)
 slot_of (slots.Refused why) = model.Refused (staying_of why)
-slot_of slots.Closed = model.SettledSlot
+slot_of slots.Settled = model.SettledSlot

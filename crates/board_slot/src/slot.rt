@@ -43,7 +43,7 @@ pub enum Slot {
     /// Its Release may not be installed.
     Refused(Staying),
     /// It is settled.
-    Closed,
+    Settled,
 }
 
 impl Slot {
@@ -63,7 +63,7 @@ impl Slot {
         match self {
             Slot::Asking(asking) => release_ask(&asking.release, place),
             Slot::Listing(listing) => list_ask(&listing.lists, place),
-            Slot::Refused(_) | Slot::Closed => None,
+            Slot::Refused(_) | Slot::Settled => None,
         }
     }
 
@@ -75,7 +75,7 @@ impl Slot {
         match self {
             Slot::Asking(_) => 1,
             Slot::Listing(listing) => listing.lists.items.len() + 1,
-            Slot::Refused(_) | Slot::Closed => 0,
+            Slot::Refused(_) | Slot::Settled => 0,
         }
     }
 
@@ -84,7 +84,7 @@ impl Slot {
         ensures { result ≡ model.is_ready (slot_of self.now) }
     {
         match self {
-            Slot::Asking(_) | Slot::Closed => false,
+            Slot::Asking(_) | Slot::Settled => false,
             Slot::Listing(listing) => listing.lists.have_ended(),
             Slot::Refused(_) => true,
         }
@@ -116,9 +116,9 @@ impl Slot {
                 drop(closed);
                 Ok(Slot::Refused(why))
             }
-            Slot::Closed => {
+            Slot::Settled => {
                 drop(closed);
-                Ok(Slot::Closed)
+                Ok(Slot::Settled)
             }
         }
     }
@@ -131,7 +131,7 @@ impl Slot {
         match self {
             Slot::Listing(listing) => settle_lists(alloc, source, listing),
             Slot::Refused(why) => Ok(unchanged(alloc, why.verdict())),
-            Slot::Asking(_) | Slot::Closed => unreachable!(),
+            Slot::Asking(_) | Slot::Settled => unreachable!(),
         }
     }
 }

@@ -15,7 +15,7 @@ use Rattle.board_model.specs.Stands.{HasCome, History, IsOpen, ListStands, Lists
 use Rattle.board_model.specs.declared.key.Key.{Key}
 use Rattle.release_file.specs.declared.release.Release.{Release}
 use Rattle.update_model.specs.Trails.{LaneAnswer}
-use Rattle.update_model.specs.declared.ask.Closed.{Closed as Answered_as}
+use Rattle.update_model.specs.declared.ask.Closed.{Closed}
 use Rattle.update_model.specs.declared.settled.Settled.{Settled}
 use Rattle.update_model.specs.declared.settled.Verdict2.{Verdict2}
 use Rattle.update_model.proofs.Carried.{each-at}
@@ -63,7 +63,7 @@ taken_of config w (a ∷ queue) h = record {
       (noted_of config w.board a.job.no (lane_answer_of a) (lane_with w.board.out a.job.no) (asker_of w.board a.job.no) h.same refl);
 }
 
-answered_of : (config : Setup) (w : BoardRun) (method : ℕ) (closed : Answered_as) (job : Option Job) → AreOfItems config w → AreOfItems config (answered w method closed job)
+answered_of : (config : Setup) (w : BoardRun) (method : ℕ) (closed : Closed) (job : Option Job) → AreOfItems config w → AreOfItems config (answered w method closed job)
 answered_of config w method closed None h = h
 answered_of config w method closed (Some job) h = one (list_any (λ (a : Answered). a.job.no == job.no) w.queue)
   where

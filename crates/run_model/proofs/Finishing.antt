@@ -99,7 +99,7 @@ is_settled laws config olds notes b n source old r finished at =
     let all : Each (λ slot. slot ≡ SettledSlot) b.slots =
     subst (λ (x : Board). Each (λ slot. slot ≡ SettledSlot) x.slots) board ((laws.exactly config olds r.lanes r.events r.each).0 (ap is_finished board ∙ finished)) in
     let closed : s.slot ≡ SettledSlot = each-at (λ (slot : Slot). slot ≡ SettledSlot) b.slots s.slot all (get_in b.slots n s.slot s.slot_is) in
-    ((laws.once config olds notes b r).closed n).1 (s.slot_is ∙ ap (λ (x : Slot). Some x) closed)
+    ((laws.once config olds notes b r).settled n).1 (s.slot_is ∙ ap (λ (x : Slot). Some x) closed)
 
 -- ---- a source that is not installed
 

@@ -4,7 +4,7 @@ use Rattle.std.specs.Prelude.{Option, Some, None}
 use Rattle.board_model.specs.Boards.{Board, Asker, asker_of, lane_with, took_from, absorbed, issued, settled_as}
 use Rattle.release_file.specs.declared.changing.Change.{Change}
 use Rattle.update_model.specs.Trails.{LaneAnswer}
-use Rattle.update_model.specs.declared.ask.Closed.{Closed as Answer}
+use Rattle.update_model.specs.declared.ask.Closed.{Closed}
 use Rattle.update_model.specs.declared.settled.Verdict2.{Verdict2}
 
 change-took : (b : Board) (number : ℕ) (told : LaneAnswer) (from : Option ℕ) (a : Option Asker) → (took_from b number told from a).config.change ≡ b.config.change
@@ -12,11 +12,11 @@ change-took b number told None a = refl
 change-took b number told (Some from) None = refl
 change-took b number told (Some from) (Some a) = refl
 
-kept-absorbed : (b after : Board) (lane number : ℕ) (closed : Answer) → after ≡ absorbed b lane number closed → after.config.change ≡ b.config.change
+kept-absorbed : (b after : Board) (lane number : ℕ) (closed : Closed) → after ≡ absorbed b lane number closed → after.config.change ≡ b.config.change
 kept-absorbed b after lane number closed e =
     ap (λ (c : Board). c.config.change) e ∙ change-took b number (record { lane = lane; closed = closed }) (lane_with b.out number) (asker_of b number)
 
-pub on_absorbed : {T E : Type 0} (b after : Board) (lane number : ℕ) (closed : Answer) (result : Result T E)
+pub on_absorbed : {T E : Type 0} (b after : Board) (lane number : ℕ) (closed : Closed) (result : Result T E)
     → OnOk result (after ≡ absorbed b lane number closed) → OnOk result (after.config.change ≡ b.config.change)
 on_absorbed b after lane number closed (Ok done) is = kept-absorbed b after lane number closed is
 on_absorbed b after lane number closed (Err refused) is = tt

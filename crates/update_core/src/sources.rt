@@ -75,7 +75,7 @@ impl Sources {
     {
         let at = key.source as usize;
         let source = &setup.sources.as_slice()[at];
-        let old = mem::replace(&mut self.slots[at], Slot::Closed);
+        let old = mem::replace(&mut self.slots[at], Slot::Settled);
         let new = old.hear(alloc, judge, setup, source, key.place, lane, closed)?;
         if let Err(error) = mark(&mut self.ready, key.source, new.is_ready()) {
             drop(new);
@@ -116,7 +116,7 @@ impl Sources {
         let at = place as usize;
         let source = &setup.sources.as_slice()[at];
         self.ready.remove(&place);
-        let slot = mem::replace(&mut self.slots[at], Slot::Closed);
+        let slot = mem::replace(&mut self.slots[at], Slot::Settled);
         let settled = slot.settle(alloc, source)?;
         Ok(settled)
     }
