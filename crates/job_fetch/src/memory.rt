@@ -25,7 +25,7 @@ pub fn fetch_into_memory<M: Method>(
 
     ensures counted { IfOk result (IsCounted (M.faults method.old) (M.faults method.new)) }
     ensures sound { IfOk result IsSoundEnd }
-    ensures held { IfOk result IsInMemory }
+    ensures in_memory { IfOk result IsInMemory }
     ensures answer { IfOk result (IsAnswer (M.world method.old) [] false job.now) }
 {
     let mut joined = Bytes::new(alloc);
