@@ -147,7 +147,7 @@ installed_follow stand law config olds notes b n settled r ready comes =
 
     never : Contains b.settled n → ⊥
     never is =
-        let closed : slice_get b.slots n ≡ Some SettledSlot = ((law config olds notes b r).closed n).0 is in
+        let closed : slice_get b.slots n ≡ Some SettledSlot = ((law config olds notes b r).settled n).0 is in
         let both : Some SettledSlot ≡ Some found.0 = sym closed ∙ found.1 in
         let same : SettledSlot ≡ found.0 = cc in
         let wrong : false ≡ true = ap is_ready same ∙ found.2 in absurd (cc)
