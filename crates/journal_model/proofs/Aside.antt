@@ -32,7 +32,7 @@ idle_quiet s rest = record {
   aside = rest.aside;
   shut = λ i leads bytes outcome.
       let same : i ≡ rest.number = (let both = sym leads ∙ rest.leads in cc) in
-      let first = first_kept (file_at s.files rest.number) rest.closed bytes (subst (λ (k : ℕ). IsOutcome (file_at s.files k) bytes) same outcome) in
+      let first = first_kept (file_at s.files rest.number) rest.shut bytes (subst (λ (k : ℕ). IsOutcome (file_at s.files k) bytes) same outcome) in
       ap journal_state_of first.1;
 }
 
@@ -206,7 +206,7 @@ stays_idle name changed s t only aside rest = record {
   aside = stays_aside name changed s t only aside rest.aside;
   number = rest.number;
   leads = ap (λ (m : Names). m journal) only.base ∙ rest.leads;
-  closed = subst (λ (f : FileState). IsShut f) (sym (journal_same name changed s t only aside rest.aside rest.number rest.leads)) rest.closed;
+  shut = subst (λ (f : FileState). IsShut f) (sym (journal_same name changed s t only aside rest.aside rest.number rest.leads)) rest.shut;
 }
 
 pub leaves_as : (name : List ℕ) (changed : Option ℕ) (s t : State) → IsSound s → ChangesOnly name changed s t → is_own_name name ≡ true → IsQuiet s → ReopensAsAt s t
@@ -236,7 +236,7 @@ pub stays_at_rest : (name : List ℕ) (changed : Option ℕ) (s t : State) → I
 stays_at_rest name changed s t sound only aside = record {
   rest = λ idle folder rest. record {
     leaves = λ image is. let earlier = leaves_as name changed s t sound only aside (idle_quiet s idle) image is in earlier.same ∙ rest.leaves earlier.before earlier.was;
-    settled = stays_settled name changed s t only aside (idle_quiet s idle) rest.settled;
+    synced = stays_settled name changed s t only aside (idle_quiet s idle) rest.synced;
     lists_are = λ list is.
         reads_named t list
         ∙ ap (option_map (λ (f : FileState). f.seen)) (other_file name changed s t only list (λ same. apart_names name list aside (list_not_aside list is) (sym same)))

@@ -14,7 +14,7 @@ use Rattle.journal_model.proofs.Aside.{idle_quiet, first_kept, quiet_view, leads
 
 pub closed : (s : State) → IsIdle s → LeavesShut s
 closed s idle image is =
-    let first = first_kept (file_at s.files idle.number) idle.closed (is.bytes idle.number) (is.outcomes idle.number) in
+    let first = first_kept (file_at s.files idle.number) idle.shut (is.bytes idle.number) (is.outcomes idle.number) in
     (first.0, is.shows journal ∙ ap (option_map is.bytes) (off_all s.base is.some journal (part_aside is.some s.pending is.part idle.aside) refl ∙ idle.leads) ∙ ap (λ (b : List ℕ). Some b) first.1)
 
 pub rests : (s : State) → IsIdle s → IsSynced s → IsAtRest (installed_files (reads s)) s
@@ -24,11 +24,11 @@ rests s idle settled = record {
       ∙ ap (λ (f : Files). Some f) (lists_same s.base (names_of s) is.bytes (λ i. (file_at s.files i).seen) (λ name list. sym (leads_now s name idle.aside (list_not_aside name list)))
       (λ name i list leads. only_synced (file_at s.files i).seen (is.bytes i) (subst (λ (f : FileState). IsOutcome f (is.bytes i)) (settled name i (inl list) leads) (is.outcomes i))))
       ∙ ap (λ (f : Files). Some (installed_files f)) (sym (reads_view s));
-  settled = settled;
+  synced = settled;
   lists_are = λ name list. rw list refl;
 }
 
--- And where a crash leaves a closed journal and no change of a list's name or of the journal's is pending, a commit may be
+-- And where a crash leaves a shut journal and no change of a list's name or of the journal's is pending, a commit may be
 -- prepared.
 abbrev BeginsClosed : FileState → Type 0
 BeginsClosed file = (bytes : List ℕ) → IsOutcome file bytes → (later : List ℕ) × (bytes ≡ 0 ∷ later)
@@ -79,7 +79,7 @@ idle_at s (Some i) sound aside closed leads =
       aside = aside;
       number = i;
       leads = leads;
-      closed = closed_from (file_at s.files i) at.0 (subst (λ (b : List ℕ). IsOutcome (file_at s.files i) b) first (sound.outcomes i)) (begins_closed s i sound closed leads);
+      shut = closed_from (file_at s.files i) at.0 (subst (λ (b : List ℕ). IsOutcome (file_at s.files i) b) first (sound.outcomes i)) (begins_closed s i sound closed leads);
     }
 
 pub idle_again : (s : State) → IsSound s → AllChangeNoInstalledName s.pending → LeavesShut s → IsIdle s

@@ -35,7 +35,7 @@ pub record IsIdle (s : State) : Type 0 where
   pub aside : AllChangeNoInstalledName s.pending
   pub number : ℕ
   pub leads : s.base journal ≡ Some number
-  pub closed : IsShut (file_at s.files number)
+  pub shut : IsShut (file_at s.files number)
 
 -- no change of a list's name or of the journal's is pending, and a crash leaves no gate open
 pub record IsQuiet (s : State) : Type 0 where
@@ -68,7 +68,7 @@ IsSynced s = (name : List ℕ) (i : ℕ) → (is_installed_name name ≡ true) �
 -- between two commits the disk has these lists, and a crash leaves them
 pub record IsAtRest (folder : Files) (s : State) : Type 0 where
   pub leaves : CrashLeaves folder s
-  pub settled : IsSynced s
+  pub synced : IsSynced s
   pub lists_are : (name : List ℕ) → is_installed_name name ≡ true → reads s name ≡ folder name
 
 -- where a commit might be prepared, one still may, and what was at rest is so with its lists

@@ -28,7 +28,7 @@ pub fn damage_is_within()
 /// A commit may be prepared where no change of a list's name or of the journal's is pending, and whatever a crash leaves
 /// has a journal whose gate is 0; and there alone.
 pub fn idle_is_shut()
-    ensures closed { (s : State) → IsIdle s → LeavesShut s }
+    ensures shut { (s : State) → IsIdle s → LeavesShut s }
     ensures idle { (s : State) → IsSound s → AllChangeNoInstalledName s.pending → LeavesShut s → IsIdle s }
 {}
 
