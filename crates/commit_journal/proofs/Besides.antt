@@ -30,7 +30,7 @@ use Rattle.commit_journal.proofs.Carries.{kept_closed}
 
 -- A call on the file beside.
 beside_recovers : (s t : State) (changed : Option ℕ) → IsSound s → ChangesOnly new_journal changed s t → IsQuiet s → Recovers s t
-beside_recovers s t changed sound only quiet = record { images = leaves_as new_journal changed s t sound only refl quiet; settled = stays_settled new_journal changed s t only refl quiet }
+beside_recovers s t changed sound only quiet = record { images = leaves_as new_journal changed s t sound only refl quiet; synced = stays_settled new_journal changed s t only refl quiet }
 
 beside_goes : {T E : Type 0} (P Q : State → Type 0) (call : DiskCall) (old new : List State) (result : Result T E) → IsOn new_journal call → ((s : State) → P s → IsQuiet s) → AllSound old
     → ((s : State) → IsSound s → P s → Q (after s call)) → IsNow P old → Goes call old new result → Since old new (From Recovers old) × OnOk result (IsNow Q new)
@@ -232,7 +232,7 @@ name_ends s lasting = record {
 }
 
 name_recovers : (s : State) → HasNewJournalSynced s → Recovers s (after s (Rename new_journal journal))
-name_recovers s lasting = subst (λ (t : State). Recovers s t) (sym (name_after s lasting)) (record { images = rename_images s lasting; settled = rename_settled s lasting })
+name_recovers s lasting = subst (λ (t : State). Recovers s t) (sym (name_after s lasting)) (record { images = rename_images s lasting; synced = rename_settled s lasting })
 
 pub name_goes : {T E : Type 0} (from to : List ℕ) (old new : List State) (result : Result T E) → from ≡ new_journal → to ≡ journal → AllSound old → IsNow HasNewJournalSynced old → Goes (Rename from to) old new result → Since old new (From Recovers old) × OnOk result (IsNow IsNamed new)
 name_goes from to old new result is_from is_to sound stands is =
@@ -243,7 +243,7 @@ name_goes from to old new result is_from is_to sound stands is =
     stands (subst (λ (n : List ℕ). Goes (Rename new_journal n) old new result) is_to (subst (λ (n : List ℕ). Goes (Rename n to) old new result) is_from is))
 
 all_ends : (s : State) → IsNamed s → IsIdle (after s SyncNames)
-all_ends s named = record { aside = tt; number = named.number; leads = named.leads; closed = subst IsShut (sym named.file) (kept_closed []) }
+all_ends s named = record { aside = tt; number = named.number; leads = named.leads; shut = subst IsShut (sym named.file) (kept_closed []) }
 
 pub all_goes : {T E : Type 0} (old new : List State) (result : Result T E) → AllSound old → IsNow IsNamed old → Goes SyncNames old new result → Since old new (From Recovers old) × OnOk result (IsNow IsIdle new)
 all_goes old new result sound stands is = names_go IsNamed IsIdle old new result sound (λ s _ named. all_ends s named) stands is

@@ -1,4 +1,4 @@
--- A record is carried out and its gate closed.
+-- A record is carried out and its gate shut.
 use Rattle.std.proofs.Common.{◌≡◌, ◌≢◌, ◌⊎◌, inl, inr, ⊎_elim, refl, sym, ap, ◌∙◌, subst, arith, ℕ, ◌<◌, min, nat_eq, Bool, true, false, if◌then◌else◌, List, [], ◌∷◌, ◌++◌, length, set, drop, Option, Some, None, option_map, Result, Ok, OnOk}
 use Rattle.std.proofs.Math.Path.{fun_ext}
 use Rattle.std.proofs.lemmas.Bool.{cases_eq}
@@ -133,7 +133,7 @@ record Carries (steps done : List Step) (s t : State) : Type 0 where
 
 carry_case : (steps done : List Step) (step : Step) (s : State) (o : Option ℕ) → IsSound s → IsIn step steps → (o ≡ None → NamesNothing (names_of s) step) → IsCarrying steps done s → Carries steps (done ++ step ∷ []) s (with_change s o (change_of step))
 carry_case steps done step s None sound is nothing carrying = record {
-  recovers = record { images = λ image left. record { before = image; was = left; same = refl }; settled = λ settled. settled };
+  recovers = record { images = λ image left. record { before = image; was = left; same = refl }; synced = λ settled. settled };
   next = record {
     says = carrying.says;
     pending = carrying.pending;
@@ -146,7 +146,7 @@ carry_case steps done step s (Some i) sound is nothing carrying =
     let says_t : HasOpenRecord steps t = record { number = carrying.says.number; leads = carrying.says.leads; bytes = carrying.says.bytes; file = carrying.says.file; gate = carrying.says.gate } in
     let names : names_of t ≡ after_step (names_of s) step = all_push s.base s.pending (change_of step) ∙ renamed_is (names_of s) step in
     record {
-      recovers = record { images = carry_images steps s t carrying.says carrying.pending more refl refl; settled = carry_settled steps step s t sound carrying.says says_t carrying.pending more is refl names };
+      recovers = record { images = carry_images steps s t carrying.says carrying.pending more refl refl; synced = carry_settled steps step s t sound carrying.says says_t carrying.pending more is refl names };
       next = record { says = says_t; pending = more; names = names ∙ ap (λ (m : Names). after_step m step) carrying.names ∙ sym (carried_push s.base done step) };
     }
 
@@ -180,7 +180,7 @@ settle_ends steps s carrying =
 pub settle_goes : {T E : Type 0} (steps : List Step) (old new : List State) (result : Result T E) → AllSound old → IsNow (IsCarrying steps steps) old → Goes SyncNames old new result → Since old new (From Recovers old) × OnOk result (IsNow (IsDone steps) new)
 settle_goes steps old new result sound stands is = names_go (IsCarrying steps steps) (IsDone steps) old new result sound (λ s _ carrying. settle_ends steps s carrying) stands is
 
--- The gate is closed.
+-- The gate is shut.
 shut_cells : (body : List ℕ) → (file_written (synced (1 ∷ body)) 0 (0 ∷ [])).cells ≡ None ∷ all_kept body
 shut_cells body = let low : min 0 (length (1 ∷ body)) ≡ 0 = omega arith in rw low refl
 
@@ -291,7 +291,7 @@ turned_counts steps s done sound name (inr recorded) =
 shut_recovers : (steps : List Step) (s : State) (done : IsDone steps s) → IsSound s → Recovers s (turned_state s done.says.number (shut_file done.says.bytes))
 shut_recovers steps s done sound = record {
   images = shut_images steps s done sound;
-  settled = λ settled name i counts leads.
+  synced = λ settled name i counts leads.
       let counts_s = turned_counts steps s done sound name counts in
       let differ = other_than_journal s done.says.number i name sound done.unmoved done.says.leads (counts_not_journal s name counts_s) leads in
       subst (λ (f : FileState). f ≡ synced f.seen) (sym (get_or-set_other s.files done.says.number i (shut_file done.says.bytes) no_file differ)) (settled name i counts_s leads);
@@ -336,7 +336,7 @@ closed_ends s sound turned =
       aside = subst (λ (l : List NameChange). AllChangeNoInstalledName l) (sym turned.unmoved) tt;
       number = turned.number;
       leads = turned.leads;
-      closed = subst IsShut (sym (get_or-set_same s.files turned.number file no_file (journal_below s turned.number sound turned.unmoved turned.leads))) (kept_closed turned.body);
+      shut = subst IsShut (sym (get_or-set_same s.files turned.number file no_file (journal_below s turned.number sound turned.unmoved turned.leads))) (kept_closed turned.body);
     })
 
 pub close_goes : {T E : Type 0} (name : List ℕ) (old new : List State) (result : Result T E) → name ≡ journal → AllSound old → IsNow IsGateBeingShut old → Goes (Sync name) old new result → Since old new (From Recovers old) × OnOk result (IsNow IsIdle new)

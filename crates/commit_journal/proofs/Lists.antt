@@ -34,7 +34,7 @@ put_is new files from to list is is_from is_to =
 pub drop_is : (new files : Files) (name list : List ℕ) → new ≡ after_remove files name → name ≡ list → new ≡ after_step files (Drop list)
 drop_is new files name list is is_name = is ∙ ap (λ (n : List ℕ). after_remove files n) is_name
 
--- A record carried out and closed.
+-- A record carried out, and its gate shut.
 closed_case : (files : Files) (o : Option (List ℕ)) (body : List ℕ) → files journal ≡ Some (1 ∷ body) → journal_state_in (shut_files files journal) ≡ Shut
 closed_case files o body is =
     ap journal_state_in (with_same files journal (option_map (λ content. spliced content 0 (0 ∷ [])) (files journal)) journal refl ∙ ap (option_map (λ (content : List ℕ). spliced content 0 (0 ∷ []))) is)
@@ -90,7 +90,7 @@ idle_rests s sound idle settled = record {
       ∙ ap (λ (f : Files). Some f) (lists_same s.base (names_of s) is.bytes (λ i. (file_at s.files i).seen) (λ name list. sym (leads_now s name idle.aside (list_not_aside name list)))
       (λ name i list leads. only_synced (file_at s.files i).seen (is.bytes i) (subst (λ (f : FileState). IsOutcome f (is.bytes i)) (settled name i (inl list) leads) (is.outcomes i))))
       ∙ ap (λ (f : Files). Some (installed_files f)) (sym (reads_view s));
-  settled = settled;
+  synced = settled;
   lists_are = λ name list. rw list refl;
 }
 
@@ -108,7 +108,7 @@ opened_rests tells_old tells_new files_old files_new (s ∷ before) (t ∷ past)
     subst (λ (f : Files). IsAtRest f t) (sym folder) (idle_rests t sound.0 idle settled)
 
 pub stays_settled : (old new : List State) → Since old new (From Recovers old) → IsNow IsSynced old → IsNow IsSynced new
-stays_settled old new since settled = handed_on Recovers IsSynced old new (λ s t recovers. recovers.settled) since settled
+stays_settled old new since settled = handed_on Recovers IsSynced old new (λ s t recovers. recovers.synced) since settled
 
 -- what holds anyhow holds at Ok
 pub anyhow : {T E : Type 0} {X : Type 0} (result : Result T E) → X → OnOk result X

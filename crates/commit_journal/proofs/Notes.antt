@@ -1,4 +1,4 @@
--- A record is written behind the closed gate, and what is at rest stays so.
+-- A record is written behind the shut gate, and what is at rest stays so.
 use Rattle.std.proofs.Common.{◌≡◌, ◌≢◌, inl, ⊎_elim, refl, sym, ap, ◌∙◌, subst, arith, ℕ, ◌+◌, ◌≤◌, min, Bool, true, IsTrue, List, [], ◌∷◌, ◌++◌, length, set, take, drop, Option, Some, None, option_map, unwrap_or, Result, OnOk, IsSomeAnd}
 use Rattle.std.proofs.lemmas.List.{get_or-set_same, get_or-set_other, append-nil, drop_all}
 use Rattle.std.proofs.lemmas.Option.{same_Some}
@@ -23,7 +23,7 @@ use Rattle.commit_journal.proofs.Others.{torn_as_done}
 journal_now : (s : State) (idle : IsIdle s) → names_of s journal ≡ Some idle.number
 journal_now s idle = leads_now s journal idle.aside refl ∙ idle.leads
 
--- A state that differs in the journal's file alone, behind a gate that stays closed.
+-- A state that differs in the journal's file alone, behind a gate that stays shut.
 pub record IsBehind (s t : State) (idle : IsIdle s) : Type 0 where
   base : t.base ≡ s.base
   pending : t.pending ≡ s.pending
@@ -35,7 +35,7 @@ idle_in s t idle is = record {
   aside = subst (λ (l : List NameChange). AllChangeNoInstalledName l) (sym is.pending) idle.aside;
   number = idle.number;
   leads = ap (λ (m : Names). m journal) is.base ∙ idle.leads;
-  closed = is.closed;
+  shut = is.closed;
 }
 
 names_in : (s t : State) (idle : IsIdle s) → IsBehind s t idle → names_of t ≡ names_of s
@@ -58,10 +58,10 @@ behind_stays s t idle sound is = record {
         let earlier = changed_by s t idle.number sound (idle_quiet s idle) (idle_quiet t (idle_in s t idle is)) is.base is.files
         (λ list k of_list base. list_other s idle sound list k of_list (leads_now s list idle.aside (list_not_aside list of_list) ∙ base)) image left in
         earlier.same ∙ rest.leaves earlier.before earlier.was;
-    settled = λ name i counts leads. ⊎_elim
+    synced = λ name i counts leads. ⊎_elim
         (λ list.
         let led : names_of s name ≡ Some i = ap (λ (m : Names). m name) (sym (names_in s t idle is)) ∙ leads in
-        subst (λ (f : FileState). f ≡ synced f.seen) (sym (is.files i (list_other s idle sound name i list led))) (rest.settled name i (inl list) led))
+        subst (λ (f : FileState). f ≡ synced f.seen) (sym (is.files i (list_other s idle sound name i list led))) (rest.synced name i (inl list) led))
         (λ recorded. absurd (quiet_unrecorded t name (idle_quiet t (idle_in s t idle is)) recorded))
         counts;
     lists_are = λ list of_list.
@@ -91,13 +91,13 @@ torn_behind s done torn idle changed at part is = record {
 
 -- The names are synced.
 names_behind : (s : State) → IsIdle s → IsIdle (after s SyncNames)
-names_behind s idle = record { aside = tt; number = idle.number; leads = journal_now s idle; closed = idle.closed }
+names_behind s idle = record { aside = tt; number = idle.number; leads = journal_now s idle; shut = idle.shut }
 
 names_stay : (s : State) → IsIdle s → KeepsAtRest s (after s SyncNames)
 names_stay s idle = record {
   rest = λ before folder rest. record {
     leaves = λ image left. rest.leaves image (names_back s image left);
-    settled = (names_recover s).settled rest.settled;
+    synced = (names_recover s).synced rest.synced;
     lists_are = rest.lists_are;
   };
   idle = λ before. names_behind s idle;
@@ -111,7 +111,7 @@ torn_idle done torn part idle = record {
   aside = subst (λ (l : List NameChange). AllChangeNoInstalledName l) (sym part.pending) idle.aside;
   number = idle.number;
   leads = ap (λ (m : Names). m journal) part.base ∙ idle.leads;
-  closed = subst IsShut (sym (part.others idle.number (never idle.number))) idle.closed;
+  shut = subst IsShut (sym (part.others idle.number (never idle.number))) idle.shut;
 }
 
 torn_stays : (s done torn : State) → IsTorn None done torn → IsIdle done → KeepsAtRest s done → KeepsAtRest s torn
@@ -120,8 +120,8 @@ torn_stays s done torn part idle stays = record {
       let now = stays.rest before folder rest in
       record {
         leaves = λ image left. now.leaves image (leaves_as_done done None torn image part left);
-        settled = λ name i counts leads. ⊎_elim
-            (λ list. subst (λ (f : FileState). f ≡ synced f.seen) (sym (part.others i (never i))) (now.settled name i (inl list) (ap (λ (m : Names). m name) (sym (torn_names done torn part)) ∙ leads)))
+        synced = λ name i counts leads. ⊎_elim
+            (λ list. subst (λ (f : FileState). f ≡ synced f.seen) (sym (part.others i (never i))) (now.synced name i (inl list) (ap (λ (m : Names). m name) (sym (torn_names done torn part)) ∙ leads)))
             (λ recorded. absurd (quiet_unrecorded torn name (idle_quiet torn (torn_idle done torn part idle)) recorded))
             counts;
         lists_are = λ list of_list.
@@ -146,7 +146,7 @@ cut_is : (s : State) (idle : IsIdle s) → after s (Cut journal 1) ≡ turned_st
 cut_is s idle = ap (cut_or_made s journal 1) (journal_now s idle)
 
 cut_behind : (s : State) (idle : IsIdle s) → IsSound s → IsBehind s (after s (Cut journal 1)) idle
-cut_behind s idle sound = subst (λ (t : State). IsBehind s t idle) (sym (cut_is s idle)) (turned_behind s idle (file_cut (file_at s.files idle.number) 1) sound (cut_closed (file_at s.files idle.number) idle.closed))
+cut_behind s idle sound = subst (λ (t : State). IsBehind s t idle) (sym (cut_is s idle)) (turned_behind s idle (file_cut (file_at s.files idle.number) 1) sound (cut_closed (file_at s.files idle.number) idle.shut))
 
 cut_changed : (s : State) (idle : IsIdle s) → changed_file s (Cut journal 1) ≡ Some idle.number
 cut_changed s idle = ap (λ (t : State). names_of t journal) (cut_is s idle) ∙ journal_now s idle
@@ -159,13 +159,13 @@ seen_here s idle file bytes sound is i leads =
     ∙ ap (λ (f : FileState). f.seen) (get_or-set_same s.files idle.number file no_file ((apart_now s sound).below journal idle.number (journal_now s idle))) ∙ is
 
 first_seen : (s : State) (idle : IsIdle s) → IsSound s → (later : List ℕ) × ((file_at s.files idle.number).seen ≡ 0 ∷ later)
-first_seen s idle sound = first_kept (file_at s.files idle.number) idle.closed (file_at s.files idle.number).seen (sound.outcomes idle.number)
+first_seen s idle sound = first_kept (file_at s.files idle.number) idle.shut (file_at s.files idle.number).seen (sound.outcomes idle.number)
 
 cut_ends : (s : State) → IsSound s → IsIdleUnmoved s → HasRecordWritten (0 ∷ []) (after s (Cut journal 1))
 cut_ends s sound has =
     let file : FileState = file_cut (file_at s.files has.idle.number) 1 in
     subst (HasRecordWritten (0 ∷ [])) (sym (cut_is s has.idle)) (record {
-      idle = idle_in s (turned_state s has.idle.number file) has.idle (turned_behind s has.idle file sound (cut_closed (file_at s.files has.idle.number) has.idle.closed));
+      idle = idle_in s (turned_state s has.idle.number file) has.idle (turned_behind s has.idle file sound (cut_closed (file_at s.files has.idle.number) has.idle.shut));
       unmoved = has.unmoved;
       seen = seen_here s has.idle file (0 ∷ []) sound (ap (take 1) (first_seen s has.idle sound).1);
     })
@@ -192,7 +192,7 @@ write_is : (s : State) (idle : IsIdle s) (body : List ℕ) → after s (Write jo
 write_is s idle body = ap (λ (o : Option ℕ). on_file s o (λ file. file_written file 1 body)) (journal_now s idle)
 
 write_file_closed : (s : State) (body : List ℕ) → (has : HasRecordWritten (0 ∷ []) s) → IsShut (file_written (file_at s.files has.idle.number) 1 body)
-write_file_closed s body has = write_closed (file_at s.files has.idle.number) body (has.seen has.idle.number has.idle.leads) has.idle.closed
+write_file_closed s body has = write_closed (file_at s.files has.idle.number) body (has.seen has.idle.number has.idle.leads) has.idle.shut
 
 write_behind : (s : State) (body : List ℕ) (has : HasRecordWritten (0 ∷ []) s) → IsSound s → IsBehind s (after s (Write journal 1 body)) has.idle
 write_behind s body has sound = subst (λ (t : State). IsBehind s t has.idle) (sym (write_is s has.idle body)) (turned_behind s has.idle (file_written (file_at s.files has.idle.number) 1 body) sound (write_file_closed s body has))

@@ -82,7 +82,7 @@ open_gate groups s ready sound image is = any_gate (body_in groups) (is.bytes re
 not_journal : (s : State) (j i : ℕ) (name : List ℕ) → IsSound s → s.base journal ≡ Some j → name ≢ journal → s.base name ≡ Some i → i ≢ j
 not_journal s j i name sound leads differ led same = differ (sound.apart.one name journal i led (leads ∙ ap (λ (k : ℕ). Some k) (sym same)))
 
--- before it, the same bytes behind a closed gate might be left
+-- before it, the same bytes behind a shut gate might be left
 record WasShut (s : State) (image : Files) : Type 0 where
   before : Files
   was : IsImage s before

@@ -89,11 +89,11 @@ rest_on folder (s ∷ past) new idle since rest =
 
 pub ready_after : (groups : List (List Change)) (old new : List State) → IsNow IsIdle old → Since old new (KeptAtRestSince old) → IsNow (IsPrepared groups) new → IsNow (PreparedAfter groups old) new
 ready_after groups old [] idle since ready = tt
-ready_after groups old (t ∷ past) idle since ready = λ folder rest. let now = rest_on folder old (t ∷ past) idle since rest in record { ready = ready; leaves = now.leaves; settled = now.settled }
+ready_after groups old (t ∷ past) idle since ready = λ folder rest. let now = rest_on folder old (t ∷ past) idle since rest in record { ready = ready; leaves = now.leaves; synced = now.synced }
 
 pub settled_at : (folder : Files) (now : List State) → IsNow (IsAtRest folder) now → IsNow IsSynced now
 settled_at folder [] rest = tt
-settled_at folder (s ∷ past) rest = rest.settled
+settled_at folder (s ∷ past) rest = rest.synced
 
 pub settled_kept : (old new : List State) → Since old new (KeptAtRestSince old) → IsNow IsIdle old → IsNow IsSynced old → IsNow IsSynced new
 settled_kept [] new since idle settled = subst (λ (l : List State). IsNow IsSynced l) (sym (since.untold refl)) tt

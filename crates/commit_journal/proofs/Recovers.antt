@@ -22,7 +22,7 @@ abbrev pub Counts : State → List ℕ → Type 0
 Counts s name = (is_installed_name name ≡ true) ⊎ MayBePutByRecord s name
 
 pub by_steps : IsBySteps Recovers
-by_steps a b c first later = record { images = as_by_steps a b c first.images later.images; settled = λ settled. later.settled (first.settled settled) }
+by_steps a b c first later = record { images = as_by_steps a b c first.images later.images; synced = λ settled. later.synced (first.synced settled) }
 
 pub recorded_back : (s t : State) (name : List ℕ) → ((image : Files) → IsImage t image → IsImage s image) → MayBePutByRecord t name → MayBePutByRecord s name
 recorded_back s t name back recorded = record { image = recorded.image; left = back recorded.image recorded.left; steps = recorded.steps; gate = recorded.gate; puts = recorded.puts }
@@ -67,12 +67,12 @@ sync_settled s (Some j) sound settled name i counts leads =
     set_lasts s.files j i (synced (file_at s.files j).seen) refl (settled name i (counts_back s (on_file s (Some j) (λ file. synced file.seen)) name back counts) leads)
 
 pub sync_recovers : (s : State) (name : List ℕ) → IsSound s → Recovers s (after s (Sync name))
-sync_recovers s name sound = record { images = λ image is. as_self s image (file_back s (names_of s name) image sound is); settled = sync_settled s (names_of s name) sound }
+sync_recovers s name sound = record { images = λ image is. as_self s image (file_back s (names_of s name) image sound is); synced = sync_settled s (names_of s name) sound }
 
 pub names_recover : (s : State) → Recovers s (after s SyncNames)
 names_recover s = record {
   images = λ image is. as_self s image (names_back s image is);
-  settled = λ settled name i counts leads. settled name i (counts_back s (after s SyncNames) name (names_back s) counts) leads;
+  synced = λ settled name i counts leads. settled name i (counts_back s (after s SyncNames) name (names_back s) counts) leads;
 }
 
 -- A torn call keeps what the call keeps that is done, where it tears no file that counts.
@@ -82,10 +82,10 @@ torn_names c done torn part = ap (λ (l : List NameChange). all_renamed torn.bas
 pub torn_recovers : (c : Option ℕ) (s done torn : State) → IsTorn c done torn → ((name : List ℕ) (i : ℕ) → Counts done name → names_of done name ≡ Some i → Some i ≢ c) → Recovers s done → Recovers s torn
 torn_recovers c s done torn part away recovers = record {
   images = λ image is. recovers.images image (leaves_as_done done c torn image part is);
-  settled = λ settled name i counts leads.
+  synced = λ settled name i counts leads.
       let counts_done : Counts done name = counts_back done torn name (λ image is. leaves_as_done done c torn image part is) counts in
       let led : names_of done name ≡ Some i = ap (λ (m : Names). m name) (sym (torn_names c done torn part)) ∙ leads in
-      subst Lasts (sym (part.others i (away name i counts_done led))) (recovers.settled settled name i counts_done led);
+      subst Lasts (sym (part.others i (away name i counts_done led))) (recovers.synced settled name i counts_done led);
 }
 
 pub never : (i : ℕ) → Some i ≢ None

@@ -106,7 +106,7 @@ rests_case groups steps old (t ∷ past) sound idle settled over = λ folder rea
   where
     settled_of : (old : List State) (folder : Files) → IsNow (IsPreparedOver groups folder) old → IsNow IsSynced old
     settled_of [] folder ready = tt
-    settled_of (s ∷ past) folder ready = ready.settled
+    settled_of (s ∷ past) folder ready = ready.synced
 
 pub rests_after : (groups : List (List Change)) (steps : List (List Filled)) (old mid new : List State) → AllSound new → IsNow IsIdle new → (IsNow IsSynced old → IsNow IsSynced new) → IsNow (IsGateSynced groups steps old) mid → Since mid new (From Recovers mid)
     → IsNow (IsAtRestAfter groups steps old) new
@@ -116,7 +116,7 @@ rests_after groups steps old mid new sound idle settled over since =
 
 -- what is settled stays so
 pub settled_on : (old mid new : List State) → (IsNow IsSynced old → IsNow IsSynced mid) → Since mid new (From Recovers mid) → IsNow IsSynced old → IsNow IsSynced new
-settled_on old mid new first since settled = handed_on Recovers IsSynced mid new (λ s t recovers. recovers.settled) since (first settled)
+settled_on old mid new first since settled = handed_on Recovers IsSynced mid new (λ s t recovers. recovers.synced) since (first settled)
 
 pub settled_first : (old new : List State) → Since old new (From KeepsSettled old) → IsNow IsSynced old → IsNow IsSynced new
 settled_first old new since settled = handed_on KeepsSettled IsSynced old new (λ s t keeps. keeps) since settled

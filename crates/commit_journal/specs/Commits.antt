@@ -15,8 +15,8 @@ use Rattle.commit_journal.specs.Changes.{Filled, content_of, steps_in, after_com
 pub record PreparedOf : Type 0 where
   pub groups : List (List Change)
 
--- A commit of these groups may be prepared: they can be recorded, each staged file is there and lasts, and the journal is
--- open for commits.
+-- A commit of these groups may be prepared: they can be recorded, each staged file is there and lasts, and the disk is idle:
+-- a crash leaves the gate shut.
 pub record CanPrepare (groups : List (List Change)) (trace : List State) : Type 0 where
   pub changes : CanRecord groups
   pub staged : IsNow (AreAllStaged groups) trace
@@ -49,7 +49,7 @@ pub record IsPrepared (groups : List (List Change)) (s : State) : Type 0 where
 pub record IsPreparedOver (groups : List (List Change)) (folder : Files) (s : State) : Type 0 where
   pub ready : IsPrepared groups s
   pub leaves : CrashLeaves folder s
-  pub settled : IsSynced s
+  pub synced : IsSynced s
 
 -- what was at rest keeps its lists
 abbrev pub CrashKeepsInstalled : List State → State → Type 0

@@ -15,11 +15,11 @@ use Rattle.journal_model.specs.declared.step.JournalState.TheVariants.{Open, Dam
 use Rattle.commit_journal.specs.declared.error.JournalError.{JournalError}
 use Rattle.commit_journal.specs.declared.error.JournalError.TheVariants.{DiskFault, BadJournal, NoMemory}
 
--- each thing that a crash leaves at t reopens to what something that it might have left at s reopens to, and t is settled
+-- each thing that a crash leaves at t reopens to what something that it might have left at s reopens to, and t is synced
 -- where s is
 pub record Recovers (s t : State) : Type 0 where
   pub images : ReopensAsAt s t
-  pub settled : IsSynced s → IsSynced t
+  pub synced : IsSynced s → IsSynced t
 
 abbrev pub damage_at : JournalState → Option ℕ
 damage_at (Open steps) = None

@@ -15,7 +15,7 @@ use Rattle.journal_model.specs.declared.step.JournalState.{JournalState}
 use Rattle.journal_model.specs.declared.step.JournalState.TheVariants.{Open, Damaged, Shut}
 use Rattle.commit_journal.specs.Opening.{is_no_journal}
 use Rattle.commit_journal.specs.declared.opening.FirstByte.{FirstByte}
-use Rattle.commit_journal.specs.declared.opening.FirstByte.TheVariants.{Shut, Open, Other}
+use Rattle.commit_journal.specs.declared.opening.FirstByte.TheVariants as first
 
 -- no change of names is pending
 abbrev pub NoNamePending : State → Type 0
@@ -28,15 +28,15 @@ pub record IsJournalSynced (s : State) : Type 0 where
 
 -- the first byte of the journal, as it was read
 abbrev pub IsFirst : FirstByte → Option (List ℕ) → Type 0
-IsFirst Shut content = (rest : List ℕ) × (content ≡ Some (0 ∷ rest))
-IsFirst Open content = (rest : List ℕ) × (content ≡ Some (1 ∷ rest))
-IsFirst Other content = is_no_journal content ≡ true
+IsFirst first.Shut content = (rest : List ℕ) × (content ≡ Some (0 ∷ rest))
+IsFirst first.Open content = (rest : List ℕ) × (content ≡ Some (1 ∷ rest))
+IsFirst first.Other content = is_no_journal content ≡ true
 
 -- what a byte that was read says of the first byte, where n bytes were read
 abbrev pub IsFirstOf : ℕ → ℕ → FirstByte → Type 0
-IsFirstOf n gate Shut = (n ≢ 0) × (gate ≡ 0)
-IsFirstOf n gate Open = (n ≢ 0) × (gate ≡ 1)
-IsFirstOf n gate Other = (n ≡ 0) ⊎ ((gate ≢ 0) × (gate ≢ 1))
+IsFirstOf n gate first.Shut = (n ≢ 0) × (gate ≡ 0)
+IsFirstOf n gate first.Open = (n ≢ 0) × (gate ≡ 1)
+IsFirstOf n gate first.Other = (n ≡ 0) ⊎ ((gate ≢ 0) × (gate ≢ 1))
 
 -- the journal is there with these bytes, which last and say these steps
 pub record HasOpenRecord (steps : List Step) (s : State) : Type 0 where
@@ -58,7 +58,7 @@ pub record IsDone (steps : List Step) (s : State) : Type 0 where
   pub unmoved : s.pending ≡ []
   pub done : after_steps s.base steps ≡ s.base
 
--- the gate is being closed
+-- the gate is being shut
 pub record IsGateBeingShut (s : State) : Type 0 where
   pub unmoved : s.pending ≡ []
   pub number : ℕ

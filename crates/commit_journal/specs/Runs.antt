@@ -27,7 +27,7 @@ pub record HasCommitted (commit : Commit) (old now : List State) : Type 0 where
   pub begun : CommitHasBegun commit old now
   pub rests : IsNow (IsAtRestAfter begun.groups commit begun.prepared) now
 
--- A moment of a run that makes these commits in turn: so many are acknowledged and so many begun, from one moment of the
+-- How far a run has got that makes these commits in turn: so many are acknowledged and so many begun, from one state of the
 -- disk to another. Between commits it does what keeps a disk at rest, and prepares the next.
 pub data CommitProgress : List Commit → ℕ → ℕ → List State → List State → Type 0 where
   rests : {commits : List Commit} {now : List State} → CommitProgress commits 0 0 now now

@@ -1,4 +1,4 @@
-//! A prepared commit is made: the gate before its record is opened, the record carried out, and the gate closed.
+//! A prepared commit is made: the gate before its record is opened, the record carried out, and the gate shut.
 ghost use Rattle.std.specs.Prelude.{◌≡◌, ◌≤◌, ◌+◌, length, [], OnOk, OnErr, Err};
 ghost use Rattle.acq_outside.specs.Stays.{Stays};
 ghost use Rattle.acq_outside.specs.States.{IsNow, Since};
@@ -25,7 +25,7 @@ fn write_gate<D: Disk>(disk: &mut D, prepared: &Prepared) -> Result<(), Fault>
         (CrashLeavesBeforeOrAfter prepared.now.groups (filled_all (part_bytes (D.trace disk.old)) prepared.now.groups) (D.trace disk.old)) }
     ensures once { length (D.trace disk.new) ≤ length (D.trace disk.old) + 1 }
     ensures later { OnOk result (HasMoreStates (D.trace disk.old) (D.trace disk.new)) }
-    ensures settled { IsNow IsSynced (D.trace disk.old) → IsNow IsSynced (D.trace disk.new) }
+    ensures synced { IsNow IsSynced (D.trace disk.old) → IsNow IsSynced (D.trace disk.new) }
     ensures others { KeepsFilesBut (IsOfCommit (all_steps (steps_in prepared.now.groups))) (D.trace disk.old) (D.trace disk.new) }
     ensures over { OnOk result (IsNow
         (IsGateWritten prepared.now.groups (filled_all (part_bytes (D.trace disk.old)) prepared.now.groups) (D.trace disk.old))
@@ -61,7 +61,7 @@ fn open_gate<D: Disk>(disk: &mut D, prepared: &Prepared) -> Result<(), Fault>
     ensures turns { CommitsAtWrite prepared.now.groups (filled_all (part_bytes (D.trace disk.old)) prepared.now.groups)
         (D.trace disk.old) (D.trace disk.new) }
     ensures later { OnOk result (HasMoreStates (D.trace disk.old) (D.trace disk.new)) }
-    ensures settled { IsNow IsSynced (D.trace disk.old) → IsNow IsSynced (D.trace disk.new) }
+    ensures synced { IsNow IsSynced (D.trace disk.old) → IsNow IsSynced (D.trace disk.new) }
     ensures others { KeepsFilesBut (IsOfCommit (all_steps (steps_in prepared.now.groups))) (D.trace disk.old) (D.trace disk.new) }
     ensures over { OnOk result (IsNow
         (IsGateSynced prepared.now.groups (filled_all (part_bytes (D.trace disk.old)) prepared.now.groups) (D.trace disk.old))
@@ -72,7 +72,7 @@ fn open_gate<D: Disk>(disk: &mut D, prepared: &Prepared) -> Result<(), Fault>
     sync_open_gate(disk, prepared)
 }
 
-/// Carries out the record behind the open gate, and closes the gate.
+/// Carries out the record behind the open gate, and shuts the gate.
 #[tactic(auto, using(crate::proofs::Opens::named_steps))]
 fn carry_out<D: Disk>(disk: &mut D, prepared: &Prepared) -> Result<(), Fault>
     requires { IsNow (IsCarrying (all_steps (steps_in prepared.now.groups)) []) (D.trace disk.old) }
@@ -107,7 +107,7 @@ pub fn commit<D: Disk>(
         (IsAtRestAfter prepared.groups (filled_all (part_bytes (D.trace disk.old)) prepared.groups) (D.trace disk.old)) (D.trace disk.new)) }
     ensures idle { OnOk result (IsNow IsIdle (D.trace disk.new)) }
     ensures later { OnOk result (HasMoreStates (D.trace disk.old) (D.trace disk.new)) }
-    ensures settled { IsNow IsSynced (D.trace disk.old) → IsNow IsSynced (D.trace disk.new) }
+    ensures synced { IsNow IsSynced (D.trace disk.old) → IsNow IsSynced (D.trace disk.new) }
     ensures others { KeepsUnchangedFiles prepared.groups (D.trace disk.old) (D.trace disk.new) }
 {
     open_gate(disk, &prepared)?;

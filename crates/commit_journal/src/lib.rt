@@ -1,5 +1,5 @@
-//! The journal of the lists folder: a commit's record is written behind a closed gate, the gate is opened, the record is
-//! carried out and the gate closed again. Stopped at any moment and opened again, the folder has the lists before the
+//! The journal of the lists folder: a commit's record is written behind a shut gate, the gate is opened, the record is
+//! carried out and the gate shut again. Stopped at any moment and opened again, the folder has the lists before the
 //! commit or those after it, whole.
 //!
 //! `open_journal`, whatever a stop has left: at every moment of the call, each thing that a crash may leave stands

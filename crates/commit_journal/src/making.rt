@@ -57,7 +57,7 @@ fn name_lastingly<D: Disk>(disk: &mut D) -> Result<(), Fault>
     disk.sync_names()
 }
 
-/// Makes the new file, with the gate closed.
+/// Makes the new file, with the gate shut.
 #[tactic(auto, using(crate::proofs::Recovers::onwards, crate::proofs::Others::others_on))]
 fn make_beside<D: Disk>(disk: &mut D) -> Result<(), Fault>
     requires { IsNow HasNoOpenGate (D.trace disk.old) }
@@ -71,7 +71,7 @@ fn make_beside<D: Disk>(disk: &mut D) -> Result<(), Fault>
     sync_beside(disk)
 }
 
-/// Makes a new journal whose gate is closed.
+/// Makes a new journal whose gate is shut.
 #[tactic(auto, using(crate::proofs::Recovers::onwards, crate::proofs::Others::others_on))]
 pub fn make_new<D: Disk>(disk: &mut D) -> Result<(), Fault>
     requires { IsNow HasNoOpenGate (D.trace disk.old) }

@@ -1,4 +1,4 @@
-//! A record is written behind the closed gate.
+//! A record is written behind the shut gate.
 ghost use Rattle.std.specs.Prelude.{[], ◌∷◌};
 ghost use Rattle.acq_outside.specs.Stays.{Stays};
 ghost use Rattle.acq_outside.specs.States.{IsNow};
@@ -54,7 +54,7 @@ fn write_body<D: Disk>(disk: &mut D, body: &[u8]) -> Result<(), Fault>
     sync_journal(disk, body)
 }
 
-/// Makes the names of all that is on its way lasting, and writes a record's bytes behind the closed gate.
+/// Makes the names of all that is on its way lasting, and writes a record's bytes behind the shut gate.
 #[tactic(auto, using(crate::proofs::Fills::rests_on, crate::proofs::Others::others_on))]
 pub fn write_record<D: Disk>(disk: &mut D, body: &[u8]) -> Result<(), Fault>
     requires { IsNow IsIdle (D.trace disk.old) }

@@ -152,7 +152,7 @@ fn open_whole<D: Disk>(alloc: Global, disk: &mut D) -> Result<Journal, JournalEr
     }
 }
 
-/// Opens a journal, whatever a stop has left: carries out an open record, and leaves the journal there and closed. A
+/// Opens a journal, whatever a stop has left: carries out an open record, and leaves the journal there and shut. A
 /// journal that is missing, empty, or whose first byte is neither 0 nor 1, is made anew.
 ///
 /// `BadJournal` comes just where the first byte is 1 and the others are no record. Where it isn't 1, no memory is taken.
@@ -160,7 +160,7 @@ pub fn open_journal<D: Disk>(alloc: Global, disk: &mut D) -> Result<Journal, Jou
     ensures frame { StaysCounting JournalError.DiskFault D.Disk disk.old disk.new result }
     ensures opens { Opens D.Disk disk.old disk.new result }
 
-    ensures settled { IsNow IsSynced (D.trace disk.old) → IsNow IsSynced (D.trace disk.new) }
+    ensures synced { IsNow IsSynced (D.trace disk.old) → IsNow IsSynced (D.trace disk.new) }
     ensures rests { IsNow IsSynced (D.trace disk.old)
         → OnOk result (IsNow (IsAtRest (installed_now (D.trace disk.old))) (D.trace disk.new)) }
 {

@@ -5,7 +5,7 @@ use acq_base::Row;
 use journal_model::Step;
 use std::marker::Model;
 
-/// A commit whose record stands in the journal behind a closed gate. Contracts see its changes, in groups.
+/// A commit whose record stands in the journal behind a shut gate. Contracts see its changes, in groups.
 #[derive(Debug, Drop)]
 pub struct Prepared {
     pub(crate) groups: Row<Row<Change>>,

@@ -1,4 +1,4 @@
-//! A commit is prepared: all that it puts is laid under `partial/`, and its record behind the closed gate.
+//! A commit is prepared: all that it puts is laid under `partial/`, and its record behind the shut gate.
 ghost use Rattle.std.specs.Prelude.{◌≡◌, ◌≢◌, ◌∷◌, OnOk, IfOk, IsErrOf, Err, ℕ};
 ghost use Rattle.acq_outside.specs.Stays.{Stays, StaysCounting};
 ghost use Rattle.acq_outside.specs.States.{IsNow, Since};
@@ -33,11 +33,11 @@ fn write_parts_and_record<D: Disk>(
 }
 
 /// Prepares a commit of these groups of changes: what they hold is written under `partial/`, and the record into the
-/// journal behind its closed gate. Whenever it is stopped, the lists are those before it. All memory of the commit is
+/// journal behind its shut gate. Whenever it is stopped, the lists are those before it. All memory of the commit is
 /// taken here, before the first call of the disk.
 ///
 /// There are fewer than 2^32 groups and 2^32 changes, a record may have their names, and no name is changed twice, a Put
-/// counting the name under which it is on its way. Each staged file is there and lasts. The journal is open for commits.
+/// counting the name under which it is on its way. Each staged file is there and lasts. The disk is idle.
 /// `DiskFault` only where the disk's count of faults rose.
 pub fn prepare<D: Disk>(
     alloc: Global,
@@ -56,7 +56,7 @@ pub fn prepare<D: Disk>(
 
     ensures moments { Since (D.trace disk.old) (D.trace disk.new) (CrashKeepsInstalled (D.trace disk.old)) }
     ensures rests { Since (D.trace disk.old) (D.trace disk.new) (KeptAtRestSince (D.trace disk.old)) }
-    ensures settled { IsNow IsSynced (D.trace disk.old) → IsNow IsSynced (D.trace disk.new) }
+    ensures synced { IsNow IsSynced (D.trace disk.old) → IsNow IsSynced (D.trace disk.new) }
     ensures can_commit { OnOk result (IsNow (IsPrepared groups) (D.trace disk.new)) }
     ensures ready { OnOk result (IsNow (PreparedAfter groups (D.trace disk.old)) (D.trace disk.new)) }
     ensures bytes { OnOk result (filled_all (part_bytes (D.trace disk.new)) groups ≡ filled_all (part_bytes (D.trace disk.old)) groups) }

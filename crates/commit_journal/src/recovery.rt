@@ -1,4 +1,4 @@
-//! An open record is carried out, and the gate closed behind it.
+//! An open record is carried out, and the gate shut behind it.
 ghost use Rattle.std.specs.Prelude.{◌≡◌, [], OnOk, IsTrue};
 ghost use Rattle.acq_outside.specs.Stays.{Stays};
 ghost use Rattle.acq_outside.specs.Crash.{Goes};
@@ -52,7 +52,7 @@ fn sync_renames<D: Disk>(disk: &mut D, steps: &[Step]) -> Result<(), Fault>
     disk.sync_names()
 }
 
-/// Closes the gate.
+/// Shuts the gate.
 fn write_shut_gate<D: Disk>(disk: &mut D, steps: &[Step]) -> Result<(), Fault>
     requires { IsNow (IsDone steps.now) (D.trace disk.old) }
     ensures frame { Stays D.Disk disk.old disk.new result }
@@ -62,7 +62,7 @@ fn write_shut_gate<D: Disk>(disk: &mut D, steps: &[Step]) -> Result<(), Fault>
     disk.write_at(b"journal".as_slice(), 0, &[0])
 }
 
-/// Makes the closed gate lasting.
+/// Makes the shut gate lasting.
 fn sync_shut_gate<D: Disk>(disk: &mut D, steps: &[Step]) -> Result<(), Fault>
     requires { IsNow IsGateBeingShut (D.trace disk.old) }
     ensures frame { Stays D.Disk disk.old disk.new result }
@@ -84,7 +84,7 @@ fn end_record<D: Disk>(disk: &mut D, steps: &[Step]) -> Result<(), Fault>
     sync_shut_gate(disk, steps)
 }
 
-/// Carries out an open record and closes the gate.
+/// Carries out an open record and shuts the gate.
 #[tactic(auto, using(crate::proofs::Recovers::onwards, crate::proofs::Others::others_on))]
 pub fn recover<D: Disk>(disk: &mut D, steps: &[Step]) -> Result<(), Fault>
     requires named { AllNamed steps.now }

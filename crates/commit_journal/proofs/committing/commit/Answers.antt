@@ -15,8 +15,8 @@ pub returns-in_err-carry_out-clause-turns : goal.returns-in_err-carry_out-clause
 returns-in_err-carry_out-clause-turns g c =
     turns_third c.args.prepared.groups (filled_all (part_bytes (g.D.Disk.trace c.args.disk.now)) c.args.prepared.groups) _ _ _ c.open_gate.ensures.turns c.in_ok-open_gate.ensures.over c.carry_out.ensures.moves.moments
 
-pub returns-in_err-carry_out-clause-settled : goal.returns-in_err-carry_out-clause-settled
-returns-in_err-carry_out-clause-settled g c = λ settled. settled_on _ _ _ c.open_gate.ensures.settled c.carry_out.ensures.moves.moments settled
+pub returns-in_err-carry_out-clause-synced : goal.returns-in_err-carry_out-clause-synced
+returns-in_err-carry_out-clause-synced g c = λ settled. settled_on _ _ _ c.open_gate.ensures.synced c.carry_out.ensures.moves.moments settled
 
 pub returns-in_err-carry_out-clause-others : goal.returns-in_err-carry_out-clause-others
 returns-in_err-carry_out-clause-others g c = unnamed_stay c.args.prepared.groups _ _ (others_on _ _ _ _ c.open_gate.ensures.others c.carry_out.ensures.moves.others)
@@ -32,10 +32,10 @@ returns-clause-turns g c =
 pub returns-clause-rests : goal.returns-clause-rests
 returns-clause-rests g c =
     rests_after c.args.prepared.groups (filled_all (part_bytes (g.D.Disk.trace c.args.disk.now)) c.args.prepared.groups) _ _ _ (g.met.D.Disk.sound c.carry_out.new.disk) c.in_ok-carry_out.ensures.moves.done
-    (λ settled. settled_on _ _ _ c.open_gate.ensures.settled c.carry_out.ensures.moves.moments settled) c.in_ok-open_gate.ensures.over c.carry_out.ensures.moves.moments
+    (λ settled. settled_on _ _ _ c.open_gate.ensures.synced c.carry_out.ensures.moves.moments settled) c.in_ok-open_gate.ensures.over c.carry_out.ensures.moves.moments
 
-pub returns-clause-settled : goal.returns-clause-settled
-returns-clause-settled g c = λ settled. settled_on _ _ _ c.open_gate.ensures.settled c.carry_out.ensures.moves.moments settled
+pub returns-clause-synced : goal.returns-clause-synced
+returns-clause-synced g c = λ settled. settled_on _ _ _ c.open_gate.ensures.synced c.carry_out.ensures.moves.moments settled
 
 pub returns-clause-others : goal.returns-clause-others
 returns-clause-others g c = unnamed_stay c.args.prepared.groups _ _ (others_on _ _ _ _ c.open_gate.ensures.others c.carry_out.ensures.moves.others)

@@ -20,8 +20,8 @@ returns-clause-turns g c =
 pub returns-clause-later : goal.returns-clause-later
 returns-clause-later g c = anyhow c.sync_open_gate.result (later_on (CommitsOnceSynced c.args.prepared.now.groups (g.D.Disk.trace c.write_gate.new.disk)) _ _ _ c.in_ok-write_gate.ensures.later c.sync_open_gate.ensures.opens)
 
-pub returns-clause-settled : goal.returns-clause-settled
-returns-clause-settled g c = λ settled. settled_on _ _ _ c.write_gate.ensures.settled c.sync_open_gate.ensures.moves.moments settled
+pub returns-clause-synced : goal.returns-clause-synced
+returns-clause-synced g c = λ settled. settled_on _ _ _ c.write_gate.ensures.synced c.sync_open_gate.ensures.moves.moments settled
 
 pub returns-clause-over : goal.returns-clause-over
 returns-clause-over g c =

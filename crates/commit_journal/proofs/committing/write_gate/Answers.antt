@@ -28,8 +28,8 @@ returns-clause-once g c = (ticks_once (Write c.as_slice.result.now 0 (1 ∷ []))
 pub returns-clause-later : goal.returns-clause-later
 returns-clause-later g c = (ticks_once (Write c.as_slice.result.now 0 (1 ∷ [])) _ _ c.write_at.result c.write_at.ensures.step).1
 
-pub returns-clause-settled : goal.returns-clause-settled
-returns-clause-settled g c = settled_first _ _ (write_ready c.args.prepared.now.groups _ _ _ c.write_at.result c.as_slice.ensures (g.met.D.Disk.sound c.args.disk.now) c.requires c.write_at.ensures.step).0
+pub returns-clause-synced : goal.returns-clause-synced
+returns-clause-synced g c = settled_first _ _ (write_ready c.args.prepared.now.groups _ _ _ c.write_at.result c.as_slice.ensures (g.met.D.Disk.sound c.args.disk.now) c.requires c.write_at.ensures.step).0
 
 pub returns-clause-others : goal.returns-clause-others
 returns-clause-others g c = journal_write (all_steps (steps_in c.args.prepared.now.groups)) _ 0 (1 ∷ []) _ _ c.write_at.result c.as_slice.ensures (g.met.D.Disk.sound c.args.disk.now) c.write_at.ensures.step

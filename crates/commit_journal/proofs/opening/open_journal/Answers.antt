@@ -1,8 +1,8 @@
 use Rattle.commit_journal.proofs.Lists.{rests_told, stays_settled}
 use Rattle.commit_journal.proofs.opening.open_journal.Goals as goal
 
-pub returns-clause-settled : goal.returns-clause-settled
-returns-clause-settled g c = λ settled. stays_settled (g.D.Disk.trace c.args.disk.now) (g.D.Disk.trace c.open_whole.new.disk) c.open_whole.ensures.opens.recovers settled
+pub returns-clause-synced : goal.returns-clause-synced
+returns-clause-synced g c = λ settled. stays_settled (g.D.Disk.trace c.args.disk.now) (g.D.Disk.trace c.open_whole.new.disk) c.open_whole.ensures.opens.recovers settled
 
 pub returns-clause-rests : goal.returns-clause-rests
 returns-clause-rests g c = λ settled.

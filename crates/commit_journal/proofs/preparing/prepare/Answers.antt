@@ -17,14 +17,14 @@ body_bytes-requires-clause-allowed g c = (record_few c.args.groups c.as_slice.re
 pub returns-in_err-write_parts_and_record-clause-moments : goal.returns-in_err-write_parts_and_record-clause-moments
 returns-in_err-write_parts_and_record-clause-moments g c = keeps_lists _ _ c.requires.idle c.write_parts_and_record.ensures.moves.moments
 
-pub returns-in_err-write_parts_and_record-clause-settled : goal.returns-in_err-write_parts_and_record-clause-settled
-returns-in_err-write_parts_and_record-clause-settled g c = λ settled. settled_kept _ _ c.write_parts_and_record.ensures.moves.moments c.requires.idle settled
+pub returns-in_err-write_parts_and_record-clause-synced : goal.returns-in_err-write_parts_and_record-clause-synced
+returns-in_err-write_parts_and_record-clause-synced g c = λ settled. settled_kept _ _ c.write_parts_and_record.ensures.moves.moments c.requires.idle settled
 
 pub returns-clause-moments : goal.returns-clause-moments
 returns-clause-moments g c = keeps_lists _ _ c.requires.idle c.write_parts_and_record.ensures.moves.moments
 
-pub returns-clause-settled : goal.returns-clause-settled
-returns-clause-settled g c = λ settled. settled_kept _ _ c.write_parts_and_record.ensures.moves.moments c.requires.idle settled
+pub returns-clause-synced : goal.returns-clause-synced
+returns-clause-synced g c = λ settled. settled_kept _ _ c.write_parts_and_record.ensures.moves.moments c.requires.idle settled
 
 pub returns-clause-can_commit : goal.returns-clause-can_commit
 returns-clause-can_commit g c =
