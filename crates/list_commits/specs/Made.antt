@@ -17,7 +17,7 @@ pub record NoCommitBegun (old now : List State) : Type 0 where
 abbrev pub IsCommitStopped : Commit → List State → List State → Type 0
 IsCommitStopped commit old now = NoCommitBegun old now ⊎ CommitHasBegun commit old now
 
--- These commits were made in turn, from one moment of the disk to another. Between them it does what keeps a disk at rest.
+-- These commits were made in turn, from one state of the disk to another. Between them it does what keeps a disk at rest.
 pub data CommitsMade : List Commit → List State → List State → Type 0 where
   none : {now : List State} → CommitsMade [] now now
   rests : {commits : List Commit} {old mid now : List State} → CommitsMade commits old mid → IsNow IsIdle mid → Since mid now (KeptAtRestSince mid) → CommitsMade commits old now
@@ -30,7 +30,7 @@ after_all (commit ∷ commits) folder = after_all commits (after_commit commit f
 
 -- ---- laws
 
--- a run that has made commits is at a moment at which all are acknowledged and none more is begun
+-- the progress of a run that has made commits: all are acknowledged and none more is begun
 abbrev pub MadeCommitsAreProgress : Type 0
 MadeCommitsAreProgress = (commits : List Commit) (old now : List State) → CommitsMade commits old now → CommitProgress commits (length commits) (length commits) old now
 

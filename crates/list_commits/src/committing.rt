@@ -32,7 +32,7 @@ pub fn commit_groups<D: Disk>(
     ensures undamaged { (at : ℕ) → result ≢ Err (JournalError.BadJournal at) }
     ensures dry { IsErrOf result JournalError.NoMemory → D.trace disk.new ≡ D.trace disk.old }
 
-    ensures settled { IsNow IsSynced (D.trace disk.old) → IsNow IsSynced (D.trace disk.new) }
+    ensures synced { IsNow IsSynced (D.trace disk.old) → IsNow IsSynced (D.trace disk.new) }
     ensures idle { OnOk result (IsNow IsIdle (D.trace disk.new)) }
     ensures others { KeepsUnchangedFiles groups (D.trace disk.old) (D.trace disk.new) }
     ensures done { OnOk result (HasCommitted (filled_all (part_bytes (D.trace disk.old)) groups) (D.trace disk.old) (D.trace disk.new)) }

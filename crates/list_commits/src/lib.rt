@@ -6,8 +6,8 @@
 //! (`told`), and `drops_of` removes them (`drops_clean_up`). Changes of any sources with names apart, and a clean-up
 //! behind them, can be recorded in one commit (proofs/Theorems), and are carried out source after source
 //! (`gathered_are_carried`). `commit_groups` prepares and makes a commit: made, or not begun, or stopped within
-//! (`done`, `stopped`). Commits made in turn are a moment of a run, of which the journal's laws say what a crash
-//! leaves (proofs/Theorems).
+//! (`done`, `stopped`). Commits made in turn are the progress of a run, of which the journal's laws say what a
+//! crash leaves (proofs/Theorems).
 #![tactic(auto)]
 
 pub use cleaning::{drops_of, removed_of};
