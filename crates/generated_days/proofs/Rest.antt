@@ -28,7 +28,7 @@ rests-so lists trace sound told rests =
 
 pub settled-at : (lists : Files) (trace : List State) → ToldAs (IsAtRest lists) trace → ToldAs IsSynced trace
 settled-at lists [] rests = absurd rests
-settled-at lists (s ∷ past) rests = rests.settled
+settled-at lists (s ∷ past) rests = rests.synced
 
 -- ---- a new disk
 

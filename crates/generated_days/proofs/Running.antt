@@ -52,7 +52,7 @@ running law mirror run entry now method methods later log one world first second
       world = ap (λ (ms : List MapState). map (λ m. Some m.world) ms) one ∙ ap (λ (w : MirrorMap). Some w ∷ []) world;
       none = counts;
       still_none = still-none later (subst (λ (c : List ℕ). NoneFell c (map faults_of later)) counts kept.counts) none;
-      settled = settled;
+      synced = settled;
       files = files;
       shown = shown;
       clear = clear;

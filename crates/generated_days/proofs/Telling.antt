@@ -51,7 +51,7 @@ module _
     (obtained : ReleasesEndAsObtained) (there : SetsThereAreHeld) (next : RunsLeadToNext) (put : PlannedNamesArePutNames)
     (mirror : MirrorMap) (run : Run) (before after : Engine) (log : RunLog) (logged : LogIsTrue run before after log) (as_many : length log.verdicts ≡ length run.plan.sources) (quiet : IsFaultless mirror before after) where
   finished : HasFinished run logged.begun logged.heard before.trace after.trace log
-  finished = logged.commits quiet.settled
+  finished = logged.commits quiet.synced
 
   agree : Agrees mirror logged.begun.parts logged.begun.config.sources logged.heard
   agree = (subst (λ (told : List (Option MirrorMap)). ForMirror told (λ m. Agrees m logged.begun.parts logged.begun.config.sources logged.heard)) quiet.world (logged.answers quiet.told)) tt

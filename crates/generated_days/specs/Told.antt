@@ -24,12 +24,12 @@ pub record TellsDay (mirror : MirrorMap) (run : Run) (before after : Directory) 
   pub asks : length log.asks ≡ sum_by (asks_for mirror before parts run.settings run.change run.moment) run.plan.sources
   pub next : IsNext mirror before parts run.plan run.settings run.change run.moment after
 
--- over a disk that tells, was settled and had nothing on its way, and one method over a mirror, which counts no fault
+-- over a disk that tells, was synced and had nothing on its way, and one method over a mirror, which counts no fault
 pub record IsFaultless (mirror : MirrorMap) (before after : Engine) : Type 0 where
   pub world : before.mirrors ≡ Some mirror ∷ []
   pub none : before.faults ≡ 0 ∷ []
   pub still_none : after.faults ≡ 0 ∷ []
-  pub settled : ToldAs IsSynced before.trace
+  pub synced : ToldAs IsSynced before.trace
   pub files : Files
   pub shown : IsShown true files before.trace
   pub clear : IsClear files

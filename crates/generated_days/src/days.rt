@@ -59,9 +59,9 @@ fn run_day(
 ) -> Result<Day, NoMemory>
     requires answers { HasSoundAnswers mirror.rows }
     requires plan { IsSound it.plan }
-    requires settled { ToldAs IsSynced (trace_of (past_of disk.old)) }
+    requires synced { ToldAs IsSynced (trace_of (past_of disk.old)) }
     ensures day { IfOk result (IsDayOver mirror.rows (run_at it now) (installed_now (trace_of (past_of disk.old))) (installed_now (trace_of (past_of disk.new)))) }
-    ensures settled { OnOk result (ToldAs IsSynced (trace_of (past_of disk.new))) }
+    ensures synced { OnOk result (ToldAs IsSynced (trace_of (past_of disk.new))) }
 {
     check_clear(alloc, disk)?;
     let log = run_over(alloc, it, mirror, now, disk)?;

@@ -36,7 +36,7 @@ pub fn run_over(
 ) -> Result<RunLog, NoMemory>
     requires answers { HasSoundAnswers mirror.rows }
     requires plan { IsSound it.plan }
-    requires settled { ToldAs IsSynced (trace_of (past_of disk.old)) }
+    requires synced { ToldAs IsSynced (trace_of (past_of disk.old)) }
     requires clear { IsClear (files_of (past_of disk.old)) }
     ensures day { IfOk result (TellsDay mirror.rows (run_at it now) (installed_now (trace_of (past_of disk.old))) (installed_now (trace_of (past_of disk.new)))) }
     ensures rests { OnOk result (ToldAs (IsAtRest (installed_now (trace_of (past_of disk.new)))) (trace_of (past_of disk.new))) }

@@ -15,7 +15,7 @@ use Rattle.journal_model.specs.Reopen.{ReopensAsAt, installed_now}
 use Rattle.run_model.specs.Begun.{RunInput}
 use Rattle.run_model.specs.Coming.{HasOutcome, HasNewSet, CrashLeavesWholeSets}
 use Rattle.run_model.specs.Laws.{CrashesLeaveWhole, NewSetsAreAdmissible, NewSetsAreMirrors}
-use Rattle.update_engine.specs.Run.{Engine, Run, StopsAmongCommits, StopsWithWholeSets}
+use Rattle.update_engine.specs.Run.{Engine, Run, StopsAmongCommits, StopsWithWholeCommits}
 use Rattle.update_model.specs.Next.{Keeps}
 use Rattle.update_model.specs.Outcomes.{AdmittedRelease}
 use Rattle.run_promises.proofs.Serving.{for_mirror}
@@ -62,7 +62,7 @@ later : CrashesLeaveWhole → (run : Run) (before after : Engine) (IsNew : Sourc
     → StopsWith run IsNew before.trace stop.opened after.trace
 later crashes run before after IsNew stop new =
     let lists = installed_now before.trace in
-    let whole = crashes run.together stop.begun lists stop.commits stop.has stop.acknowledged stop.started stop.opened after.trace stop.read.begins stop.opens.rests stop.moment in
+    let whole = crashes run.together stop.begun lists stop.commits stop.has stop.acknowledged stop.started stop.opened after.trace stop.read.begins stop.opens.rests stop.progress in
     record {
       until = as_at before.trace stop.opened stop.opens.recovers;
       since = since_map (CrashLeavesWholeSets stop.begun stop.has.heard lists) (StopLeavesWholeSets run IsNew lists) stop.opened after.trace
@@ -78,7 +78,7 @@ stops_with_sets crashes admissible run before after safe settled = by (safe.stop
         let is = admissible stop.begun (installed_now before.trace) stop.has.heard n source set stop.read.begins came in
         record { reads = is.0; admissible = rw (stop.of_run.settings, stop.of_run.change, stop.of_run.moment) at is.1 }
 
-    by : StopsWithWholeSets run before.mirrors before.trace after.trace → StopKeepsSets run before after
+    by : StopsWithWholeCommits run before.mirrors before.trace after.trace → StopKeepsSets run before after
     by (inl never) = (after.trace, early run (MayBeInstalled run (installed_now before.trace)) before.trace after.trace never)
     by (inr stop) = (stop.opened, later crashes run before after (MayBeInstalled run (installed_now before.trace)) stop (may_be_installed stop))
 
@@ -94,7 +94,7 @@ stops_as_served crashes mirrors run before after safe settled = by (safe.stops s
       is = mirrors stop.begun (installed_now before.trace) stop.has.heard n source set mirror stop.read.begins agrees came;
     }
 
-    by : StopsWithWholeSets run before.mirrors before.trace after.trace → StopsOverMirror run before after
+    by : StopsWithWholeCommits run before.mirrors before.trace after.trace → StopsOverMirror run before after
     by (inl never) = for_mirror {X = ⊥} before.mirrors (λ mirror. Unit {0}) _ (λ none. absurd none)
         (λ mirror any. (after.trace, early run (IsServed run mirror before.trace after.trace) before.trace after.trace never))
     by (inr stop) = for_mirror {X = Unit {0}} before.mirrors (λ mirror. Agrees mirror stop.begun.parts stop.begun.config.sources stop.has.heard) _ (λ one. stop.answers)

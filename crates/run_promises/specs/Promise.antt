@@ -21,7 +21,7 @@ use Rattle.update_model.specs.declared.log.RunLog.{RunLog}
 use Rattle.update_model.specs.declared.settled.Held.{Held}
 use Rattle.update_model.specs.declared.settled.Verdict2.{Verdict2}
 
--- the disk tells and was settled
+-- the disk tells and was synced
 abbrev pub WasSynced : Engine → Type 0
 WasSynced before = ToldAs IsSynced before.trace
 
@@ -118,7 +118,7 @@ pub record ListsMatchMirror (run : Run) (mirror : MirrorMap) (entry now : List S
   pub next : IsTold now → IsNext mirror (installed_now entry) begun.parts run.plan run.settings run.change run.moment lists
   pub told : IsTold now → (n : ℕ) (source : Source) → slice_get run.plan.sources n ≡ Some source → LeavesMirrored mirror begun n source log (installed_now entry) lists
 
--- over one mirror that all methods tell, and a disk that tells and was settled: a method failed, or the lists end so
+-- over one mirror that all methods tell, and a disk that tells and was synced: a method failed, or the lists end so
 abbrev pub EndsOverMirror : Run → Engine → Engine → RunLog → Type 0
 EndsOverMirror run before after log = ForMirror before.mirrors (λ mirror.
     WasSynced before → SomeRose before.faults after.faults ⊎ ListsMatchMirror run mirror before.trace after.trace log)

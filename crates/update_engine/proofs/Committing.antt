@@ -255,7 +255,7 @@ sets_committed laws start notes count opened b n settled old now held s c instal
 
 -- ---- a stop
 
--- the disk was settled behind the commits that were made
+-- the disk was synced behind the commits that were made
 pub settled_made : CommittingLaws → (commits : List Commit) (lists : Files) (opened now : List State) → CommitsMade commits opened now → IsNow (IsAtRest lists) opened → IsNow IsSynced now
 settled_made laws commits lists opened now made rest = settled_at (after_all commits lists) now (laws.leaves commits lists opened now made rest)
 
@@ -283,10 +283,10 @@ stops_unbegun laws start notes count lists opened b old now heard unbegun settle
   commits = sets.commits;
   acknowledged = length (commits_of sets.commits);
   started = length (commits_of sets.commits);
-  moment = laws.unbegun (commits_of sets.commits) opened old now sets.made unbegun;
+  progress = laws.unbegun (commits_of sets.commits) opened old now sets.made unbegun;
   has = has_begun start notes count b old lists sets.commits heard sets.each sets.groups sets.order;
   agrees = λ told. heard.answers sets.told;
-  settled = λ rest. settled (settled_made laws (commits_of sets.commits) lists opened old sets.made rest);
+  synced = λ rest. settled (settled_made laws (commits_of sets.commits) lists opened old sets.made rest);
 }
 
 -- where the next was
@@ -302,13 +302,13 @@ stops_begun laws start notes count lists opened b n settled old now held s c ins
       commits = sets.commits ++ group ∷ [];
       acknowledged = length (commits_of sets.commits);
       started = suc (length (commits_of sets.commits));
-      moment = subst (λ (cs : List Commit). CommitProgress cs (length (commits_of sets.commits)) (suc (length (commits_of sets.commits))) opened now) (sym (commits_last sets.commits group))
+      progress = subst (λ (cs : List Commit). CommitProgress cs (length (commits_of sets.commits)) (suc (length (commits_of sets.commits))) opened now) (sym (commits_last sets.commits group))
           (laws.begun (commits_of sets.commits) (commit_of group) opened old now sets.made (subst (λ (x : Commit). CommitHasBegun x old now) (one_group (part_bytes old) n (changes_for c.source settled)) begun));
       has = has_begun start notes count (settled_as b n settled.verdict) old lists (sets.commits ++ group ∷ []) heard (each_last sets.commits n changes sets.each)
           (groups_last (begun_of start) notes sets.commits n changes sets.each sets.groups (new_set laws start notes count b n settled old held sets.told s c installs))
           (sources_last sets.commits n changes sets.each ∙ ap (λ (ns : List ℕ). ns ++ n ∷ []) sets.order ∙ sym (told_new laws start notes count b n settled old held s c installs));
       agrees = λ told. s.under.heard.answers sets.told;
-      settled = λ rest. is_settled (settled_made laws (commits_of sets.commits) lists opened old sets.made rest);
+      synced = λ rest. is_settled (settled_made laws (commits_of sets.commits) lists opened old sets.made rest);
     }
 
 pub stops_committing : CommittingLaws → (start : RunStart) (notes : List Note) (count : ℕ) (lists : Files) (opened : List State) (b : Board) (n : ℕ) (settled : Settled) (old now : List State) (held : Held) → IsSettling start notes count b n settled old

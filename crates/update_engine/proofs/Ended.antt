@@ -70,10 +70,10 @@ stops_before laws together start notes count lists opened mid now b picks heard 
   commits = e.commits;
   acknowledged = length (commits_of e.commits);
   started = length (commits_of e.commits);
-  moment = laws.unbegun (commits_of e.commits) opened mid now e.made unbegun;
+  progress = laws.unbegun (commits_of e.commits) opened mid now e.made unbegun;
   has = has_so_far together start notes count opened mid lists b picks heard e;
   agrees = λ told. heard.answers e.told;
-  settled = λ rest. settled (settled_made laws (commits_of e.commits) lists opened mid e.made rest);
+  synced = λ rest. settled (settled_made laws (commits_of e.commits) lists opened mid e.made rest);
 }
 
 -- ---- what the last commit holds
@@ -341,10 +341,10 @@ stops_within laws together cleanup start notes count lists files opened mid now 
       commits = last_of cleanup loose e;
       acknowledged = length (commits_of e.commits);
       started = suc (length (commits_of e.commits));
-      moment = moment_with laws e.commits (last_groups (part_bytes mid) picks (names_to_remove cleanup c.verdicts loose)) later opened mid now e.made (filled_later cleanup c picks loose later (part_bytes mid) is) some begun;
+      progress = moment_with laws e.commits (last_groups (part_bytes mid) picks (names_to_remove cleanup c.verdicts loose)) later opened mid now e.made (filled_later cleanup c picks loose later (part_bytes mid) is) some begun;
       has = has_last together cleanup start notes count lists mid c picks loose (last_of cleanup loose e) a.under.heard all;
       agrees = λ told. a.under.heard.answers e.told;
-      settled = λ rest. settled (settled_made laws (commits_of e.commits) lists opened mid e.made rest);
+      synced = λ rest. settled (settled_made laws (commits_of e.commits) lists opened mid e.made rest);
     }
 
 -- ---- at the end of a run

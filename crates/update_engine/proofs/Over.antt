@@ -80,7 +80,7 @@ for_first (Some mirror) others P is = λ same. is
 
 -- ---- the journal is open
 
--- the journal was opened over a disk that tells and was settled
+-- the journal was opened over a disk that tells and was synced
 pub record IsOpen (entry opened : List State) : Type 0 where
   pub opens : HasOpenedJournal entry opened
   pub told : IsTold opened
@@ -108,7 +108,7 @@ none_found (Some at) j log finds = ⊎_elim (λ wrong. absurd (cc)) (⊎_elim (�
 pub stays_unopened : (run : Run) (before after : Engine) (opened : List State) → Since before.trace opened (From Recovers before.trace) → (IsNow IsSynced before.trace → IsNow IsSynced opened) → after.trace ≡ opened → SurvivesCrash run before after
 stays_unopened run before after opened recovers is_settled same = record {
   stops = λ settled. inl (subst (λ (t : List State). Since before.trace t (From Recovers before.trace)) (sym same) recovers);
-  settled = λ settled. subst (IsNow IsSynced) (sym same) (is_settled (was IsSynced before.trace settled));
+  synced = λ settled. subst (IsNow IsSynced) (sym same) (is_settled (was IsSynced before.trace settled));
 }
 
 -- ---- where it stops
@@ -127,7 +127,7 @@ stops_at run mirror others count entry opened now b ready_at h told m = record {
   commits = m.commits;
   acknowledged = m.acknowledged;
   started = m.started;
-  moment = m.moment;
+  progress = m.progress;
   has = m.has;
   answers = for_first mirror others (λ (w : MirrorMap). Agrees w h.start.parts h.start.config.sources m.has.heard)
       (subst (λ (o : Option MirrorMap). IfSome o (λ (w : MirrorMap). Agrees w h.start.parts h.start.config.sources m.has.heard)) h.from (m.agrees told));
@@ -138,7 +138,7 @@ stays_at : (run : Run) (mirror mirror' : Option MirrorMap) (others others' : Lis
     → SurvivesCrash run (record { trace = entry; mirrors = mirror ∷ others; faults = counts }) (record { trace = now; mirrors = mirror' ∷ others'; faults = counts' })
 stays_at run mirror mirror' others others' counts counts' count entry opened now b ready_at h told at = record {
   stops = λ settled. inr (stops_at run mirror others count entry opened now b (ready_at settled) h (told (was_told IsSynced entry settled)) (at (ready_at settled)));
-  settled = λ settled. (at (ready_at settled)).settled (ready_at settled).opens.rests;
+  synced = λ settled. (at (ready_at settled)).synced (ready_at settled).opens.rests;
 }
 
 none_heard : (mirror : Option MirrorMap) (parts : PartFiles) (sources : List Source) → IfSome mirror (λ (w : MirrorMap). Agrees w parts sources [])
@@ -156,7 +156,7 @@ sets_none start opened b told unsettled = record {
   order = sym (ap (filter (λ (n : ℕ). is_told_installed (slice_get b.verdicts n))) unsettled);
 }
 
--- within its jobs: one by one at a moment of its commits, and together before any
+-- within its jobs: one by one among its commits, and together before any
 at_asking : CommittingLaws → (together : Bool) (mirror : Option MirrorMap) (count : ℕ) (start : RunStart) (lists : Files) (opened now : List State) (b : Board) → IsSoundBegun start → start.mirror ≡ mirror → IsUnderWay start [] count b opened
     → IsTold opened → IsNow IsIdle opened → b.settled ≡ [] → StopsWhileAsking mirror count b opened now → (together ≡ true → Since opened now (KeptAtRestSince opened)) → HasProgress start together lists opened now
 at_asking laws false mirror count start lists opened now b sound from under told idle unsettled stops bare = stops start [] lists opened sound from under (sets_none start opened b told unsettled)
@@ -166,10 +166,10 @@ at_asking laws true mirror count start lists opened now b sound from under told 
       commits = [];
       acknowledged = 0;
       started = 0;
-      moment = laws.made [] opened now made;
+      progress = laws.made [] opened now made;
       has = record { heard = []; board = b; reached = under.heard.reached; groups = tt; may = inl refl; in_turn = tt; shape = (omega arith, tt) };
       agrees = λ told_now. none_heard start.mirror start.parts start.config.sources;
-      settled = λ rest. settled_made laws [] lists opened now made rest;
+      synced = λ rest. settled_made laws [] lists opened now made rest;
     }
 
 pub safe_asking : CommittingLaws → (run : Run) (mirror mirror' : Option MirrorMap) (others others' : List (Option MirrorMap)) (counts counts' : List ℕ) (count : ℕ) (entry opened now : List State) (b : Board) → (ToldAs IsSynced entry → IsOpen entry opened)
@@ -218,7 +218,7 @@ ended_at laws together start notes lists opened now log agree e = record {
   commits = e.commits;
   acknowledged = length (commits_of e.commits);
   started = length (commits_of e.commits);
-  moment = laws.made (commits_of e.commits) opened now e.made;
+  progress = laws.made (commits_of e.commits) opened now e.made;
   has = record {
     heard = e.ran.heard;
     board = e.ran.board;
@@ -229,7 +229,7 @@ ended_at laws together start notes lists opened now log agree e = record {
     shape = e.ran.shape;
   };
   agrees = λ told. subst (λ (ns : List Note). IfSome start.mirror (λ (w : MirrorMap). Agrees w start.parts start.config.sources ns)) (sym e.same) (agree told);
-  settled = λ rest. settled_made laws (commits_of e.commits) lists opened now e.made rest;
+  synced = λ rest. settled_made laws (commits_of e.commits) lists opened now e.made rest;
 }
 
 pub safe_ended : CommittingLaws → (run : Run) (mirror mirror' : Option MirrorMap) (others others' : List (Option MirrorMap)) (counts counts' : List ℕ) (count later : ℕ) (entry opened mid now : List State) (b c : Board) (cleanup : Bool) (log : RunLog)

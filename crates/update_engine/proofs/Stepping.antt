@@ -118,7 +118,7 @@ ready_asked mirror later_mirror count later b c old now same ready since goes =
 
 -- ---- where it stops
 
--- at a moment at which all sets so far are made
+-- all sets so far are made
 pub at_moment : CommittingLaws → (start : RunStart) (notes : List Note) (count : ℕ) (lists : Files) (opened : List State) (b : Board) (old now : List State) → RunHasHeard start notes count b old → (IsTold now → IsTold old) → HasCommittedSets (begun_of start) notes opened now b
     → HasProgress start false lists opened now
 unfolding has_begun
@@ -126,10 +126,10 @@ at_moment laws start notes count lists opened b old now heard back sets = record
   commits = sets.commits;
   acknowledged = length (commits_of sets.commits);
   started = length (commits_of sets.commits);
-  moment = laws.made (commits_of sets.commits) opened now sets.made;
+  progress = laws.made (commits_of sets.commits) opened now sets.made;
   has = has_begun start notes count b old lists sets.commits heard sets.each sets.groups sets.order;
   agrees = λ told. heard.answers (back told);
-  settled = λ rest. settled_made laws (commits_of sets.commits) lists opened now sets.made rest;
+  synced = λ rest. settled_made laws (commits_of sets.commits) lists opened now sets.made rest;
 }
 
 pub far_stops : (mirror : Option MirrorMap) (count mid_count : ℕ) (b c : Board) (old mid now : List State) → RunGoesOn mirror count mid_count b c old mid → StopsBetweenAsks c mid now → StopsWhileAsking mirror count b old now

@@ -110,7 +110,7 @@ pub record IsReadFromDisk (entry opened : List State) (begun : RunInput) : Type 
 
 -- ---- whatever it answers
 
--- A stop finds a run at a moment of its commits, once the journal was open. What it had heard is the mirror's, or faults.
+-- A stop finds a run's commits as far as they have got, once the journal was open. What it had heard is the mirror's, or faults.
 pub record StopsAmongCommits (run : Run) (mirrors : List (Option MirrorMap)) (entry now : List State) : Type 0 where
   pub opened : List State
   pub opens : HasOpenedJournal entry opened
@@ -120,18 +120,18 @@ pub record StopsAmongCommits (run : Run) (mirrors : List (Option MirrorMap)) (en
   pub commits : List (List Group)
   pub acknowledged : ℕ
   pub started : ℕ
-  pub moment : CommitProgress (commits_of commits) acknowledged started opened now
+  pub progress : CommitProgress (commits_of commits) acknowledged started opened now
   pub has : MayBeStopped run.together begun (installed_now entry) commits
   pub answers : ForMirror mirrors (λ mirror. Agrees mirror begun.parts begun.config.sources has.heard)
 
 -- before that a crash leaves what it left at entry
-abbrev pub StopsWithWholeSets : Run → List (Option MirrorMap) → List State → List State → Type 0
-StopsWithWholeSets run mirrors entry now = Since entry now (From Recovers entry) ⊎ StopsAmongCommits run mirrors entry now
+abbrev pub StopsWithWholeCommits : Run → List (Option MirrorMap) → List State → List State → Type 0
+StopsWithWholeCommits run mirrors entry now = Since entry now (From Recovers entry) ⊎ StopsAmongCommits run mirrors entry now
 
--- Over a disk that tells and was settled, a stop leaves whole commits, and the disk is settled again.
+-- Over a disk that tells and was synced, a stop leaves whole commits, and the disk is synced again.
 pub record SurvivesCrash (run : Run) (before after : Engine) : Type 0 where
-  pub stops : ToldAs IsSynced before.trace → StopsWithWholeSets run before.mirrors before.trace after.trace
-  pub settled : ToldAs IsSynced before.trace → IsNow IsSynced after.trace
+  pub stops : ToldAs IsSynced before.trace → StopsWithWholeCommits run before.mirrors before.trace after.trace
+  pub synced : ToldAs IsSynced before.trace → IsNow IsSynced after.trace
 
 -- no damage is told where there is none, and this one, or a fault or want of memory, where there is
 abbrev pub RunFindsDamage : Option ℕ → Result RunLog RunError → Type 0
@@ -161,7 +161,7 @@ pub record HasFinished (run : Run) (begun : RunInput) (heard : List Note) (entry
   pub made : CommitsMade (commits_of commits) opened now
   pub rests : IsNow (IsAtRest (after_all (commits_of commits) (installed_now entry))) now
 
--- The log tells what the run heard, and each answer is the mirror's or a fault. Over a disk that tells and was settled, the
+-- The log tells what the run heard, and each answer is the mirror's or a fault. Over a disk that tells and was synced, the
 -- run's commits are all made.
 pub record LogIsTrue (run : Run) (before after : Engine) (log : RunLog) : Type 0 where
   pub begun : RunInput
@@ -172,7 +172,7 @@ pub record LogIsTrue (run : Run) (before after : Engine) (log : RunLog) : Type 0
   pub faults : FaultsRise before.faults after.faults log.asks
   pub commits : ToldAs IsSynced before.trace → HasFinished run begun heard before.trace after.trace log
 
--- What a run answers, and what it does to the outside: a journal that can't be read changes no file, damage is told just
+-- What a run answers, and what it does to the outside: a journal that is damaged changes no file, damage is told just
 -- where it is there, a log has a verdict for each source and is true, and a crash at any moment leaves whole commits.
 pub record Runs {D M : Type 0} (d : Disks D) (m : Methods M) (run : Run) (old new : D) (asked answered : List M)
     (result : Result RunLog RunError) : Type 0 where

@@ -59,15 +59,15 @@ pub record HasCommittedSets (begun : RunInput) (heard : List Note) (opened now :
   pub order : sources_in (all_groups commits) ≡ installed_in b
 
 -- The commits of a run over these lists are made one after another since the journal was open: so many are acknowledged and
--- so many begun. Where the disk was at rest then, it is settled.
+-- so many begun. Where the disk was at rest then, it is synced.
 pub record HasProgress (start : RunStart) (together : Bool) (lists : Files) (opened now : List State) : Type 0 where
   pub commits : List (List Group)
   pub acknowledged : ℕ
   pub started : ℕ
-  pub moment : CommitProgress (commits_of commits) acknowledged started opened now
+  pub progress : CommitProgress (commits_of commits) acknowledged started opened now
   pub has : MayBeStopped together (begun_of start) lists commits
   pub agrees : IsTold now → IfSome start.mirror (λ mirror. Agrees mirror start.parts start.config.sources has.heard)
-  pub settled : IsNow (IsAtRest lists) opened → IsNow IsSynced now
+  pub synced : IsNow (IsAtRest lists) opened → IsNow IsSynced now
 
 -- ---- between two jobs
 
@@ -97,7 +97,7 @@ pub record KeepsRunGoing (before after : Board) (old now : List State) : Type 0 
   pub sets : (start : RunStart) (notes : List Note) (count : ℕ) (opened : List State) → IsSoundBegun start → IsUnderWay start notes count before old
       → HasCommittedSets (begun_of start) notes opened old before → HasCommittedSets (begun_of start) notes opened now after
 
--- and where it stops, it is at a moment of its commits
+-- and where it stops, its commits have got so far
 abbrev pub StopsBetweenAsks : Board → List State → List State → Type 0
 StopsBetweenAsks before old now =
     (start : RunStart) (notes : List Note) (count : ℕ) (lists : Files) (opened : List State) → IsSoundBegun start → IsUnderWay start notes count before old
@@ -116,7 +116,7 @@ abbrev pub RunGoesOn : Option MirrorMap → ℕ → ℕ → Board → Board → 
 RunGoesOn mirror count later before after old now =
     (start : RunStart) (notes : List Note) → IsSoundBegun start → start.mirror ≡ mirror → IsUnderWay start notes count before old → RunGoesOnWith start notes later before after old now
 
--- and where it stops, it is at a moment of its commits
+-- and where it stops, its commits have got so far
 abbrev pub StopsWhileAsking : Option MirrorMap → ℕ → Board → List State → List State → Type 0
 StopsWhileAsking mirror count before old now =
     (start : RunStart) (notes : List Note) (lists : Files) (opened : List State) → IsSoundBegun start → start.mirror ≡ mirror → IsUnderWay start notes count before old
@@ -227,7 +227,7 @@ pub record RunsOverLists (together : Bool) (start : RunStart) (notes : List Note
   pub rest : IsNow (IsAtRest lists) opened
   pub over : ReadsPlanned (begun_of start) lists
 
--- where each such run stops at its end, it is at a moment of its commits
+-- where each such run stops at its end, its commits have got so far
 abbrev pub StopsWhileEnding : Bool → Bool → Board → List State → List State → Type 0
 StopsWhileEnding together cleanup b old now =
     (start : RunStart) (notes : List Note) (count : ℕ) (lists : Files) (opened : List State) → start.config.settings.cleanup ≡ cleanup

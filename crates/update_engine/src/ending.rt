@@ -126,7 +126,7 @@ pub fn commit_last<D: Disk>(
 
     ensures some { OnErr result (groups ≢ []) }
 
-    ensures settled { IsNow IsSynced (D.trace disk.old) → IsNow IsSynced (D.trace disk.new) }
+    ensures synced { IsNow IsSynced (D.trace disk.old) → IsNow IsSynced (D.trace disk.new) }
     ensures idle { OnOk result (IsNow IsIdle (D.trace disk.new)) }
     ensures none { groups ≡ [] → D.trace disk.new ≡ D.trace disk.old }
     ensures others { groups ≢ [] → KeepsUnchangedFiles groups (D.trace disk.old) (D.trace disk.new) }

@@ -5,8 +5,8 @@ use Rattle.generated_days.proofs.Both.{days-of, held}
 use Rattle.generated_days.proofs.Rest.{begins-empty, begins-settled}
 use Rattle.generated_days.proofs.days.both_days.Goals as goal
 
-pub run_day-requires-clause-settled : goal.run_day-requires-clause-settled
-run_day-requires-clause-settled c = begins-settled (past_of c.in_ok-disk.disk) (rw c.new.ensures at c.in_ok-disk.ensures.past)
+pub run_day-requires-clause-synced : goal.run_day-requires-clause-synced
+run_day-requires-clause-synced c = begins-settled (past_of c.in_ok-disk.disk) (rw c.new.ensures at c.in_ok-disk.ensures.past)
 
 pub returns : goal.returns
 returns c = record {

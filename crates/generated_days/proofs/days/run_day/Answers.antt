@@ -12,12 +12,12 @@ returns-clause-day c =
     rw c.bytes_of.ensures.still
     (day-of _ _ _ _ _ _ _ _ (rw (c.check_clear.ensures.still, to_z-of_z w64 c.args.now c.ranges.now) at c.in_ok-log.ensures.day) c.count_installed-installed.ensures c.count_asks-asks.ensures c.in_ok-bytes.ensures.bytes)
 
-pub returns-clause-settled : goal.returns-clause-settled
-returns-clause-settled c =
+pub returns-clause-synced : goal.returns-clause-synced
+returns-clause-synced c =
     rw c.bytes_of.ensures.still (settled-at (installed_now (trace_of (past_of c.run_over.new.disk))) (trace_of (past_of c.run_over.new.disk)) c.in_ok-log.ensures.rests)
 
-pub run_over-requires-clause-settled : goal.run_over-requires-clause-settled
-run_over-requires-clause-settled c = rw c.check_clear.ensures.still c.requires.settled
+pub run_over-requires-clause-synced : goal.run_over-requires-clause-synced
+run_over-requires-clause-synced c = rw c.check_clear.ensures.still c.requires.synced
 
 pub run_over-requires-clause-clear : goal.run_over-requires-clause-clear
 run_over-requires-clause-clear c = rw c.check_clear.ensures.still c.in_ok-check_clear.ensures.clear

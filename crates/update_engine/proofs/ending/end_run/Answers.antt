@@ -39,7 +39,7 @@ pub returns-in_err-commit_last-clause-stops : goal.returns-in_err-commit_last-cl
 returns-in_err-commit_last-clause-stops g c = on_err _ _ (stops_last commits_known _ _ (board_of c.args.board) (board_of c.settle_last.new.board) _ (g.D.Disk.trace c.loose_names.new.disk) _ (g.D.Disk.files c.settle_last.new.disk)
     (g.D.Disk.tells c.settle_last.new.disk) c.in_ok-groups.groups c.add_clean_up.new.groups c.in_ok-loose.loose c.sources.result.now c.end_board-log.result
     (leaves_on _ (board_of c.args.board) (board_of c.settle_last.new.board) _ _ _ c.in_ok-groups.groups c.loose_names.ensures.frame.still c.in_ok-groups.ensures.leaves) c.end_board-log.ensures.finished c.sources.ensures c.in_ok-loose.ensures.told
-    (shown_on _ _ _ _ c.loose_names.ensures.frame.still (g.met.D.Disk.shown c.settle_last.new.disk)) c.in_ok-add_clean_up.ensures.groups c.end_board-log.ensures.log c.in_err-commit_last.ensures.some c.in_err-commit_last.ensures.stopped c.commit_last.ensures.settled)
+    (shown_on _ _ _ _ c.loose_names.ensures.frame.still (g.met.D.Disk.shown c.settle_last.new.disk)) c.in_ok-add_clean_up.ensures.groups c.end_board-log.ensures.log c.in_err-commit_last.ensures.some c.in_err-commit_last.ensures.stopped c.commit_last.ensures.synced)
 
 pub returns-clause-ended : goal.returns-clause-ended
 returns-clause-ended g c = ends_all commits_known _ _ (board_of c.args.board) (board_of c.settle_last.new.board) _ (g.D.Disk.trace c.loose_names.new.disk) _ (g.D.Disk.files c.settle_last.new.disk)

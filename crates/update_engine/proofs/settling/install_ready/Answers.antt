@@ -29,7 +29,7 @@ pub returns-in_err-commit_groups-clause-stops : goal.returns-in_err-commit_group
 returns-in_err-commit_groups-clause-stops g c = on_err _ _ (stops_in_commit commits_known (board_of c.args.board.now) _ c.in_ok-settled.settled c.in_ok-groups.groups _ _ c.requires.ready c.in_ok-settled.ensures.settled
     (sym c.is_new.ensures ∙ c.if-not-is_new.false)
     (groups_of (board_of c.args.board.now) (board_of c.settle.new.self) _ c.in_ok-settled.settled c.in_ok-changes.changes c.in_ok-groups.groups c.in_ok-settled.ensures.board c.in_ok-changes.ensures c.in_ok-groups.ensures)
-    c.in_err-commit_groups.ensures.stopped c.commit_groups.ensures.settled)
+    c.in_err-commit_groups.ensures.stopped c.commit_groups.ensures.synced)
 
 pub returns-clause-goes : goal.returns-clause-goes
 returns-clause-goes g c = goes_committed commits_known (board_of c.args.board.now) (board_of c.settle.new.self) _ c.in_ok-settled.settled c.in_ok-groups.groups _ _ c.requires.ready c.in_ok-settled.ensures.settled

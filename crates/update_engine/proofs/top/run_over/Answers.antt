@@ -31,7 +31,7 @@ returns-in_err-journal-clause-run g c = λ others. record {
   damage = search rules;
   verdicts = search rules;
   log = search rules;
-  crash = stays_unopened _ _ _ _ c.open_journal.ensures.opens.recovers c.open_journal.ensures.settled refl;
+  crash = stays_unopened _ _ _ _ c.open_journal.ensures.opens.recovers c.open_journal.ensures.synced refl;
 }
 
 pub returns-in_err-board-clause-run : goal.returns-in_err-board-clause-run
@@ -40,7 +40,7 @@ returns-in_err-board-clause-run g c = λ others. record {
   damage = search rules;
   verdicts = search rules;
   log = search rules;
-  crash = stays_unopened _ _ _ _ c.open_journal.ensures.opens.recovers c.open_journal.ensures.settled c.begin_run.ensures.frame.still;
+  crash = stays_unopened _ _ _ _ c.open_journal.ensures.opens.recovers c.open_journal.ensures.synced c.begin_run.ensures.frame.still;
 }
 
 pub returns-in_err-ask_until_done-clause-run : goal.returns-in_err-ask_until_done-clause-run
