@@ -17,7 +17,7 @@ use Rattle.journal_model.specs.declared.step.Step.{Step}
 use Rattle.journal_model.specs.declared.step.Step.TheVariants.{Put, Drop}
 use Rattle.commit_journal.specs.Opening.{Recovers}
 
--- a name that counts for what is settled
+-- a name that counts for what is synced
 abbrev pub Counts : State → List ℕ → Type 0
 Counts s name = (is_installed_name name ≡ true) ⊎ MayBePutByRecord s name
 

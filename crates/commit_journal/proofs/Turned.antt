@@ -114,7 +114,7 @@ rests_after groups steps old mid new sound idle settled over since =
     let on = over_on groups steps old mid new over since in
     rests_case groups steps old new sound idle settled (newest_of (IsGateSynced groups steps old) mid on.states new on.joined on.each over)
 
--- what is settled stays so
+-- what is synced stays so
 pub settled_on : (old mid new : List State) → (IsNow IsSynced old → IsNow IsSynced mid) → Since mid new (From Recovers mid) → IsNow IsSynced old → IsNow IsSynced new
 settled_on old mid new first since settled = handed_on Recovers IsSynced mid new (λ s t recovers. recovers.synced) since (first settled)
 
