@@ -18,7 +18,8 @@ pub fn same_word(a: &[u8], b: &[u8]) -> bool
     a.eq_ignore_ascii_case(b)
 }
 
-/// The values of the fields of a name, in order. The spans lie in the bytes.
+/// The values of the fields of a name, in order; names differ in nothing where they differ in the case of ASCII letters
+/// alone (RFC 9110, section 5.1). The spans lie in the bytes.
 #[tactic(auto, unfolding(crate::specs::Fields::values), using(crate::proofs::Spans::mapped))]
 pub fn values(
     alloc: Global,
@@ -83,7 +84,8 @@ fn all_digits(text: &[u8]) -> bool
     text.iter().all(|c| c.is_ascii_digit())
 }
 
-/// The number below 2^64 that digits write, leading zeros included.
+/// The number that decimal digits write, leading zeros included: `None` exactly where a text isn't of digits alone, or its
+/// number is 2^64 or more.
 pub fn number(text: &[u8]) -> Option<u64>
     ensures { result ≡ spec.number text.now }
 {

@@ -10,19 +10,23 @@
 //! length, within the limit, is heard as its body (`responses_are_heard`), and a wire's state, body and reply are
 //! that reading of the bytes fed, however they were cut (`follows`, `replies`, `wires_tell`). What `take` gave,
 //! followed by the bytes of `reply`, is the body, which begins at the byte that was asked for, fits in the limit,
-//! and with more bytes only grows (`bodies_fit`, `bodies_grow`). Only tested: that the definition is what RFC 9112
+//! and with more bytes only grows (`bodies_fit`, `bodies_grow`). What a head's fields say, whoever sent it, is read by
+//! functions of their own, each exactly its definition (`values`, `same_word`, `is_digits`, `number`, `has_close`,
+//! `lines_behind_blank`), so that a server reads requests by the same words. Only tested: that the definition is what RFC 9112
 //! and this profile say of 91 streams cut at every place. By the form of the code, and no clause: a good head that
 //! comes whole in a piece is read twice, and any other one with each of its lines behind the empty ones at its
 //! front, of which there are at most 130, and once more by itself or at the peer's end.
 #![tactic(auto)]
 
 pub use ending::{Response, State};
+pub use fields::{has_close, is_digits, number, same_word, values};
 pub use laws::{
     bodies_fit, bodies_grow, endings_stay, limits_rise, one_reading, responses_are_heard,
     wires_tell,
 };
 pub use meaning::{Framing, Meaning};
 pub use phase::Phase;
+pub use reading::lines_behind_blank;
 pub use sending::request;
 pub use wire::Wire;
 

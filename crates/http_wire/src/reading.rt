@@ -144,9 +144,10 @@ fn judge_head(
     Ok(HeadRead::Whole(head.code, says))
 }
 
-/// How many lines end behind the empty lines at the front.
+/// How many lines end behind the empty lines at the front, which are line feeds and carriage returns before the first
+/// other byte (RFC 9112, section 2.2).
 #[tactic(auto, unfolding(crate::specs::Forms::lines_behind_blank))]
-fn lines_behind_blank(text: &[u8]) -> usize
+pub fn lines_behind_blank(text: &[u8]) -> usize
     ensures { result ≡ lines_behind_blank text.now }
 {
     let blank = blank_len(text);
