@@ -24,6 +24,10 @@ all_faults failing failing_more = min (failing.faults + failing_more.faults) (2 
 abbrev pub faults_of : MapState → ℕ
 faults_of method = all_faults method.failing method.failing_more
 
+-- how many fetches were begun
+abbrev pub begins_of : MapState → ℕ
+begins_of method = method.failing.calls
+
 -- the mirror that it tells
 abbrev pub mirror_of : MapState → Option MirrorMap
 mirror_of method = Some method.world

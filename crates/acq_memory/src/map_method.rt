@@ -77,8 +77,9 @@ impl Method for MapMethod {
     ghost use Rattle.std.specs.Prelude.{◌≡◌, ◌⊎◌, false, IfSome, IsSome, IsTrue, Some};
     ghost use Rattle.acq_base.specs.Uri.{IsSound};
     ghost use Rattle.acq_memory.specs.Failing.{is_listed, counted};
+    ghost use Rattle.acq_outside.specs.Count.{one_more};
     ghost use Rattle.acq_outside.specs.Frame.{FetchesBy};
-    ghost use Rattle.acq_memory.specs.MapMethod.{faults_of, mirror_of, next_word};
+    ghost use Rattle.acq_memory.specs.MapMethod.{begins_of, faults_of, mirror_of, next_word};
     ghost use Rattle.acq_outside.specs.Word.{CanBegin, IsSoundWord, IsWord, begun};
 
     ghost faults = { faults_of };
@@ -86,6 +87,8 @@ impl Method for MapMethod {
     ghost world = { mirror_of };
 
     ghost under = { λ method. method.under };
+
+    ghost begins = { begins_of };
 
     fn faults(&self) -> u64 {
         self.failing.faults.saturating_add(self.failing_more.faults)
@@ -95,6 +98,7 @@ impl Method for MapMethod {
         requires sound { IsSound job.now.uri }
         requires from { CanBegin job.now }
         ensures frame { FetchesBy faults_of mirror_of self.old self.new }
+        ensures begins { begins_of self.new ≡ one_more (begins_of self.old) }
         ensures sound { IsSoundWord result }
         ensures word { IsWord (faults_of self.old) (faults_of self.new) (Some self.old.world) (begun job.now) self.new.under result }
 
@@ -122,6 +126,7 @@ impl Method for MapMethod {
     fn more(&mut self, alloc: Global) -> Word
         requires { IsSome self.old.under }
         ensures frame { FetchesBy faults_of mirror_of self.old self.new }
+        ensures begins { begins_of self.new ≡ begins_of self.old }
         ensures sound { IsSoundWord result }
         ensures word { IfSome self.old.under (λ fetch. IsWord (faults_of self.old) (faults_of self.new) (Some self.old.world) fetch self.new.under result) }
 

@@ -16,6 +16,8 @@ pub record BothState (F H : Type 0) : Type 0 where
   pub files : F
   pub peers : H
   pub faults : ℕ
+  -- how many fetches were begun
+  pub begins : ℕ
   -- the scheme of the last fetch
   pub turn : Option Scheme
 
@@ -62,6 +64,10 @@ pub record IsTheirs (their_before their_after : ℕ) (world : Option MirrorMap) 
 -- how often it failed
 abbrev pub faults_of : {F H : Type 0} → BothState F H → ℕ
 faults_of method = method.faults
+
+-- how many fetches were begun
+abbrev pub begins_of : {F H : Type 0} → BothState F H → ℕ
+begins_of method = method.begins
 
 -- ---- over the two methods
 

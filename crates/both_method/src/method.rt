@@ -15,6 +15,7 @@ pub struct BothMethod<F: Method, H: Method> {
     files: F,
     peers: H,
     faults: u64,
+    begins: u64,
     turn: Option<Scheme>,
 }
 
@@ -23,7 +24,7 @@ impl<F: Method, H: Method> Model for BothMethod<F, H> {
 
     ghost Value = { BothState F H };
 
-    ghost view = { λ method. record { files = method.files; peers = method.peers; faults = method.faults; turn = method.turn } };
+    ghost view = { λ method. record { files = method.files; peers = method.peers; faults = method.faults; begins = method.begins; turn = method.turn } };
 
     ghost invariant = { λ method. IsTurn method.turn (F.under method.files) (H.under method.peers) };
 }
@@ -36,12 +37,14 @@ impl<F: Method, H: Method> BothMethod<F, H> {
         ensures files { result.files ≡ files }
         ensures peers { result.peers ≡ peers }
         ensures faults { result.faults ≡ 0 }
+        ensures begins { result.begins ≡ 0 }
         ensures idle { result.turn ≡ None }
     {
         BothMethod {
             files,
             peers,
             faults: 0,
+            begins: 0,
             turn: None,
         }
     }
@@ -51,15 +54,18 @@ impl<F: Method, H: Method> Method for BothMethod<F, H> {
     ghost use Rattle.std.specs.Prelude.{◌≡◌, IfSome, IsSome, Some};
     ghost use Rattle.acq_base.specs.declared.uri.Scheme.TheVariants.{File, Http};
     ghost use Rattle.acq_base.specs.Uri.{IsSound};
+    ghost use Rattle.acq_outside.specs.Count.{one_more};
     ghost use Rattle.acq_outside.specs.Frame.{FetchesBy};
     ghost use Rattle.acq_outside.specs.Word.{CanBegin, IsSoundWord, begun};
-    ghost use Rattle.both_method.specs.BothMethod.{IsBothWord, IsFilesWord, IsPeersWord, faults_of, fetch_of, world_of};
+    ghost use Rattle.both_method.specs.BothMethod.{IsBothWord, IsFilesWord, IsPeersWord, begins_of, faults_of, fetch_of, world_of};
 
     ghost faults = { faults_of };
 
     ghost world = { world_of F.Method H.Method };
 
     ghost under = { fetch_of F.Method H.Method };
+
+    ghost begins = { begins_of };
 
     fn faults(&self) -> u64 {
         self.faults
@@ -73,6 +79,7 @@ impl<F: Method, H: Method> Method for BothMethod<F, H> {
 
         ensures frame { FetchesBy faults_of (world_of F.Method H.Method) self.old self.new }
 
+        ensures begins { self.new.begins ≡ one_more self.old.begins }
         ensures sound { IsSoundWord result }
         ensures word { IsBothWord F.Method H.Method self.old self.new (begun job.now) result }
         ensures turn { self.new.turn ≡ Some job.now.uri.scheme }
@@ -82,6 +89,7 @@ impl<F: Method, H: Method> Method for BothMethod<F, H> {
         ensures no_file { job.now.uri.scheme ≡ Http → self.new.files ≡ self.old.files }
     {
         self.turn = Some(job.uri.scheme);
+        self.begins = self.begins.saturating_add(1);
         match job.uri.scheme {
             Scheme::File => {
                 let word = self.files.begin(alloc, job);
@@ -99,6 +107,7 @@ impl<F: Method, H: Method> Method for BothMethod<F, H> {
 
         ensures frame { FetchesBy faults_of (world_of F.Method H.Method) self.old self.new }
 
+        ensures begins { self.new.begins ≡ self.old.begins }
         ensures sound { IsSoundWord result }
         ensures word { IfSome (fetch_of F.Method H.Method self.old) (λ fetch. IsBothWord F.Method H.Method self.old self.new fetch result) }
         ensures turn { self.new.turn ≡ self.old.turn }

@@ -14,6 +14,8 @@ use Rattle.file_method.specs.TreeMirror.{file_uri, mirror_of}
 pub record FileState (T : Type 0) : Type 0 where
   pub tree : T
   pub faults : ℕ
+  -- how many fetches were begun
+  pub begins : ℕ
   pub under : Option Fetch
   -- the length of the file of the fetch under way, as the tree gave it when that fetch began
   pub size : ℕ
@@ -46,6 +48,10 @@ CountsFault before after NoMemory = after ≡ before
 abbrev pub faults_of : {T : Type 0} → FileState T → ℕ
 faults_of method = method.faults
 
+-- how many fetches were begun
+abbrev pub begins_of : {T : Type 0} → FileState T → ℕ
+begins_of method = method.begins
+
 -- the mirror that it tells
 abbrev pub told_mirror : {T : Type 0} → Ghosts T → FileState T → Option MirrorMap
 told_mirror g method = world_of (g.files method.tree)
@@ -58,3 +64,9 @@ pub record FetchesOver {T : Type 0} (g : Ghosts T) (old new : FileState T) (word
   pub files : g.files new.tree ≡ g.files old.tree
   pub tree_count : g.faults old.tree ≤ g.faults new.tree
   pub tree_fault : CountsFault (g.faults old.tree) (g.faults new.tree) word
+
+-- the same of a call that begins no fetch
+pub record GoesOnOver {T : Type 0} (g : Ghosts T) (old new : FileState T) (word : Word) : Type 0 where
+  pub over : FetchesOver g old new word
+  pub open over use *
+  pub begins : new.begins ≡ old.begins

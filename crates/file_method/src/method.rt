@@ -13,6 +13,7 @@ use std::marker::Model;
 pub struct FileMethod<T: Tree> {
     tree: T,
     faults: u64,
+    begins: u64,
     under: Option<Fetch>,
     size: u64,
 }
@@ -23,7 +24,7 @@ impl<T: Tree> Model for FileMethod<T> {
 
     ghost Value = { FileState T };
 
-    ghost view = { λ method. record { tree = method.tree; faults = method.faults; under = method.under; size = method.size } };
+    ghost view = { λ method. record { tree = method.tree; faults = method.faults; begins = method.begins; under = method.under; size = method.size } };
 
     ghost invariant = { λ method. IfSome method.under (IsFetchOf (T.files method.tree) method.size) };
 }
@@ -35,17 +36,19 @@ impl<T: Tree> FileMethod<T> {
     ghost use Rattle.acq_outside.specs.Count.{one_more};
     ghost use Rattle.acq_outside.specs.Tree.{file_at};
     ghost use Rattle.acq_outside.specs.Word.{CanBegin, IsSoundWord, IsWord, after_word, begun};
-    ghost use Rattle.file_method.specs.FileMethod.{FetchesOver, IsFetchOf, world_of};
+    ghost use Rattle.file_method.specs.FileMethod.{GoesOnOver, IsFetchOf, world_of};
 
     /// A method over this tree. No fetch is under way.
     pub fn new(tree: T) -> FileMethod<T>
         ensures tree { result.tree ≡ tree }
         ensures faults { result.faults ≡ 0 }
+        ensures begins { result.begins ≡ 0 }
         ensures idle { result.under ≡ None }
     {
         FileMethod {
             tree,
             faults: 0,
+            begins: 0,
             under: None,
             size: 0,
         }
@@ -54,6 +57,7 @@ impl<T: Tree> FileMethod<T> {
     /// Counts a fault of the tree.
     fn fault(&mut self) -> Word
         ensures tree { self.new.tree ≡ self.old.tree }
+        ensures begins { self.new.begins ≡ self.old.begins }
         ensures under { self.new.under ≡ self.old.under }
         ensures size { self.new.size ≡ self.old.size }
         ensures counted { self.new.faults ≡ one_more self.old.faults }
@@ -71,7 +75,7 @@ impl<T: Tree> FileMethod<T> {
         requires from { CanBegin job.now }
         requires file { job.now.uri.scheme ≡ File }
         requires idle { self.old.under ≡ None }
-        ensures frame { FetchesOver T.Tree self.old self.new result }
+        ensures frame { GoesOnOver T.Tree self.old self.new result }
         ensures sound { IsSoundWord result }
         ensures word { IsWord self.old.faults self.new.faults (world_of (T.files self.old.tree)) (begun job.now) self.new.under result }
     {
@@ -89,7 +93,7 @@ impl<T: Tree> FileMethod<T> {
         requires file { job.now.uri.scheme ≡ File }
         requires idle { self.old.under ≡ None }
         requires told { IfSome (T.files self.old.tree) (λ all. option_map length (file_at all job.now.uri.path) ≡ Some size) }
-        ensures frame { FetchesOver T.Tree self.old self.new result }
+        ensures frame { GoesOnOver T.Tree self.old self.new result }
         ensures sound { IsSoundWord result }
         ensures word { IsWord self.old.faults self.new.faults (world_of (T.files self.old.tree)) (begun job.now) self.new.under result }
     {
@@ -113,7 +117,7 @@ impl<T: Tree> FileMethod<T> {
     fn go_on(&mut self, alloc: Global, fetch: Fetch) -> Word
         requires fetch { IsFetchOf (T.files self.old.tree) self.old.size fetch }
         requires idle { self.old.under ≡ None }
-        ensures frame { FetchesOver T.Tree self.old self.new result }
+        ensures frame { GoesOnOver T.Tree self.old self.new result }
         ensures sound { IsSoundWord result }
         ensures word { IsWord self.old.faults self.new.faults (world_of (T.files self.old.tree)) fetch self.new.under result }
     {
@@ -126,7 +130,7 @@ impl<T: Tree> FileMethod<T> {
     fn next_word(&mut self, alloc: Global, fetch: &Fetch) -> Word
         requires fetch { IsFetchOf (T.files self.old.tree) self.old.size fetch.now }
         requires idle { self.old.under ≡ None }
-        ensures frame { FetchesOver T.Tree self.old self.new result }
+        ensures frame { GoesOnOver T.Tree self.old self.new result }
         ensures size { self.new.size ≡ self.old.size }
         ensures sound { IsSoundWord result }
         ensures within { IfSome (after_word fetch.now result) (λ later. later.at ≤ self.old.size) }
@@ -146,14 +150,17 @@ impl<T: Tree> Method for FileMethod<T> {
     ghost use Rattle.std.specs.Prelude.{◌≡◌, IfSome, IsSome};
     ghost use Rattle.acq_base.specs.declared.uri.Scheme.TheVariants.{Http};
     ghost use Rattle.acq_base.specs.Uri.{IsSound};
+    ghost use Rattle.acq_outside.specs.Count.{one_more};
     ghost use Rattle.acq_outside.specs.Word.{CanBegin, IsSoundWord, IsWord, begun};
-    ghost use Rattle.file_method.specs.FileMethod.{FetchesOver, faults_of, told_mirror, world_of};
+    ghost use Rattle.file_method.specs.FileMethod.{FetchesOver, GoesOnOver, begins_of, faults_of, told_mirror, world_of};
 
     ghost faults = { faults_of };
 
     ghost world = { told_mirror T.Tree };
 
     ghost under = { λ method. method.under };
+
+    ghost begins = { begins_of };
 
     fn faults(&self) -> u64 {
         self.faults
@@ -166,11 +173,13 @@ impl<T: Tree> Method for FileMethod<T> {
         requires sound { IsSound job.now.uri }
         requires from { CanBegin job.now }
         ensures frame { FetchesOver T.Tree self.old self.new result }
+        ensures begins { self.new.begins ≡ one_more self.old.begins }
         ensures sound { IsSoundWord result }
         ensures word { IsWord self.old.faults self.new.faults (world_of (T.files self.old.tree)) (begun job.now) self.new.under result }
         ensures elsewhere { job.now.uri.scheme ≡ Http → (result ≡ Word.Not (NotServed.Absent 404)) × (self.new.tree ≡ self.old.tree) }
     {
         self.under = None;
+        self.begins = self.begins.saturating_add(1);
         match job.uri.scheme {
             Scheme::Http => Word::Not(NotServed::Absent(404)),
             Scheme::File => self.begin_file(alloc, job),
@@ -179,7 +188,7 @@ impl<T: Tree> Method for FileMethod<T> {
 
     fn more(&mut self, alloc: Global) -> Word
         requires { IsSome self.old.under }
-        ensures frame { FetchesOver T.Tree self.old self.new result }
+        ensures frame { GoesOnOver T.Tree self.old self.new result }
         ensures sound { IsSoundWord result }
         ensures word { IfSome self.old.under (λ fetch. IsWord self.old.faults self.new.faults (world_of (T.files self.old.tree)) fetch self.new.under result) }
     {

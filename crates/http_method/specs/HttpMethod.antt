@@ -15,6 +15,8 @@ use Rattle.http_method.specs.declared.reading.Said.{Said}
 pub record HttpState (L : Type 0) : Type 0 where
   pub link : L
   pub faults : ℕ
+  -- how many fetches were begun
+  pub begins : ℕ
   -- the host and port to which a connection is kept
   pub kept : Option Place
   -- the response of the fetch under way
@@ -38,6 +40,10 @@ CountsFault before after NoMemory = after ≡ before
 -- how often it failed
 abbrev pub faults_of : {L : Type 0} → HttpState L → ℕ
 faults_of method = method.faults
+
+-- how many fetches were begun
+abbrev pub begins_of : {L : Type 0} → HttpState L → ℕ
+begins_of method = method.begins
 
 -- the mirror that it tells
 abbrev pub told_mirror : {L : Type 0} → Ghosts L → HttpState L → Option MirrorMap

@@ -20,6 +20,7 @@ use std::marker::Model;
 pub struct HttpMethod<L: Link> {
     link: L,
     faults: u64,
+    begins: u64,
     kept: Option<Place>,
     reading: Option<Reading>,
 }
@@ -31,7 +32,7 @@ impl<L: Link> Model for HttpMethod<L> {
 
     ghost Value = { HttpState L };
 
-    ghost view = { λ method. record { link = method.link; faults = method.faults; kept = method.kept; reading = method.reading } };
+    ghost view = { λ method. record { link = method.link; faults = method.faults; begins = method.begins; kept = method.kept; reading = method.reading } };
 
     ghost invariant = { λ method. Keeps (line_of L.Link method.link) method.kept method.reading };
 }
@@ -47,12 +48,14 @@ impl<L: Link> HttpMethod<L> {
     pub fn new(link: L) -> HttpMethod<L>
         ensures link { result.link ≡ link }
         ensures faults { result.faults ≡ 0 }
+        ensures begins { result.begins ≡ 0 }
         ensures kept { result.kept ≡ None }
         ensures idle { result.reading ≡ None }
     {
         HttpMethod {
             link,
             faults: 0,
+            begins: 0,
             kept: None,
             reading: None,
         }
@@ -72,6 +75,7 @@ impl<L: Link> HttpMethod<L> {
         requires idle { self.old.reading ≡ None }
         ensures frame { Counts self.old.faults self.new.faults said }
         ensures link { self.new.link ≡ self.old.link }
+        ensures begins { self.new.begins ≡ self.old.begins }
         ensures word { IfOk said (λ one. result ≡ one.word) }
         ensures kept { IfOk said (λ one. self.new.kept ≡ one.kept) }
         ensures reading { IfOk said (λ one. self.new.reading ≡ one.reading) }
@@ -100,9 +104,9 @@ impl<L: Link> Method for HttpMethod<L> {
     ghost use Rattle.std.specs.Prelude.{◌≡◌, ◌⊎◌, true, IfSome, IsSome};
     ghost use Rattle.acq_base.specs.declared.uri.Scheme.TheVariants.{File, Http};
     ghost use Rattle.acq_base.specs.Uri.{IsSound};
-    ghost use Rattle.acq_outside.specs.Count.{Rose};
+    ghost use Rattle.acq_outside.specs.Count.{Rose, one_more};
     ghost use Rattle.acq_outside.specs.Word.{CanBegin, IsSoundWord, IsWord, begun};
-    ghost use Rattle.http_method.specs.HttpMethod.{FetchesOver, faults_of, said_of, told_mirror};
+    ghost use Rattle.http_method.specs.HttpMethod.{FetchesOver, begins_of, faults_of, said_of, told_mirror};
     ghost use Rattle.http_method.specs.Line.{line_of};
     ghost use Rattle.http_method.specs.Reading.{BeginsOn, IsKeptBehind, SaysOn, before_anew, is_for, under_of, world_of};
 
@@ -111,6 +115,8 @@ impl<L: Link> Method for HttpMethod<L> {
     ghost world = { told_mirror L.Link };
 
     ghost under = { λ method. under_of method.reading };
+
+    ghost begins = { begins_of };
 
     fn faults(&self) -> u64 {
         self.faults
@@ -126,6 +132,7 @@ impl<L: Link> Method for HttpMethod<L> {
 
         ensures frame { FetchesOver L.Link self.old self.new result }
 
+        ensures begins { self.new.begins ≡ one_more self.old.begins }
         ensures sound { IsSoundWord result }
         ensures word { IsWord self.old.faults self.new.faults (world_of (L.world self.old.link)) (begun job.now) (under_of self.new.reading) result }
         ensures made { is_for self.old.kept job.now.uri ≡ true → (L.made self.new.link ≡ L.made self.old.link) ⊎ Rose (L.ends self.old.link) (L.ends self.new.link) }
@@ -135,6 +142,7 @@ impl<L: Link> Method for HttpMethod<L> {
         ensures elsewhere { job.now.uri.scheme ≡ File → (result ≡ Word.Not (NotServed.Absent 404)) × (self.new.link ≡ self.old.link) × (self.new.kept ≡ self.old.kept) }
     {
         self.reading = None;
+        self.begins = self.begins.saturating_add(1);
         match job.uri.scheme {
             Scheme::File => Word::Not(NotServed::Absent(404)),
             Scheme::Http => {
@@ -150,6 +158,7 @@ impl<L: Link> Method for HttpMethod<L> {
 
         ensures frame { FetchesOver L.Link self.old self.new result }
 
+        ensures begins { self.new.begins ≡ self.old.begins }
         ensures sound { IsSoundWord result }
         ensures word { IfSome (under_of self.old.reading) (λ fetch. IsWord self.old.faults self.new.faults (world_of (L.world self.old.link)) fetch (under_of self.new.reading) result) }
         ensures made { L.made self.new.link ≡ L.made self.old.link }

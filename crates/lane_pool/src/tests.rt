@@ -273,6 +273,7 @@ struct Gate {
     given: Arc<AtomicU64, Global>,
     fails: bool,
     faults: u64,
+    begins: u64,
     under: Option<Fetch>,
 }
 
@@ -298,12 +299,15 @@ impl Method for Gate {
 
     ghost under = { λ gate. gate.under };
 
+    ghost begins = { λ gate. gate.begins };
+
     fn faults(&self) -> u64 {
         self.faults
     }
 
     fn begin(&mut self, _alloc: Global, job: &Job) -> Word {
         self.under = None;
+        self.begins = self.begins.saturating_add(1);
         let is_n = job.uri.host.as_bytes() == b"n".as_slice();
         if self.fails || (!is_n && !self.waits()) {
             let before = self.faults;
@@ -337,6 +341,7 @@ fn gates(alloc: Global, count: usize) -> Result<Vec<Gate>, NoMemory>
             given: Arc::try_clone(&given)?,
             fails: number == 0,
             faults: 0,
+            begins: 0,
             under: None,
         })?;
     }
