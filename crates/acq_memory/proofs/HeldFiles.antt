@@ -13,7 +13,7 @@ use Rattle.acq_outside.specs.Disk.{Files, IsNames, with_file, moved_file, after_
 use Rattle.acq_outside.specs.History.{Past, files_of, files_after, start_files, after_change, changed}
 use Rattle.acq_memory.specs.Held.{files_in}
 use Rattle.acq_outside.specs.declared.change.DiskCall.{DiskCall}
-use Rattle.acq_outside.proofs.Files.{with_file-twice, with_file-swap, same_name-apart}
+use Rattle.acq_outside.proofs.FileMaps.{with_file-twice, with_file-swap, same_name-apart}
 
 abbrev pub Held : Type 0
 Held = BTreeMap (List ℕ) (List ℕ)

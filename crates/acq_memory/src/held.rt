@@ -64,7 +64,7 @@ pub fn carry_out(alloc: Global, held: &mut Held, change: &DiskCall) -> Result<()
     }
 }
 
-#[tactic(auto, using(acq_outside::proofs::Files::same_content))]
+#[tactic(auto, using(acq_outside::proofs::FileMaps::same_content))]
 fn write_in(
     alloc: Global,
     held: &mut Held,

@@ -8,7 +8,7 @@ pub mod Outcomes
 pub mod NamesApart
 pub mod Traces
 -- And what a finite map of files is after a change, and how a choice is read.
-pub mod Files
+pub mod FileMaps
 pub mod Choices
 -- Of this crate's own functions.
 mod WholeFiles

@@ -12,7 +12,7 @@ use Rattle.acq_outside.specs.declared.state.NameChange.{NameChange}
 use Rattle.acq_outside.specs.declared.state.NameChange.TheVariants.{Made, Moved, Removed}
 use Rattle.acq_outside.specs.declared.change.DiskCall.{DiskCall}
 use Rattle.acq_outside.specs.declared.change.DiskCall.TheVariants.{Write, Cut, Sync, Rename, Remove, SyncNames}
-use Rattle.acq_outside.proofs.Files.{same_content}
+use Rattle.acq_outside.proofs.FileMaps.{same_content}
 use Rattle.acq_outside.proofs.Outcomes.{synced_outcome, written_outcome, cut_outcome}
 use Rattle.acq_outside.proofs.NamesApart.{part_apart, part_all, ascends_make, ascends_move, ascends_gone}
 

@@ -14,6 +14,8 @@ pub mod Choice
 pub mod Mirror
 pub mod Word
 pub mod Tree
+pub mod Files
+pub mod Inlet
 pub mod Sink
 -- Cited by this crate's own functions and proofs alone.
 pub mod Whole

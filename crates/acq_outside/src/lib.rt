@@ -1,11 +1,13 @@
-//! What the engine asks of the outside, as traits: the lists folder, the configuration folder, methods, served files, a
-//! clock and an output; and what a crash may leave of the lists folder. Where an object tells what it holds, the clauses
-//! speak of that; of any they say that a fault comes only where the object's count of faults rose.
+//! What the engine asks of the outside, as traits: the lists folder, the configuration folder, methods, served files,
+//! written files, a clock, an input and an output; and what a crash may leave of the lists folder. Where an object tells
+//! what it holds, the clauses speak of that; of any they say that a fault comes only where the object's count of faults
+//! rose.
 //!
-//! Six traits (`Etc`, `Disk`, `Method`, `Tree`, `Clock`, `Sink`) say what a call does to what an object holds,
-//! where it tells it, and that the object's count of faults rises just where a call answers a fault (`frame`; of a
-//! method's whole fetch `reply`; a clock can't fail). A real disk and a real output tell nothing of content, so for
-//! them the causes alone hold. A method answers in words, of which each piece goes on where the one before ended
+//! Eight traits (`Etc`, `Disk`, `Method`, `Tree`, `Files`, `Clock`, `Inlet`, `Sink`) say what a call does to what an
+//! object holds, where it tells it, and that the object's count of faults rises just where a call answers a fault
+//! (`frame`; of a method's whole fetch `reply`; a clock can't fail). An input gives its bytes in order, each once, and 0
+//! only at its end (`gave`, `end`); a put changes the file that it names and no other (`ok`, `err`). Real objects tell
+//! nothing of content, so for them the causes alone hold. A method answers in words, of which each piece goes on where the one before ended
 //! (`word`), and its `fetch` joins them, whichever method it is (`reply`). `write_whole` and `read_whole` are
 //! proved for every disk, as reads give its files. The disk may crash: its trait keeps a trace of states, each of
 //! which says what a crash at that moment may leave (`step`: bytes that weren't synced may be any, changes of names
@@ -24,6 +26,8 @@ pub use crash::{calls_may_be_lost, choices_leave, crash_leaves, syncs_last, torn
 pub use disk::Disk;
 pub use etc::{Etc, MOST_READ, Place};
 pub use fault::{Fault, HoldError, OutError};
+pub use files::Files;
+pub use inlet::Inlet;
 pub use method::Method;
 pub use name::is_name;
 pub use sink::Sink;
@@ -38,6 +42,8 @@ mod crash;
 mod disk;
 mod etc;
 mod fault;
+mod files;
+mod inlet;
 mod method;
 mod name;
 mod sink;

@@ -149,7 +149,7 @@ fn renamed<D: Disk>(
 }
 
 /// Writes within the file or at its end.
-#[tactic(auto, using(acq_outside::proofs::Files::sized_within))]
+#[tactic(auto, using(acq_outside::proofs::FileMaps::sized_within))]
 fn write<D: Disk>(
     alloc: Global,
     disk: &mut D,
@@ -169,7 +169,7 @@ fn write<D: Disk>(
 }
 
 /// Cuts within the file.
-#[tactic(auto, using(acq_outside::proofs::Files::cut_within))]
+#[tactic(auto, using(acq_outside::proofs::FileMaps::cut_within))]
 fn cut<D: Disk>(alloc: Global, disk: &mut D, name: &[u8], len: u64) -> Result<String, Refused> {
     if !is_name(name) {
         return Err(Refused::NoCall);

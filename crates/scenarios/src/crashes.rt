@@ -25,7 +25,7 @@ fn make(disk: &mut MemDisk, call: &DiskCall) -> Result<(), Fault> {
     }
 }
 
-#[tactic(auto, using(acq_outside::proofs::Files::sized_within))]
+#[tactic(auto, using(acq_outside::proofs::FileMaps::sized_within))]
 fn write<D: Disk>(disk: &mut D, name: &[u8], at: u64, bytes: &[u8]) -> Result<(), Fault> {
     if !is_name(name) {
         return Err(Fault);
@@ -37,7 +37,7 @@ fn write<D: Disk>(disk: &mut D, name: &[u8], at: u64, bytes: &[u8]) -> Result<()
 }
 
 /// Cuts a file, or makes an empty one where there is none so long.
-#[tactic(auto, using(acq_outside::proofs::Files::cut_within))]
+#[tactic(auto, using(acq_outside::proofs::FileMaps::cut_within))]
 fn cut<D: Disk>(disk: &mut D, name: &[u8], len: u64) -> Result<(), Fault> {
     if !is_name(name) {
         return Err(Fault);
