@@ -5,9 +5,9 @@
 //!
 //! Over a disk that tells, a file's bytes are those kept and those put (`bytes`), and after `finish` they last
 //! (`synced`); what was put before it is in all that a crash may leave once the names are synced (`finished_lasts`,
-//! a law). At every moment, in failed calls too, where a commit may be prepared the lists stay, in reads and in
-//! what a crash leaves (`moments`), and at a call's end the files of all other names stay (`others`). No call takes
-//! memory.
+//! a law). Each call that changes the disk is one cut, write or sync of that file (`step`). At every moment, in failed
+//! calls too, where a commit may be prepared the lists stay, in reads and in what a crash leaves (`moments`), and at a
+//! call's end the files of all other names stay (`others`). No call takes memory.
 #![tactic(auto)]
 
 pub use laws::finished_lasts;

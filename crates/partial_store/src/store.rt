@@ -1,10 +1,12 @@
 //! The calls on lists on their way. None takes memory.
 
 ghost use Rattle.std.specs.Prelude.{◌≡◌, ◌+◌, ◌<◌, ◌≤◌, ◌^◌, ◌++◌, Some, take, length, IfOk, OnOk, OnErr};
+ghost use Rattle.acq_outside.specs.Crash.{Goes};
 ghost use Rattle.acq_outside.specs.Disk.{IsRead};
 ghost use Rattle.acq_outside.specs.Stays.{Reads, Stays};
 ghost use Rattle.acq_outside.specs.States.{IsTold, Since, IsNow};
-ghost use Rattle.journal_model.specs.Names.{IsPutName};
+ghost use Rattle.acq_outside.specs.declared.change.DiskCall.TheVariants.{Cut, Sync, Write};
+ghost use Rattle.journal_model.specs.Names.{IsPutName, partial};
 ghost use Rattle.journal_model.specs.Rest.{IsPartSynced, IsPartThere, KeepsOtherFiles, KeptAtRestSince, part_bytes, size_below};
 ghost use Rattle.partial_store.specs.Refinement.{part_of};
 
@@ -25,6 +27,7 @@ pub fn begin<D: Disk>(disk: &mut D, name: &ListName, keep: u64) -> Result<Part, 
 
     ensures part { IfOk result (λ part. part ≡ part_of name.now.0 keep) }
 
+    ensures step { Goes (Cut (partial name.now.0) keep) (D.trace disk.old) (D.trace disk.new) result }
     ensures moments { Since (D.trace disk.old) (D.trace disk.new) (KeptAtRestSince (D.trace disk.old)) }
     ensures others { KeepsOtherFiles name.now.0 (D.trace disk.old) (D.trace disk.new) }
     ensures there { OnOk result (IsNow (IsPartThere name.now.0) (D.trace disk.new)) }
@@ -50,6 +53,7 @@ pub fn put<D: Disk>(disk: &mut D, part: &mut Part, piece: &[u8]) -> Result<(), F
 
     ensures part { OnOk result (part.new ≡ part_of part.old.name (part.old.len + length piece.now)) }
 
+    ensures step { Goes (Write (partial part.old.name) part.old.len piece.now) (D.trace disk.old) (D.trace disk.new) result }
     ensures moments { Since (D.trace disk.old) (D.trace disk.new) (KeptAtRestSince (D.trace disk.old)) }
     ensures others { KeepsOtherFiles part.old.name (D.trace disk.old) (D.trace disk.new) }
     ensures there { OnOk result (IsNow (IsPartThere part.old.name) (D.trace disk.new)) }
@@ -69,6 +73,7 @@ pub fn finish<D: Disk>(disk: &mut D, part: Part) -> Result<u64, Fault>
     requires there { IsNow (IsPartThere part.name) (D.trace disk.old) }
     requires len { IsTold (D.trace disk.old) → length (part_bytes (D.trace disk.old) part.name) ≡ part.len }
     ensures frame { Stays D.Disk disk.old disk.new result }
+    ensures step { Goes (Sync (partial part.name)) (D.trace disk.old) (D.trace disk.new) result }
     ensures moments { Since (D.trace disk.old) (D.trace disk.new) (KeptAtRestSince (D.trace disk.old)) }
     ensures others { KeepsOtherFiles part.name (D.trace disk.old) (D.trace disk.new) }
     ensures synced { OnOk result (IsNow (IsPartSynced part.name (part_bytes (D.trace disk.old) part.name)) (D.trace disk.new)) }
