@@ -1,5 +1,5 @@
 -- Walks that ask at sound URIs, and answers that keep them.
-use Rattle.std.proofs.Common.{ℕ, zero, suc, Bool, true, false, List, [], ◌∷◌, Some, None, refl}
+use Rattle.std.proofs.Common.{ℕ, zero, suc, Bool, true, false, List, [], ◌∷◌, Option, Some, None, refl}
 use Rattle.std.specs.Prelude.{if◌then◌else◌}
 use Rattle.std.specs.List.{AllByRecursion as Each}
 use Rattle.acq_base.specs.Uri.{IsSound}
@@ -9,7 +9,10 @@ use Rattle.update_model.specs.Mirrored.{over, trails_over}
 use Rattle.update_model.specs.Points.{Point, Over, At, start, point_after, lead}
 use Rattle.update_model.specs.Reach.{Way, On, Stop, moved, may_move}
 use Rattle.update_model.specs.Trails.{LaneAnswer, Trail, Leads, IsTrail}
-use Rattle.update_model.specs.Walks.{Walk, Finish, Try, IsRoute, target_walk}
+use Rattle.update_model.specs.Obtained.{list_cause}
+use Rattle.update_model.specs.Walks.{Walk, Finish, Try, IsRoute, fitting_body, on_some, plain_walk, target_walk}
+use Rattle.update_model.specs.declared.ask.Body.{Body}
+use Rattle.update_model.specs.declared.wanted.Wanted.{Wanted}
 use Rattle.update_model.specs.declared.ask.Ask.{Ask}
 use Rattle.update_model.specs.declared.ask.Closed.{Closed}
 use Rattle.update_model.specs.declared.ask.Closed.TheVariants.{Served, Not}
@@ -17,6 +20,7 @@ use Rattle.acq_base.specs.declared.fetch.NotServed.TheVariants.{Moved, Absent, T
 use Rattle.update_model.specs.declared.ask.Ending.{Ending}
 use Rattle.update_model.specs.declared.ask.Ending.TheVariants as endings
 use Rattle.update_model.specs.declared.end.End.{End}
+use Rattle.update_model.specs.declared.end.End.TheVariants.{Got, Ended}
 use Rattle.item_graph.specs.Sound.{AsksSoundly, IsSoundAt, IsSoundAnswer, ListsAskSoundly}
 
 -- ---- one answer
@@ -92,3 +96,11 @@ walk-sound given (Try ask next) all = (
 pub lists-sound : MirrorsGiveRoutes → AsksAreSound → ListsAskSoundly
 lists-sound given sound installed part w at hashed short =
     walk-sound given (target_walk installed part w) (λ trails end route. sound installed part w 0 trails end at hashed short route)
+
+-- a list's own URI is asked for alone
+got-soundly : (o : Option Body) (end : End) → AsksSoundly (on_some o (λ body. Finish (Got body)) (Finish end))
+got-soundly None end = tt
+got-soundly (Some body) end = tt
+
+pub plain-sound : (w : Wanted) → IsSound w.uri → AsksSoundly (plain_walk w)
+plain-sound w at = (at, λ e. got-soundly (fitting_body w.sum e) (Ended (list_cause w e)))

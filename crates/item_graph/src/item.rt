@@ -7,19 +7,21 @@ ghost use Rattle.release_file.specs.Release.{listed_sum};
 ghost use Rattle.update_model.specs.Points.{Over, start, point_after};
 ghost use Rattle.update_model.specs.Walks.{release_walk, target_walk};
 ghost use Rattle.update_model.specs.Wanted.{want as wanted_in};
+ghost use Rattle.item_graph.specs.Single.{file_walk};
 ghost use Rattle.item_graph.specs.Sound.{IsSoundAnswer, IsSoundAt};
 
+use crate::list::plain;
 use crate::patches::list;
 use crate::release::release as release_state;
 use crate::state::State;
-use crate::wanted::want;
-use acq_base::{Bytes, NoMemory, Settings, Source, Target};
+use crate::wanted::{single, want};
+use acq_base::{Bytes, NoMemory, Settings, Source, Sum, Target, Text, Uri};
 use release_file::{Release, find_file};
 use std::alloc::Global;
 use std::mem;
 use update_model::{Ask, Closed, End};
 
-/// A Release or a list that is being fetched.
+/// A Release, a list or a single file that is being fetched.
 #[derive(Drop)]
 pub struct Item {
     /// How often a fault at one place is asked again.
@@ -75,6 +77,26 @@ impl Item {
         Ok(Item {
             retries: settings.retries,
             state: list(alloc, settings.retries, old, part, wanted)?,
+        })
+    }
+
+    /// A single file that no Release names, of this sum. It is asked for at its own URI alone, whole, and goes into a
+    /// partial file. Causes name it by its path.
+    pub fn for_file(
+        alloc: Global,
+        uri: Uri,
+        path: Text,
+        sum: Sum,
+        settings: &Settings,
+    ) -> Result<Item, NoMemory>
+        ensures walk { IfOk result (λ item. point_of item ≡ start settings.now.retries (file_walk uri path sum)) }
+        ensures retries { IfOk result (λ item. retries_of item ≡ settings.now.retries) }
+        ensures sound { IsSound uri → IfOk result (λ item. IsSoundAt (point_of item)) }
+    {
+        let wanted = single(alloc, uri, path, sum)?;
+        Ok(Item {
+            retries: settings.retries,
+            state: plain(alloc, settings.retries, wanted)?,
         })
     }
 

@@ -28,7 +28,7 @@ fn list_ask(uri: Uri, wanted: &Wanted, from: u64) -> Ask
 }
 
 /// A list at its own URI.
-fn plain(alloc: Global, retries: u32, wanted: Wanted) -> Result<State, NoMemory>
+pub fn plain(alloc: Global, retries: u32, wanted: Wanted) -> Result<State, NoMemory>
     ensures { IfOk result (λ state. point_in state ≡ start retries (plain_walk wanted)) }
 {
     let ask = list_ask(wanted.uri.copy(alloc)?, &wanted, 0);

@@ -1,11 +1,12 @@
-//! What is asked for a list.
+//! What is asked for a list or a single file.
 
 ghost use Rattle.std.specs.Prelude.{◌≡◌, ◌≤◌, length, if◌then◌else◌, None, IfOk, IfSome};
 ghost use Rattle.acq_base.specs.Uri.{IsSound, list_name};
 ghost use Rattle.release_file.specs.Release.{listed_sum};
 ghost use Rattle.update_model.specs.Wanted.{index_path as path_of_index, want as wanted_in};
+ghost use Rattle.item_graph.specs.Single.{single as single_at};
 
-use acq_base::{NoMemory, Settings, Source, Sum, Target, Text, TryCopy};
+use acq_base::{ListName, NoMemory, Settings, Source, Sum, Target, Text, TryCopy, Uri};
 use by_hash::by_hash_uri;
 use release_file::{Release, find_file};
 use std::alloc::Global;
@@ -32,6 +33,22 @@ pub fn want(
         index: index_sum(alloc, source, target, release)?,
         file_limit: settings.file_limit,
         size_limit: settings.size_limit,
+    })
+}
+
+/// A file that no Release names. It has no URI under its digest and no patches, and its path stands for a list's name.
+pub fn single(alloc: Global, uri: Uri, path: Text, sum: Sum) -> Result<Wanted, NoMemory>
+    ensures { IfOk result (λ wanted. wanted ≡ single_at uri path sum) }
+{
+    Ok(Wanted {
+        name: ListName(path.copy(alloc)?),
+        path,
+        sum,
+        uri,
+        hashed: None,
+        index: None,
+        file_limit: 0,
+        size_limit: 0,
     })
 }
 
