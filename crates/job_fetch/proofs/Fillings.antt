@@ -8,10 +8,13 @@ use Rattle.acq_outside.specs.Crash.{State}
 use Rattle.acq_outside.proofs.Going.{onward}
 use Rattle.acq_outside.specs.States.{IsTold, Since, IsNow}
 use Rattle.hash_gate.specs.Pieces.{HasSummed, size_so_far}
+use Rattle.journal_model.specs.Names.{partial}
 use Rattle.journal_model.specs.Rest.{IsPartSynced, IsPartThere, KeptAtRestSince, KeepsAtRest, part_bytes}
 use Rattle.partial_store.specs.Refinement.{part_of}
 use Rattle.job_fetch.specs.Fetched.{KeepsFront, LastsAs, Staging}
+use Rattle.job_fetch.specs.Others.{LeavesOthers}
 use Rattle.job_fetch.specs.Pieces.{IsFilling}
+use Rattle.job_fetch.proofs.Others.{others_by_steps}
 use Rattle.job_fetch.specs.declared.filling.Filling.{Filling}
 
 rests_by_steps : (a b c : State) → KeepsAtRest a b → KeepsAtRest b c → KeepsAtRest a c
@@ -29,6 +32,7 @@ pub staging_more : (name : List ℕ) (old mid new : List State) → Staging name
 staging_more name old mid new first later = record {
   moments = onward KeepsAtRest rests_by_steps old mid new first.moments later.moments;
   others = λ other apart. later.others other apart ∙ first.others other apart;
+  only = onward (LeavesOthers (partial name)) (others_by_steps (partial name)) old mid new first.only later.only;
 }
 
 pub filled_on : (old new : List State) (before after : Filling) (piece : List ℕ) → IsFilling old before → Since old new (KeptAtRestSince old)

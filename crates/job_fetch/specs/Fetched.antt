@@ -12,6 +12,7 @@ use Rattle.acq_outside.specs.States.{IsTold, Since}
 use Rattle.acq_outside.specs.declared.disk.Disk as disks
 use Rattle.acq_outside.specs.declared.method.Method as methods
 use Rattle.acq_outside.specs.declared.fault.OutError.{OutError}
+use Rattle.journal_model.specs.Names.{partial}
 use Rattle.journal_model.specs.Rest.{KeepsOtherFiles, KeptAtRestSince, part_bytes, part_file}
 use Rattle.update_model.specs.Trails.{IsFaultOr, answered}
 use Rattle.update_model.specs.declared.ask.Ask.{Ask}
@@ -19,6 +20,7 @@ use Rattle.update_model.specs.declared.ask.Body.TheVariants.{Bytes, Staged}
 use Rattle.update_model.specs.declared.ask.Closed.{Closed}
 use Rattle.update_model.specs.declared.ask.Closed.TheVariants.{Served, Not}
 use Rattle.acq_base.specs.declared.fetch.NotServed.TheVariants.{Moved, Absent, TooBig, Garbled, Fault}
+use Rattle.job_fetch.specs.Others.{OthersLeftSince}
 
 -- what a job asks, whose file is staged or not
 abbrev pub ask_of : Bool → Job → Ask
@@ -69,10 +71,12 @@ abbrev pub LeavesFile : ℕ → List ℕ → List State → List State → Close
 LeavesFile from name old new (Served body) = Unit {0}
 LeavesFile from name old new _ = (new ≡ old) ⊎ (IsTold new → from < length (part_bytes new name))
 
--- Calls on one list's file on its way: at every moment what is at rest stays so, and the files of all other names stay.
+-- Calls on one list's file on its way: at every moment what is at rest stays so, the files of all other names stay, and at
+-- every moment, in a folder without a journal too, a crash leaves these as it might have left them before.
 pub record Staging (name : List ℕ) (old new : List State) : Type 0 where
   pub moments : Since old new (KeptAtRestSince old)
   pub others : KeepsOtherFiles name old new
+  pub only : Since old new (OthersLeftSince (partial name) old)
 
 -- the first bytes of it stay
 pub record KeepsFront (name : List ℕ) (keep : ℕ) (old new : List State) : Type 0 where

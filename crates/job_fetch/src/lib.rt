@@ -5,8 +5,9 @@
 //! way (`answer`), and a file that came lasts there with the sum that is told (`staged`). What a job leaves out stays
 //! at the file's front (`front`); an end that served nothing leaves the file as it was, or with bytes that came behind
 //! (`left`). A fault of the method is told, and comes only where its count rose in that call (`counted`,
-//! `method_dry`); lists stay at every moment (`staging`). These are fields of the record in `fetch_staged`'s clause
-//! `comes`; `fetch_into_memory` has `answer`, `counted` and `dry` as clauses of its own.
+//! `method_dry`). At every moment lists stay, and where no change of another name was pending, a crash leaves all other
+//! files as it might have left them before, in a folder without a journal too (`staging`). These are fields of the record
+//! in `fetch_staged`'s clause `comes`; `fetch_into_memory` has `answer`, `counted` and `dry` as clauses of its own.
 #![tactic(auto)]
 
 pub use memory::fetch_into_memory;
