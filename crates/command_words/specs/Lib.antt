@@ -1,2 +1,3 @@
--- Cited by the public clause: what the words of a command line ask for.
+-- Cited by the public clauses: what the words of a command line ask for.
 pub mod Words
+pub mod Side
