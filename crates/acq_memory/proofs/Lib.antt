@@ -9,3 +9,4 @@ mod NameMap
 mod Replaying
 mod Images
 mod MapWords
+mod ReadOn

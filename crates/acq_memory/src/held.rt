@@ -1,5 +1,5 @@
 //! The files of a disk in memory as a sorted map, and what each change does to them.
-ghost use Rattle.std.specs.Prelude.{◌≡◌, ◌≤◌, length, take, None, Some, IfOk, OnOk, OnErr};
+ghost use Rattle.std.specs.Prelude.{◌≡◌, ◌≤◌, length, min, take, drop, None, Some, IfOk, OnOk, OnErr};
 ghost use Rattle.acq_outside.specs.Disk.{IsNames, IsRead, spliced, with_file, after_write, after_cut, after_rename};
 ghost use Rattle.acq_outside.specs.History.{start_files, after_change};
 ghost use Rattle.acq_memory.specs.Held.{files_in};
@@ -28,7 +28,7 @@ pub fn held_files(alloc: Global, rows: &[(Text, Bytes)]) -> Result<Held, NoMemor
 
 /// Puts a content under a name, in place of what is there. Without memory nothing is changed.
 #[tactic(auto, using(crate::proofs::HeldFiles::updated))]
-fn put(held: &mut Held, name: Text, content: Bytes) -> Result<(), NoMemory>
+pub fn put(held: &mut Held, name: Text, content: Bytes) -> Result<(), NoMemory>
     ensures ok { OnOk result (files_in held.new ≡ with_file (files_in held.old) name (Some content)) }
     ensures err { OnErr result (files_in held.new ≡ files_in held.old) }
 {
@@ -137,9 +137,10 @@ pub fn front(alloc: Global, content: &[u8], len: u64) -> Result<Bytes, NoMemory>
     Ok(Bytes::from(Vec::from_slice(alloc, content.split_at(end).0)?))
 }
 
-/// Reads bytes of a content into the front of `out` and answers how many.
+/// Reads bytes of a content into the front of `out`, as many as are there and find room, and answers how many.
 pub fn read_from(content: &[u8], at: u64, out: &mut [u8]) -> usize
     ensures within { result ≤ length out.old }
+    ensures most { result ≡ min (length (drop at content.now)) (length out.old) }
     ensures read { IsRead (Some content.now) at result out.old out.new }
 {
     let start = (at as usize).min(content.len());
