@@ -1,7 +1,7 @@
 -- A call on the file of one name leaves all others to a crash as they were left.
-use Rattle.std.proofs.Common.{◌≡◌, ◌≢◌, inl, inr, ⊎_elim, refl, sym, ap, ◌∙◌, subst, ℕ, List, [], ◌∷◌, ◌++◌, Option, Some, None, option_map, Result}
+use Rattle.std.proofs.Common.{◌≡◌, ◌≢◌, ⊎_elim, refl, sym, ap, ◌∙◌, subst, ℕ, List, [], ◌∷◌, ◌++◌, Option, Some, None, option_map, Result}
 use Rattle.std.proofs.lemmas.Bool.{cases_eq}
-use Rattle.acq_outside.specs.Crash.{State, Names, IsOutcome, IsSubsequence, none, left_out, taken, IsSound, AllSound, Goes, after, changed_file, all_renamed, renamed, moved_name, with_name, file_at, names_of}
+use Rattle.acq_outside.specs.Crash.{State, Names, IsOutcome, IsSubsequence, none, left_out, taken, IsSound, AllSound, Goes, after, changed_file, all_renamed, renamed, moved_name, with_name, file_at}
 use Rattle.acq_outside.specs.States.{Since}
 use Rattle.acq_outside.proofs.Going.{goes}
 use Rattle.acq_outside.specs.declared.change.DiskCall.{DiskCall}

@@ -1,10 +1,9 @@
-use Rattle.std.proofs.Common.{◌≡◌, ◌∙◌, sym, ap, subst, refl}
+use Rattle.std.proofs.Common.{◌∙◌, sym, ap, subst, refl}
 use Rattle.acq_base.specs.Uri.{IsSound}
 use Rattle.update_model.specs.Points.{start}
 use Rattle.update_model.specs.Walks.{plain_walk}
 use Rattle.update_model.specs.declared.wanted.Wanted.{Wanted}
 use Rattle.item_graph.specs.Refinement.{point_of, retries_of}
-use Rattle.item_graph.specs.Single.{single}
 use Rattle.item_graph.specs.Sound.{IsSoundAt}
 use Rattle.item_graph.proofs.Soundness.{plain-sound, start-sound}
 use Rattle.item_graph.proofs.item.Item.for_file.Goals as goal
