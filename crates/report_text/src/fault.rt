@@ -3,9 +3,11 @@
 ghost use Rattle.std.specs.Prelude.{◌≡◌, ◌++◌, codes, IfOk, OnOk, option_copied};
 ghost use Rattle.std.specs.Fmt.{decimal};
 ghost use Rattle.report_text.specs.Faults.{fault_text, fixed_text, place_text};
+ghost use Rattle.report_text.specs.Packages.{package_text};
 ghost use Rattle.report_text.specs.Sources.{newline};
 
 use crate::numbers::append_decimal;
+use crate::package::append_package;
 use acq_base::{Bytes, ListName, NoMemory, Text};
 use std::alloc::Global;
 
@@ -41,6 +43,14 @@ pub enum FaultLine {
     Held,
     /// The configuration folder failed.
     Etc,
+    /// No file of a package is found: 34 where no list has this version of it, 35 where lists have files that differ.
+    Download {
+        number: u32,
+        name: Text,
+        version: Text,
+    },
+    /// No peer can be listened for.
+    Port,
 }
 
 impl FaultLine {
@@ -63,6 +73,7 @@ impl FaultLine {
             FaultLine::Memory => Some(b"E memory\n"),
             FaultLine::Held => Some(b"E held\n"),
             FaultLine::Etc => Some(b"E etc\n"),
+            FaultLine::Port => Some(b"E port\n"),
             _ => None,
         }
     }
@@ -88,6 +99,12 @@ fn fault_line(alloc: Global, fault: &FaultLine) -> Result<Text, NoMemory>
         FaultLine::Memory => Text::from_bytes(alloc, b"E memory\n"),
         FaultLine::Held => Text::from_bytes(alloc, b"E held\n"),
         FaultLine::Etc => Text::from_bytes(alloc, b"E etc\n"),
+        FaultLine::Download {
+            number,
+            name,
+            version,
+        } => download_line(alloc, *number, name, version),
+        FaultLine::Port => Text::from_bytes(alloc, b"E port\n"),
     }
 }
 
@@ -145,6 +162,17 @@ fn journal_line(alloc: Global, at: u64) -> Result<Text, NoMemory>
 {
     let mut text = Text::from_bytes(alloc, b"E journal ")?;
     append_decimal(alloc, &mut text, at)?;
+    text.push(b'\n')?;
+    Ok(text)
+}
+
+fn download_line(alloc: Global, number: u32, name: &Text, version: &Text) -> Result<Text, NoMemory>
+    ensures { IfOk result (λ text. text ≡ codes "E download " ++ decimal number ++ codes " " ++ package_text name.now version.now ++ newline) }
+{
+    let mut text = Text::from_bytes(alloc, b"E download ")?;
+    append_decimal(alloc, &mut text, u64::from(number))?;
+    text.append(b" ")?;
+    append_package(&mut text, name, version)?;
     text.push(b'\n')?;
     Ok(text)
 }

@@ -2,7 +2,7 @@
 use Rattle.std.proofs.Common.{◌≡◌, true, Some, refl}
 use Rattle.report_text.specs.Faults.{fault_text, fixed_text}
 use Rattle.report_text.specs.declared.fault.FaultLine.{FaultLine}
-use Rattle.report_text.specs.declared.fault.FaultLine.TheVariants.{Words, Conf, Clash, TooMany, LongName, Journal, Disk, Memory, Held, Etc}
+use Rattle.report_text.specs.declared.fault.FaultLine.TheVariants.{Words, Conf, Clash, TooMany, LongName, Journal, Disk, Memory, Held, Etc, Download, Port}
 use Rattle.update_program.specs.Said.{is_bare}
 
 -- a line that has nothing to name is there without memory
@@ -18,3 +18,5 @@ bare_is_fixed Disk is = refl
 bare_is_fixed Memory is = refl
 bare_is_fixed Held is = refl
 bare_is_fixed Etc is = refl
+bare_is_fixed (Download number name version) is = absurd cc
+bare_is_fixed Port is = refl

@@ -7,7 +7,7 @@ use Rattle.acq_outside.specs.Sink.{Wrote, WrotePart}
 use Rattle.report_text.specs.Faults.{fault_text}
 use Rattle.report_text.specs.Report.{IsReport}
 use Rattle.report_text.specs.declared.fault.FaultLine.{FaultLine}
-use Rattle.report_text.specs.declared.fault.FaultLine.TheVariants.{Words, Conf, Clash, TooMany, LongName, Journal, Disk, Memory, Held, Etc}
+use Rattle.report_text.specs.declared.fault.FaultLine.TheVariants.{Words, Conf, Clash, TooMany, LongName, Journal, Disk, Memory, Held, Etc, Download, Port}
 use Rattle.update_model.specs.declared.log.RunLog.{RunLog}
 use Rattle.update_model.specs.declared.settled.Verdict2.{Verdict2}
 use Rattle.update_model.specs.declared.settled.Verdict2.TheVariants.{Installed, Hit, Older, Kept}
@@ -40,6 +40,8 @@ fault_status Disk = 102
 fault_status Memory = 103
 fault_status Held = 104
 fault_status Etc = 106
+fault_status (Download number name version) = 100
+fault_status Port = 108
 
 -- whether the line has nothing to name
 abbrev pub is_bare : FaultLine → Bool
@@ -53,6 +55,8 @@ is_bare Disk = true
 is_bare Memory = true
 is_bare Held = true
 is_bare Etc = true
+is_bare (Download number name version) = false
+is_bare Port = true
 
 abbrev pub WritesLine : Output → Output → FaultLine → ℕ → Type 0
 WritesLine before after fault result = Writes before after (fault_text fault) (fault_status fault) result

@@ -60,6 +60,7 @@ fn status_of(fault: &FaultLine) -> u8
         FaultLine::Memory => 103,
         FaultLine::Held => 104,
         FaultLine::Etc => 106,
+        FaultLine::Port => 108,
         _ => 100,
     }
 }

@@ -53,6 +53,7 @@ fn answered(alloc: Global, name: &str, rest: &[&[u8]]) -> Result<String, Refused
         ("picked", [flags, text]) => plans::picked(alloc, flags, text),
         ("report", [sources, parts @ ..]) => reports::told(alloc, sources, parts),
         ("fault", words) => reports::fault(alloc, words),
+        ("package", words) => reports::package(alloc, words),
         _ => answered_below(alloc, name, rest),
     }
 }

@@ -6,7 +6,7 @@ use acq_base::{ListName, Plan, Row, Sha, Sum, Text, read_sum};
 use case_words::{Refused, number, put_text, signed, small};
 use hash_gate::Verdict;
 use release_file::{Change, HeadField, read_release, refused_field};
-use report_text::{FaultLine, report};
+use report_text::{FaultLine, fail_line, got_line, report};
 use std::alloc::Global;
 use update_model::{Cause, Held, RunLog, Verdict2};
 
@@ -176,10 +176,35 @@ pub fn fault(alloc: Global, words: &[&[u8]]) -> Result<String, Refused> {
         [b"held"] => FaultLine::Held,
         [b"memory"] => FaultLine::from(configuration::ConfigurationError::NoMemory),
         [b"journal", at] => FaultLine::Journal(number(at)?),
+        [b"port"] => FaultLine::Port,
+        [b"download", refusal, name, version] => FaultLine::Download {
+            number: small(refusal)?,
+            name: Text::from_bytes(alloc, name)?,
+            version: Text::from_bytes(alloc, version)?,
+        },
         _ => return Err(Refused::NoCall),
     };
     let mut out = String::new(alloc);
     put_fault(alloc, &mut out, &fault)?;
+    Ok(out)
+}
+
+/// What is told of one package's file: that it stands, or why there is none.
+pub fn package(alloc: Global, words: &[&[u8]]) -> Result<String, Refused> {
+    let line = match words {
+        [b"got", file, digest, size] => {
+            let sum = read_sum(digest, size).map_err(|_| Refused::NoCall)?;
+            got_line(alloc, &ListName(Text::from_bytes(alloc, file)?), &sum)?
+        }
+        [b"fail", name, version, cause @ ..] => {
+            let name = Text::from_bytes(alloc, name)?;
+            let version = Text::from_bytes(alloc, version)?;
+            fail_line(alloc, &name, &version, &cause_of(alloc, cause)?)?
+        }
+        _ => return Err(Refused::NoCall),
+    };
+    let mut out = String::new(alloc);
+    put_text(alloc, &mut out, line.as_slice())?;
     Ok(out)
 }
 
