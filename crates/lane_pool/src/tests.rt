@@ -312,10 +312,8 @@ impl Method for Gate {
         if self.fails || (!is_n && !self.waits()) {
             let before = self.faults;
             self.faults = before.saturating_add(1);
-            return Word::Not(NotServed::Fault {
-                before,
-                after: self.faults,
-            });
+            let after = self.faults;
+            return Word::Not(NotServed::Fault { before, after });
         }
         if is_n {
             self.given.store(1, Ordering::SeqCst);
