@@ -1,10 +1,12 @@
-//! What the system's answers mean, as functions of their values. It touches nothing.
+//! What the system's answers mean, as functions of their values. It touches nothing but a count of faults.
 ghost use Rattle.std.specs.Prelude.{◌≡◌, ◌↔◌, IsOk, IfOk, IfErr, OnErr, pos};
 ghost use Rattle.std.specs.Fs.{IsFile, IsDir, file_type, metadata_len};
 ghost use Rattle.std.specs.IoError.{error_kind};
 ghost use Rattle.std.specs.Time.{system_time_nanos};
+ghost use Rattle.acq_outside.specs.Frame.{Counts};
 ghost use Rattle.acq_real.specs.Answer.{IsUnless, seconds_of};
 
+use acq_outside::Fault;
 use std::fs::Metadata;
 use std::io;
 use std::io::ErrorKind;
@@ -18,6 +20,20 @@ pub fn unless<T: Drop>(kind: ErrorKind, answer: io::Result<T>) -> io::Result<Opt
         Ok(value) => Ok(Some(value)),
         Err(error) if error.kind() == kind => Ok(None),
         Err(error) => Err(error),
+    }
+}
+
+/// The answer of the system, an error of it as a fault that is counted.
+pub fn counted<T: Drop>(faults: &mut u64, done: io::Result<T>) -> Result<T, Fault>
+    ensures frame { Counts faults.old faults.new result }
+    ensures answer { IfOk result (λ value. done ≡ Ok value) }
+{
+    match done {
+        Ok(value) => Ok(value),
+        Err(_) => {
+            *faults = faults.saturating_add(1);
+            Err(Fault)
+        }
     }
 }
 

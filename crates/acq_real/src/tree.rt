@@ -1,9 +1,8 @@
 //! The files of the operating system, as they are served.
 ghost use Rattle.std.specs.Prelude.{◌≡◌, ◌≤◌, None, IfOk, length};
-ghost use Rattle.acq_outside.specs.Frame.{Counts};
 ghost use Rattle.acq_real.specs.RealTree.{faults_of};
 
-use crate::answer::unless;
+use crate::answer::{counted, unless};
 use crate::folder::read_some;
 use acq_base::{Text, TryCopy};
 use acq_outside::{Fault, Tree};
@@ -93,20 +92,6 @@ impl<R: Files<File = File> + AllocGlobal + Clone + Drop> Tree for RealTree<R> {
     fn read_at(&mut self, path: &Text, at: u64, out: &mut [u8]) -> Result<usize, Fault> {
         let read = self.read(path, at, out);
         counted(&mut self.faults, read)
-    }
-}
-
-/// The answer of the system, an error of it as a fault that is counted.
-fn counted<T: Drop>(faults: &mut u64, done: io::Result<T>) -> Result<T, Fault>
-    ensures frame { Counts faults.old faults.new result }
-    ensures answer { IfOk result (λ value. done ≡ Ok value) }
-{
-    match done {
-        Ok(value) => Ok(value),
-        Err(_) => {
-            *faults = faults.saturating_add(1);
-            Err(Fault)
-        }
     }
 }
 

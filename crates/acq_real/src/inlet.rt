@@ -1,0 +1,59 @@
+//! The standard input.
+ghost use Rattle.std.specs.Prelude.{◌≤◌, None, IfOk, length};
+ghost use Rattle.std.specs.Io.KnownBytes.{ReadConsumes};
+
+use crate::answer::{counted, unless};
+use acq_outside::{Fault, Inlet};
+use std::io;
+use std::io::{ErrorKind, Read};
+
+/// The standard input, or what another reader of the system gives.
+#[derive(Drop)]
+pub struct RealInlet<R: Drop> {
+    reader: R,
+    faults: u64,
+}
+
+impl<R: Read + Drop> RealInlet<R> {
+    ghost use Rattle.std.specs.Prelude.{◌≡◌};
+    ghost use Rattle.acq_real.specs.RealInlet.{faults_of};
+
+    /// The input from this reader, which is `rt.stdin()` for the standard input. It has not failed yet.
+    pub fn new(reader: R) -> RealInlet<R>
+        ensures { faults_of result ≡ 0 }
+    {
+        RealInlet { reader, faults: 0 }
+    }
+
+    /// How often it failed.
+    pub fn faults(&self) -> u64
+        ensures { result ≡ faults_of self.now }
+    {
+        self.faults
+    }
+}
+
+impl<R: Read + Drop> Inlet for RealInlet<R> {
+    ghost faults = { λ inlet. inlet.faults };
+
+    ghost left = { λ _. None };
+
+    fn read(&mut self, out: &mut [u8]) -> Result<usize, Fault> {
+        let read = read_some(&mut self.reader, out);
+        counted(&mut self.faults, read)
+    }
+}
+
+/// One read that a signal doesn't end.
+#[tactic(auto, using(crate::proofs::KnownReads::kept_on, crate::proofs::KnownReads::read_on))]
+fn read_some<R: Read>(reader: &mut R, out: &mut [u8]) -> io::Result<usize>
+    ensures within { IfOk result (λ n. n ≤ length out.old) }
+    ensures bytes { ReadConsumes (R.remaining reader.old) (R.remaining reader.new) result out.new }
+{
+    for _ in 0..u64::MAX {
+        if let Some(n) = unless(ErrorKind::Interrupted, reader.read(out))? {
+            return Ok(n);
+        }
+    }
+    Err(io::Error::from(ErrorKind::Interrupted))
+}
