@@ -1,5 +1,5 @@
 -- What a link owes that stands for a mirror: to each request the mirror's answer, as a response.
-use Rattle.std.specs.Prelude.{◌≡◌, ◌⊎◌, ℕ, ◌<◌, ◌≤◌, Bool, true, List, [], ◌++◌, length, drop, Option, Some}
+use Rattle.std.specs.Prelude.{◌≡◌, ◌⊎◌, ℕ, ◌<◌, ◌≤◌, ◌^◌, Bool, true, List, [], ◌++◌, length, drop, Option, Some}
 use Rattle.acq_base.specs.declared.fetch.Answer.{Answer}
 use Rattle.acq_base.specs.declared.fetch.Answer.TheVariants as answers
 use Rattle.acq_base.specs.declared.uri.Scheme.TheVariants.{Http}
@@ -51,11 +51,11 @@ pub record IsAnswered (entries : MirrorMap) (uri : Uri) (from : ℕ) (later : Op
   pub is : later ≡ Some (owing uri response keep)
   pub answers : IsAnswerOf entries uri from response keep
 
--- A request for a sound http URI may be sent to its host and port while nothing is due and the last response left the
--- connection open. It makes the mirror's answer due. Nothing is said of any other one.
-abbrev pub Owes : MirrorMap → List ℕ → Option Due → Option Due → Type 0
+-- A request for a sound http URI, from a byte whose number is below 2^64 on, may be sent to its host and port while nothing
+-- is due and the last response left the connection open. It makes the mirror's answer due. Nothing is said of any other one.
+unfoldable pub Owes : MirrorMap → List ℕ → Option Due → Option Due → Type 0
 Owes entries sent before later =
-    (uri : Uri) (from : ℕ) → uri.scheme ≡ Http → IsSound uri → sent ≡ request_text uri from → before ≡ Some (fresh uri.host uri.port) → IsAnswered entries uri from later
+    (uri : Uri) (from : ℕ) → uri.scheme ≡ Http → IsSound uri → from < 2 ^ 64 → sent ≡ request_text uri from → before ≡ Some (fresh uri.host uri.port) → IsAnswered entries uri from later
 
 -- the bytes came of what was due, and none where nothing was
 pub record Came (piece : List ℕ) (due : Due) (later : Option Due) : Type 0 where

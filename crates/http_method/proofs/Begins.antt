@@ -1,5 +1,5 @@
 -- How a response begins behind its request.
-use Rattle.std.proofs.Common.{◌≡◌, ◌∙◌, ℕ, ◌+◌, Bool, true, false, List, [], ◌++◌, Option, Some, None, IfSome, option_map, unwrap_or, ⊎_elim, inl, inr, refl, sym, ap, subst, arith, append-nil}
+use Rattle.std.proofs.Common.{◌≡◌, ◌∙◌, ℕ, ◌+◌, ◌<◌, ◌^◌, Bool, true, false, List, [], ◌++◌, Option, Some, None, IfSome, option_map, unwrap_or, ⊎_elim, inl, inr, refl, sym, ap, subst, arith, append-nil}
 use Rattle.acq_base.specs.declared.fetch.Job.{Job}
 use Rattle.acq_base.specs.Uri.{IsSound}
 use Rattle.acq_outside.specs.declared.word.Fetch.{Fetch}
@@ -34,21 +34,22 @@ asked_as (Some talk) job text is opened =
     ∙ ap (λ e. asked_with talk (request_text job.uri job.from) (talk.received ++ []) e) opened
 
 -- the mirror's answer to the request is due
-owed_first : (line later : Line) (job : Job) (text : List ℕ) → job.uri.scheme ≡ Http → IsSound job.uri → text ≡ request_text job.uri job.from → IfSome line.world (λ entries. line.due ≡ Some (fresh job.uri.host job.uri.port)) → Sends text line later
+owed_first : (line later : Line) (job : Job) (text : List ℕ) → job.uri.scheme ≡ Http → IsSound job.uri → job.from < 2 ^ 64 → text ≡ request_text job.uri job.from → IfSome line.world (λ entries. line.due ≡ Some (fresh job.uri.host job.uri.port)) → Sends text line later
     → IfSome later.world (λ entries. IsOwed entries later.due job [] false)
-owed_first line later job text http sound is ready sent = subst (λ w. IfSome w (λ entries. IsOwed entries later.due job [] false)) (sym sent.world) (on line.world ready sent.owes)
+unfolding Owes
+owed_first line later job text http sound small is ready sent = subst (λ w. IfSome w (λ entries. IsOwed entries later.due job [] false)) (sym sent.world) (on line.world ready sent.owes)
   where
     on : (world : Option MirrorMap) → IfSome world (λ entries. line.due ≡ Some (fresh job.uri.host job.uri.port)) → IfSome world (λ entries. Owes entries text line.due later.due) → IfSome world (λ entries. IsOwed entries later.due job [] false)
     on None ready owes = tt
     on (Some entries) ready owes =
-        let answered : IsAnswered entries job.uri job.from later.due = owes job.uri job.from http sound is ready in
+        let answered : IsAnswered entries job.uri job.from later.due = owes job.uri job.from http sound small is ready in
         record { rest = answered.response; keep = answered.keep; is = answered.is; answers = answered.answers; ends = λ e. absurd cc }
 
 -- a request was sent on the connection that is open
-pub asked_again : (line later : Line) (job : Job) (text : List ℕ) → job.uri.scheme ≡ Http → IsSound job.uri → text ≡ request_text job.uri job.from → IsOpen line (place_of job.uri) → Sends text line later → IsAsked later (unwrap_or line.talk silent) job [] false
-asked_again line later job text http sound is opened sent = record {
+pub asked_again : (line later : Line) (job : Job) (text : List ℕ) → job.uri.scheme ≡ Http → IsSound job.uri → job.from < 2 ^ 64 → text ≡ request_text job.uri job.from → IsOpen line (place_of job.uri) → Sends text line later → IsAsked later (unwrap_or line.talk silent) job [] false
+asked_again line later job text http sound small is opened sent = record {
   told = subst (λ t. IfSome t (λ told. told ≡ asked (unwrap_or line.talk silent) job [] false)) (sym sent.talk) (asked_as line.talk job text is opened.told);
-  owed = owed_first line later job text http sound is opened.ready sent;
+  owed = owed_first line later job text http sound small is opened.ready sent;
 }
 
 fresh_open : (talk : Option Talk) → IfSome (option_map (λ _. silent) talk) (λ told. told.ended ≡ false)
@@ -66,10 +67,10 @@ connected_open line fresh_line uri made = record {
 }
 
 -- a request was sent on a new one
-pub asked_anew : (line fresh_line later : Line) (job : Job) (text : List ℕ) → job.uri.scheme ≡ Http → IsSound job.uri → text ≡ request_text job.uri job.from → Connects job.uri.host job.uri.port line fresh_line → Sends text fresh_line later → IsAsked later silent job [] false
-asked_anew line fresh_line later job text http sound is made sent =
+pub asked_anew : (line fresh_line later : Line) (job : Job) (text : List ℕ) → job.uri.scheme ≡ Http → IsSound job.uri → job.from < 2 ^ 64 → text ≡ request_text job.uri job.from → Connects job.uri.host job.uri.port line fresh_line → Sends text fresh_line later → IsAsked later silent job [] false
+asked_anew line fresh_line later job text http sound small is made sent =
     subst (λ b. IsAsked later b job [] false) (ap (λ t. unwrap_or t silent) made.talk ∙ fresh_before line.talk)
-    (asked_again fresh_line later job text http sound is (connected_open line fresh_line job.uri made) sent)
+    (asked_again fresh_line later job text http sound small is (connected_open line fresh_line job.uri made) sent)
 
 -- nothing of the response has come
 pub first_reads : (line : Line) (before : Talk) (r : Reading) (job : Job) → r.fetch ≡ begun job → r.behind ≡ Nothing → Follows r.wire job.max job.from [] [] false → IsAsked line before job [] false → Reads line r before []

@@ -1,5 +1,5 @@
 //! Asks a peer for a file.
-ghost use Rattle.std.specs.Prelude.{◌≡◌, ◌⊎◌, true, IfOk, IfSome, OnOk};
+ghost use Rattle.std.specs.Prelude.{◌≡◌, ◌⊎◌, ◌<◌, ◌^◌, true, IfOk, IfSome, OnOk};
 ghost use Rattle.acq_base.specs.declared.uri.Scheme.TheVariants.{Http};
 ghost use Rattle.acq_base.specs.Uri.{IsSound};
 ghost use Rattle.acq_outside.specs.Count.{Rose};
@@ -66,6 +66,7 @@ fn ask_anew<L: Link>(alloc: Global, link: &mut L, text: &Bytes, job: &Job) -> Re
     requires sound { IsSound job.now.uri }
     requires from { CanBegin job.now }
     requires http { job.now.uri.scheme ≡ Http }
+    requires small { job.now.from < 2 ^ 64 }
     requires text { text.now ≡ request_text job.now.uri job.now.from }
 
     ensures frame { Asks L.Link link.old link.new result }
@@ -116,6 +117,7 @@ fn ask_again<L: Link>(alloc: Global, link: &mut L, text: &Bytes, job: &Job) -> R
     requires sound { IsSound job.now.uri }
     requires from { CanBegin job.now }
     requires http { job.now.uri.scheme ≡ Http }
+    requires small { job.now.from < 2 ^ 64 }
     requires text { text.now ≡ request_text job.now.uri job.now.from }
     requires opened { IsOpen (line_of L.Link link.old) (place_of job.now.uri) }
 
