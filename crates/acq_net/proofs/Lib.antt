@@ -1,1 +1,2 @@
 pub mod LinkFramed
+mod MemTalks

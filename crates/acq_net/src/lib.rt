@@ -1,7 +1,5 @@
-//! Connections to HTTP peers: what is asked of one, one in memory that follows a script, and one over TCP.
-//!
-//! A `Link` has one connection at a time. Where it tells what is said on it, its clauses speak of the bytes; of each they
-//! say that a fault comes only where its count of faults rose, and how often it connected and heard a peer's end.
+//! Connections over which HTTP is spoken: those that are made to peers, and those that peers make. Of each kind one is in
+//! memory and follows a script, and one goes over TCP.
 //!
 //! A `Link` has one connection at a time to an HTTP peer. Where it tells what is said on it, its clauses speak of
 //! the bytes that were sent and received (`sent`, `received`), and a failed call leaves a part of them (`part`);
@@ -11,12 +9,29 @@
 //! memory, whose peers say what a script has; `TcpLink` one over TCP, which tells nothing of content: an address
 //! that doesn't answer within 30 seconds is given up, and a peer that is silent for 120 seconds is a fault, which
 //! no proof or test shows.
+//!
+//! A `Port` has the connections that peers make to this program, one at a time. Where it tells, it tells of each that
+//! it accepted the bytes that were sent and received and whether the peer's end was heard (`talks`): `accept` adds one
+//! on which nothing was said (`accepted`), and what is sent and received goes to the latest one (`sent`, `received`,
+//! `part`). A fault comes only where its count of faults rose, and a second count, `lost`, rises with a fault of
+//! `listen` or `accept` alone (`frame`). `MemPort` is one in memory, whose peers say what a script has; of it is proved
+//! which calls fail too (`listed`, `others`). `TcpPort` is one over TCP, at 127.0.0.1, which tells nothing of content:
+//! that bytes pass between it and a `TcpLink` is only tested, and how long it waits for a silent peer neither.
 #![tactic(auto)]
 
 pub use link::Link;
+pub use mem_port::MemPort;
+pub use port::Port;
 pub use script_link::ScriptLink;
 pub use tcp_link::TcpLink;
+pub use tcp_port::TcpPort;
 
+mod calls;
 mod link;
+mod mem_port;
+mod port;
+mod script;
 mod script_link;
+mod tcp;
 mod tcp_link;
+mod tcp_port;

@@ -1,12 +1,11 @@
 //! A connection over TCP.
-ghost use Rattle.std.specs.Prelude.{◌≡◌, ◌≤◌, IfOk, OnErr, OnOk, length};
-ghost use Rattle.acq_outside.specs.Count.{Rose};
 
 use crate::Link;
+use crate::tcp::{count, read, write};
 use acq_base::Text;
 use acq_outside::Fault;
 use std::io;
-use std::io::{ErrorKind, Read, Write};
+use std::io::ErrorKind;
 use std::net::{Net, TcpStream, ToSocketAddrs};
 use std::time::Duration;
 
@@ -104,15 +103,6 @@ impl<R: Net<Stream = TcpStream> + Drop> Link for TcpLink<R> {
     }
 }
 
-/// Counts a fault.
-fn count(faults: &mut u64) -> Fault
-    ensures count { faults.old ≤ faults.new }
-    ensures fault { Rose faults.old faults.new }
-{
-    *faults = faults.saturating_add(1);
-    Fault
-}
-
 /// The host of a URI as the system looks it up: an IPv6 address stands there between brackets (RFC 3986, section 3.2.2).
 fn host_name(host: &[u8]) -> io::Result<&str> {
     let name = match str::from_utf8(host) {
@@ -145,29 +135,4 @@ fn prepared(stream: TcpStream) -> io::Result<TcpStream> {
     stream.set_read_timeout(Some(silent))?;
     stream.set_write_timeout(Some(silent))?;
     Ok(stream)
-}
-
-/// Writes all bytes to a connection.
-fn write(stream: &mut Option<TcpStream>, bytes: &[u8]) -> io::Result<()> {
-    match stream {
-        Some(stream) => stream.write_all(bytes),
-        None => Err(io::Error::from(ErrorKind::NotConnected)),
-    }
-}
-
-/// Reads bytes of a connection, again where a signal broke in.
-fn read(stream: &mut Option<TcpStream>, out: &mut [u8]) -> io::Result<usize>
-    ensures within { IfOk result (λ n. n ≤ length out.old) }
-    ensures room { length out.new ≡ length out.old }
-{
-    let Some(stream) = stream else {
-        return Err(io::Error::from(ErrorKind::NotConnected));
-    };
-    for _ in 0..u64::MAX {
-        match stream.read(out) {
-            Err(error) if error.kind() == ErrorKind::Interrupted => {}
-            done => return done,
-        }
-    }
-    Err(io::Error::from(ErrorKind::Interrupted))
 }

@@ -1,6 +1,6 @@
 use Rattle.std.proofs.Common.{◌≡◌}
-use Rattle.acq_net.specs.ScriptLink.{bytes_of, front_piece}
-use Rattle.acq_net.proofs.script_link.next_piece.Given as goal
+use Rattle.acq_net.specs.Script.{bytes_of, front_piece}
+use Rattle.acq_net.proofs.script.next_piece.Given as goal
 
 -- what was taken out has no bytes
 abbrev pub invariant-loop-pieces : goal.invariant-loop-pieces
