@@ -26,6 +26,7 @@ fn answered(alloc: Global, name: &str, rest: &[&[u8]]) -> Result<String, Refused
         ("frame", [text]) => frames::within(alloc, text),
         ("command", words) => command::asked(alloc, words),
         ("start", words) => started::started(alloc, words),
+        ("place", words) => started::place(alloc, words),
         ("without-memory", []) => started::without_memory(alloc),
         _ => answered_below(alloc, name, rest),
     }

@@ -3,7 +3,7 @@ ghost use Rattle.std.specs.Io.{WritesAtMost};
 
 use acq_base::{NoMemory, Text};
 use case_words::{Refused, put_refusal};
-use start_values::{RealEnvironment, Refused as Unstarted, Start, read_start};
+use start_values::{RealEnvironment, Refused as Unstarted, Start, read_place, read_start};
 use std::alloc::Global;
 use std::env::FillError;
 use std::fmt::Write;
@@ -48,8 +48,8 @@ fn fill(bytes: &[u8], buf: &mut [u8]) -> Result<usize, FillError>
     Ok(bytes.len())
 }
 
-/// What a program goes by that was started with these words, and behind a `+` with pairs of variables and values.
-pub fn started(alloc: Global, words: &[&[u8]]) -> Result<String, Refused> {
+/// A process that was started with these words, and behind a `+` with pairs of variables and values.
+fn given(alloc: Global, words: &[&[u8]]) -> Result<Given, Refused> {
     let mut parts = words.split(|word| *word == b"+".as_slice());
     let mut given = Given {
         words: Vec::new(alloc),
@@ -66,13 +66,31 @@ pub fn started(alloc: Global, words: &[&[u8]]) -> Result<String, Refused> {
         let value = Text::from_bytes(alloc, value)?;
         given.variables.push((name, value))?;
     }
-    let environment = RealEnvironment::new((given, alloc));
+    Ok(given)
+}
+
+/// What a program goes by that was started so.
+pub fn started(alloc: Global, words: &[&[u8]]) -> Result<String, Refused> {
+    let environment = RealEnvironment::new((given(alloc, words)?, alloc));
     let mut out = String::new(alloc);
     match read_start(alloc, &environment) {
         Ok(start) => put_start(&mut out, &start)?,
         Err(refused) => put_unstarted(&mut out, refused)?,
     }
     Ok(out)
+}
+
+/// The folder for package files of a program that was started so.
+pub fn place(alloc: Global, words: &[&[u8]]) -> Result<String, Refused> {
+    let environment = RealEnvironment::new((given(alloc, words)?, alloc));
+    match read_place(alloc, &environment) {
+        Ok(place) => Ok(place),
+        Err(refused) => {
+            let mut out = String::new(alloc);
+            put_unstarted(&mut out, refused)?;
+            Ok(out)
+        }
+    }
 }
 
 fn put_start(out: &mut String, start: &Start) -> Result<(), Refused> {

@@ -62,5 +62,8 @@ etc_of known = folder_of (codes "/etc/apt") (known.value (codes "ACQUIRE_ETC"))
 abbrev pub lists_of : Known → List ℕ
 lists_of known = folder_of (codes "/var/lib/apt/lists") (known.value (codes "ACQUIRE_LISTS"))
 
+abbrev pub place_of : Known → List ℕ
+place_of known = folder_of (codes ".") (known.value (codes "ACQUIRE_PLACE"))
+
 abbrev pub known_lanes : Known → ℕ
 known_lanes known = lanes_of_value (known.value (codes "ACQUIRE_LANES"))

@@ -1,10 +1,11 @@
 //! What a program is given when it starts: its words, its folders and its lanes, and what is told where these can't be read.
 //!
-//! The variables are `ACQUIRE_ETC`, the configuration folder; `ACQUIRE_LISTS`, the lists folder; and `ACQUIRE_LANES`, how
-//! many workers may fetch.
+//! The variables are `ACQUIRE_ETC`, the configuration folder; `ACQUIRE_LISTS`, the lists folder; `ACQUIRE_LANES`, how
+//! many workers may fetch; and `ACQUIRE_PLACE`, the folder for package files, which the program doesn't read yet.
 //!
 //! `read_start` gives the words behind the program's own name, the two folders and the lanes that an environment's
-//! variables say (`words`, `etc`, `lists`, `lanes`; each word is UTF-8, `text`), or why there are none (`refused`);
+//! variables say (`words`, `etc`, `lists`, `lanes`; each word is UTF-8, `text`), or why there are none (`refused`), and
+//! `read_place` the folder for package files (`place`, `refused`);
 //! `begin_program` tells a refusal on the output with its line and status (`told`), and else leaves the output alone
 //! (`untouched`). These clauses speak of an environment that tells its words and variables, and none here does: std
 //! says nothing of a real one, so that `RealEnvironment` reads it right is only tested.
@@ -13,7 +14,7 @@
 pub use environment::{Environment, Unread};
 pub use real_environment::RealEnvironment;
 pub use refused::Refused;
-pub use start::{Start, read_start};
+pub use start::{Start, read_place, read_start};
 pub use telling::{begin_program, write_refusal};
 
 mod environment;

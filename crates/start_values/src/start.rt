@@ -1,7 +1,7 @@
 //! What a program makes of the words and variables that it was started with.
-ghost use Rattle.std.specs.Prelude.{◌≡◌, drop, map, string_bytes, All, IsUtf8, IfOk, IfSome, IfErr, OnOk, option_map};
+ghost use Rattle.std.specs.Prelude.{◌≡◌, codes, drop, map, string_bytes, All, IsUtf8, IfOk, IfSome, IfErr, OnOk, option_map};
 ghost use Rattle.start_values.specs.Environment.{Known};
-ghost use Rattle.start_values.specs.Start.{ForStart, IsFolderRefusal, IsRefusal, IsWordsRefusal, SaysLanes, etc_of, folder_of, known_lanes, lanes_of, lists_of};
+ghost use Rattle.start_values.specs.Start.{ForStart, IsFolderRefusal, IsRefusal, IsWordsRefusal, SaysLanes, etc_of, folder_of, known_lanes, lanes_of, lists_of, place_of};
 
 use crate::{Environment, Refused, Unread};
 use std::alloc::Global;
@@ -45,6 +45,15 @@ pub fn read_start<E: Environment>(alloc: Global, environment: &E) -> Result<Star
         lists,
         lanes,
     })
+}
+
+/// The path of the folder for package files, that of `ACQUIRE_PLACE`: where it isn't set, or is empty, the folder that the
+/// process works in. It is read apart from the others, so that its value refuses no command that puts no file there.
+pub fn read_place<E: Environment>(alloc: Global, environment: &E) -> Result<String, Refused>
+    ensures place { IfSome (E.known environment.now) (λ known. IfOk result (λ place. string_bytes place ≡ place_of known)) }
+    ensures refused { IfSome (E.known environment.now) (λ known. IfErr result (IsFolderRefusal known (codes "ACQUIRE_PLACE"))) }
+{
+    read_folder(alloc, environment, "ACQUIRE_PLACE", ".")
 }
 
 /// The words behind the program's own name.
