@@ -1,10 +1,11 @@
 //! The program `object_calls`: makes the calls that the lines of its standard input name, one after another, on real files
 //! and sockets and on a lists folder in memory, and prints what each answers.
 //!
-//! A line is an object, a call and its arguments, with one blank between them: `disk`, `etc`, `tree`, `clock`, `sink` and
-//! `link` are the objects of the operating system that `acq_real` and `acq_net` have, `files` is the system itself, by
-//! which something is put or taken away behind their backs, `peer` is the other side of the link, and `memory` is a lists
-//! folder in memory. In an argument `\n` and `\r` are line ends, `\x20` is the byte of that number, and `""` is the empty
+//! A line is an object, a call and its arguments, with one blank between them: `disk`, `etc`, `tree`, `written`, `clock`,
+//! `input`, `sink` and `link` are the objects of the operating system that `acq_real` and `acq_net` have, `files` is the
+//! system itself, by which something is put or taken away behind their backs, `peer` is the other side of the link,
+//! `memory` is a lists folder in memory, and `memory-written` and `memory-input` are written files and an input in memory.
+//! The program's own standard input holds the lines, so `input` reads a file in its place. In an argument `\n` and `\r` are line ends, `\x20` is the byte of that number, and `""` is the empty
 //! text. An empty line and one that begins with `#` are printed again. All paths are below one folder of its own, which is
 //! made first and removed last.
 #![tactic(auto)]
@@ -17,11 +18,13 @@ mod disk;
 mod etc;
 mod files;
 mod folder;
+mod input;
 mod link;
 mod memory;
 mod objects;
 mod tree;
 mod words;
+mod written;
 
 fn main(rt: HostRuntime) -> io::Result<()> {
     let own = own_folder(&rt)?;

@@ -1,8 +1,10 @@
 //! The objects that lines name.
 
+use crate::input::Inputs;
 use crate::link::Peers;
 use crate::memory::Memory;
 use crate::words::Refused;
+use crate::written::Written;
 use crate::{disk, etc, files, tree, words};
 use acq_outside::{Clock, Sink};
 use acq_real::{RealClock, RealDisk, RealEtc, RealSink, RealTree};
@@ -23,6 +25,8 @@ pub struct Objects {
     other: RealDisk<HostRuntime>,
     etc: RealEtc<HostRuntime>,
     tree: RealTree<HostRuntime>,
+    written: Written,
+    inputs: Inputs,
     peers: Peers,
     memory: Memory,
 }
@@ -38,6 +42,8 @@ impl Objects {
             other: RealDisk::new(alloc, rt, own)?,
             etc: RealEtc::new(alloc, rt, own)?,
             tree: RealTree::new(rt),
+            written: Written::new(rt),
+            inputs: Inputs::new(rt),
             peers: Peers::new(rt),
             memory: Memory::new(alloc),
         })
@@ -55,6 +61,10 @@ impl Objects {
             ["peer", call @ ..] => self.peers.peer_answer(alloc, call),
             ["files", call @ ..] => files::answer(&self.rt, self.own.as_str(), call),
             ["memory", call @ ..] => self.memory.answer(call),
+            ["written", call @ ..] => self.written.answer(self.own.as_str(), call),
+            ["memory-written", call @ ..] => self.written.memory_answer(call),
+            ["input", call @ ..] => self.inputs.answer(self.own.as_str(), call),
+            ["memory-input", call @ ..] => self.inputs.memory_answer(call),
             ["clock", "moment"] => self.clock_answer(),
             ["sink", "write", text] => self.sink_answer(text),
             _ => Err(Refused::NoCall),

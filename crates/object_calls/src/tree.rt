@@ -21,7 +21,7 @@ pub fn answer(alloc: Global, tree: &mut Real, own: &str, call: &[&str]) -> Resul
 }
 
 /// A path below a folder.
-fn below(alloc: Global, own: &str, path: &str) -> Result<Text, Refused> {
+pub fn below(alloc: Global, own: &str, path: &str) -> Result<Text, Refused> {
     let mut whole = Text::from_bytes(alloc, own.as_bytes())?;
     whole.push(b'/')?;
     whole.append(bytes(alloc, path)?.as_bytes())?;
