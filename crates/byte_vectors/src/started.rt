@@ -49,7 +49,7 @@ fn fill(bytes: &[u8], buf: &mut [u8]) -> Result<usize, FillError>
 }
 
 /// A process that was started with these words, and behind a `+` with pairs of variables and values.
-fn given(alloc: Global, words: &[&[u8]]) -> Result<Given, Refused> {
+fn process_of(alloc: Global, words: &[&[u8]]) -> Result<Given, Refused> {
     let mut parts = words.split(|word| *word == b"+".as_slice());
     let mut given = Given {
         words: Vec::new(alloc),
@@ -71,7 +71,7 @@ fn given(alloc: Global, words: &[&[u8]]) -> Result<Given, Refused> {
 
 /// What a program goes by that was started so.
 pub fn started(alloc: Global, words: &[&[u8]]) -> Result<String, Refused> {
-    let environment = RealEnvironment::new((given(alloc, words)?, alloc));
+    let environment = RealEnvironment::new((process_of(alloc, words)?, alloc));
     let mut out = String::new(alloc);
     match read_start(alloc, &environment) {
         Ok(start) => put_start(&mut out, &start)?,
@@ -82,7 +82,7 @@ pub fn started(alloc: Global, words: &[&[u8]]) -> Result<String, Refused> {
 
 /// The folder for package files of a program that was started so.
 pub fn place(alloc: Global, words: &[&[u8]]) -> Result<String, Refused> {
-    let environment = RealEnvironment::new((given(alloc, words)?, alloc));
+    let environment = RealEnvironment::new((process_of(alloc, words)?, alloc));
     match read_place(alloc, &environment) {
         Ok(place) => Ok(place),
         Err(refused) => {
