@@ -61,7 +61,7 @@ impl Peers {
     }
 
     /// The port at which the peer listens.
-    fn port(&self) -> Result<u16, Refused> {
+    pub fn port(&self) -> Result<u16, Refused> {
         match &self.listener {
             Some(listener) => Ok(listener.local_addr()?.port()),
             None => Err(Refused::NoCall),

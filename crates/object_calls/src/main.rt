@@ -1,13 +1,13 @@
 //! The program `object_calls`: makes the calls that the lines of its standard input name, one after another, on real files
 //! and sockets and on a lists folder in memory, and prints what each answers.
 //!
-//! A line is an object, a call and its arguments, with one blank between them: `disk`, `etc`, `tree`, `written`, `clock`,
-//! `input`, `sink` and `link` are the objects of the operating system that `acq_real` and `acq_net` have, `files` is the
-//! system itself, by which something is put or taken away behind their backs, `peer` is the other side of the link,
-//! `memory` is a lists folder in memory, and `memory-written` and `memory-input` are written files and an input in memory.
-//! The program's own standard input holds the lines, so `input` reads a file in its place. In an argument `\n` and `\r` are line ends, `\x20` is the byte of that number, and `""` is the empty
-//! text. An empty line and one that begins with `#` are printed again. All paths are below one folder of its own, which is
-//! made first and removed last.
+//! A line is an object, a call and its arguments, with one blank between them. `disk`, `etc`, `tree`, `written`, `clock`,
+//! `input`, `sink`, `link` and `port` are the objects of the operating system that `acq_real` and `acq_net` have; `files` is
+//! the system itself, by which something is put or taken away behind their backs, and `peer` the other side of the link.
+//! `memory` is a lists folder in memory, and `memory-written`, `memory-input` and `memory-port` are written files, an input
+//! and a port in memory. The program's own standard input holds the lines, so `input` reads a file in its place. In an
+//! argument `\n` and `\r` are line ends, `\x20` is the byte of that number, and `""` is the empty text. An empty line and one
+//! that begins with `#` are printed again. All paths are below one folder of its own, which is made first and removed last.
 #![tactic(auto)]
 
 use objects::Objects;
@@ -22,6 +22,7 @@ mod input;
 mod link;
 mod memory;
 mod objects;
+mod port;
 mod tree;
 mod words;
 mod written;

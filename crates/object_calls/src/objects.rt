@@ -3,6 +3,7 @@
 use crate::input::Inputs;
 use crate::link::Peers;
 use crate::memory::Memory;
+use crate::port::Ports;
 use crate::words::Refused;
 use crate::written::Written;
 use crate::{disk, etc, files, tree, words};
@@ -28,6 +29,7 @@ pub struct Objects {
     written: Written,
     inputs: Inputs,
     peers: Peers,
+    ports: Ports,
     memory: Memory,
 }
 
@@ -45,6 +47,7 @@ impl Objects {
             written: Written::new(rt),
             inputs: Inputs::new(rt),
             peers: Peers::new(rt),
+            ports: Ports::new(rt),
             memory: Memory::new(alloc),
         })
     }
@@ -57,8 +60,12 @@ impl Objects {
             ["disk", call @ ..] => self.disk_answer(call),
             ["etc", call @ ..] => self.etc_answer(call),
             ["tree", call @ ..] => self.tree_answer(call),
+            ["link", "connect", host, "port"] => self.connect_to_port(host),
             ["link", call @ ..] => self.peers.link_answer(alloc, call),
             ["peer", call @ ..] => self.peers.peer_answer(alloc, call),
+            ["port", "listen", "peer"] => self.listen_at_peer(),
+            ["port", call @ ..] => self.ports.real_answer(alloc, call),
+            ["memory-port", call @ ..] => self.ports.memory_answer(alloc, call),
             ["files", call @ ..] => files::answer(&self.rt, self.own.as_str(), call),
             ["memory", call @ ..] => self.memory.answer(call),
             ["written", call @ ..] => self.written.answer(self.own.as_str(), call),
@@ -114,6 +121,21 @@ impl Objects {
             }
             _ => tree::answer(alloc, &mut self.tree, self.own.as_str(), call),
         }
+    }
+
+    /// Connects the link to the port over TCP.
+    fn connect_to_port(&mut self, host: &str) -> Result<String, Refused> {
+        let alloc = self.rt.alloc();
+        let number = format!(in alloc; "{}", self.ports.number())?;
+        self.peers
+            .link_answer(alloc, &["connect", host, number.as_str()])
+    }
+
+    /// Tells the port over TCP to listen where the link's peer does.
+    fn listen_at_peer(&mut self) -> Result<String, Refused> {
+        let alloc = self.rt.alloc();
+        let number = format!(in alloc; "{}", self.peers.port()?)?;
+        self.ports.real_answer(alloc, &["listen", number.as_str()])
     }
 
     /// On which side of the year 2020 the clock's moment is.
