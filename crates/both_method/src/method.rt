@@ -71,7 +71,8 @@ impl<F: Method, H: Method> Method for BothMethod<F, H> {
         self.faults
     }
 
-    // Beside what the trait says: each word is that of the method for its scheme, and the other one isn't called.
+    // Beside what the trait says: each word is that of the method for its scheme, in which one fetch is begun, and the other
+    // one isn't called.
 
     fn begin(&mut self, alloc: Global, job: &Job) -> Word
         requires sound { IsSound job.now.uri }
@@ -87,6 +88,8 @@ impl<F: Method, H: Method> Method for BothMethod<F, H> {
         ensures no_peer { job.now.uri.scheme ≡ File → self.new.peers ≡ self.old.peers }
         ensures http { job.now.uri.scheme ≡ Http → IsPeersWord H.Method self.old self.new (begun job.now) result }
         ensures no_file { job.now.uri.scheme ≡ Http → self.new.files ≡ self.old.files }
+        ensures begins_file { job.now.uri.scheme ≡ File → F.begins self.new.files ≡ one_more (F.begins self.old.files) }
+        ensures begins_http { job.now.uri.scheme ≡ Http → H.begins self.new.peers ≡ one_more (H.begins self.old.peers) }
     {
         self.turn = Some(job.uri.scheme);
         self.begins = self.begins.saturating_add(1);
@@ -115,6 +118,8 @@ impl<F: Method, H: Method> Method for BothMethod<F, H> {
         ensures no_peer { self.old.turn ≡ Some File → self.new.peers ≡ self.old.peers }
         ensures http { self.old.turn ≡ Some Http → IfSome (H.under self.old.peers) (λ fetch. IsPeersWord H.Method self.old self.new fetch result) }
         ensures no_file { self.old.turn ≡ Some Http → self.new.files ≡ self.old.files }
+        ensures begins_file { F.begins self.new.files ≡ F.begins self.old.files }
+        ensures begins_http { H.begins self.new.peers ≡ H.begins self.old.peers }
     {
         let Some(scheme) = self.turn else {
             unreachable!()

@@ -65,7 +65,7 @@ pub record FetchesOver {T : Type 0} (g : Ghosts T) (old new : FileState T) (word
   pub tree_count : g.faults old.tree ≤ g.faults new.tree
   pub tree_fault : CountsFault (g.faults old.tree) (g.faults new.tree) word
 
--- the same of a call that begins no fetch
+-- the same of a call that leaves the count of fetches
 pub record GoesOnOver {T : Type 0} (g : Ghosts T) (old new : FileState T) (word : Word) : Type 0 where
   pub over : FetchesOver g old new word
   pub open over use *

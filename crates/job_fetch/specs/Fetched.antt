@@ -71,8 +71,9 @@ abbrev pub LeavesFile : ℕ → List ℕ → List State → List State → Close
 LeavesFile from name old new (Served body) = Unit {0}
 LeavesFile from name old new _ = (new ≡ old) ⊎ (IsTold new → from < length (part_bytes new name))
 
--- Calls on one list's file on its way: at every moment what is at rest stays so, the files of all other names stay, and at
--- every moment, in a folder without a journal too, a crash leaves these as it might have left them before.
+-- Calls on one list's file on its way: at every moment what is at rest stays so; at their end the files of all other names
+-- are as they were; and at every moment, where no change of another name was pending before, in a folder without a journal
+-- too, a crash leaves the others as it might have left them then.
 pub record Staging (name : List ℕ) (old new : List State) : Type 0 where
   pub moments : Since old new (KeptAtRestSince old)
   pub others : KeepsOtherFiles name old new

@@ -43,13 +43,14 @@ pub enum FaultLine {
     Held,
     /// The configuration folder failed.
     Etc,
-    /// No file of a package is found: 34 where no list has this version of it, 35 where lists have files that differ.
+    /// No file of a package is found: 34 where no list has this version of it, 35 where two entries for it have sums that
+    /// differ.
     Download {
         number: u32,
         name: Text,
         version: Text,
     },
-    /// No peer can be listened for.
+    /// Listening at a port, or accepting a peer there, failed.
     Port,
 }
 
