@@ -1,5 +1,6 @@
 //! An input, as the rest of the program asks for it.
-ghost use Rattle.std.specs.Prelude.{◌≡◌, ℕ, ◌<◌, ◌≤◌, List, length, take, Option, IfOk, OnErr};
+ghost use Rattle.std.specs.Prelude.{◌≡◌, ◌≢◌, ℕ, ◌<◌, ◌≤◌, List, length, take, Option, IfOk, OnErr};
+ghost use Rattle.acq_outside.specs.Count.{Rose};
 ghost use Rattle.acq_outside.specs.Frame.{Counts};
 ghost use Rattle.acq_outside.specs.Inlet.{Gave, IsSpent};
 
@@ -10,17 +11,26 @@ pub trait Inlet: Drop {
     /// How often it failed.
     ghost faults: { Self → ℕ };
 
+    /// How often the end was given.
+    ghost ends: { Self → ℕ };
+
     /// The bytes still to come, where it tells them.
     ghost left: { Self → Option (List ℕ) };
 
-    /// Reads the next bytes into the front of `out` and answers how many: 0 only at the end. After a fault none of them is
-    /// lost.
+    /// Reads the next bytes into the front of `out` and answers how many: 0 only at the end. After a fault none of them
+    /// is lost.
     fn read(&mut self, out: &mut [u8]) -> Result<usize, Fault>
         requires { 0 < length out.old }
         ensures frame { Counts (faults self.old) (faults self.new) result }
+
+        ensures ends { IfOk result (λ n. n ≡ 0 → Rose (ends self.old) (ends self.new)) }
+        ensures goes_on { IfOk result (λ n. n ≢ 0 → ends self.new ≡ ends self.old) }
+        ensures failed { OnErr result (ends self.new ≡ ends self.old) }
+        ensures ends_count { ends self.old ≤ ends self.new }
+
         ensures within { IfOk result (λ n. n ≤ length out.old) }
         ensures room { length out.new ≡ length out.old }
         ensures gave { IfOk result (λ n. Gave (left self.old) (take n out.new) (left self.new)) }
-        ensures end { IfOk result (λ n. n ≡ 0 → IsSpent (left self.old)) }
+        ensures spent { IfOk result (λ n. n ≡ 0 → IsSpent (left self.old)) }
         ensures err { OnErr result (left self.new ≡ left self.old) };
 }
