@@ -16,8 +16,8 @@ pub trait Files: Drop {
     ghost files: { Self → Option FilesByName };
 
     /// Writes bytes to a file from a place on: at 0, where the file is made or emptied first, or at its end. Real files
-    /// can't say so in a condition, but expect it too: the place is 0, or the length that puts of this run gave the file.
-    /// After a fault the file is as it was, or a prefix of the bytes is written. No other file changes.
+    /// have no condition that says so, but expect it: the place is 0, or the length that puts of this run gave the
+    /// file. After a fault the file is as it was, or a prefix of the bytes is written. No other file changes.
     fn put(&mut self, name: &Text, at: u64, bytes: &[u8]) -> Result<(), Fault>
         requires { IfSome (files self.old) (λ all. CanPut all name.now at) }
         ensures frame { Counts (faults self.old) (faults self.new) result }
