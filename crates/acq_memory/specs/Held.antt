@@ -1,4 +1,4 @@
--- How a disk in memory keeps its files, and which changes it takes.
+-- How a disk and written files in memory keep their files, and which changes a disk takes.
 use Rattle.std.specs.Prelude.{ℕ, List, [], ◌∷◌, IsSome}
 use Rattle.std.specs.Ordering.{nat_cmp}
 use Rattle.std.specs.Cmp.Lexicographic.{slice_cmp}

@@ -17,3 +17,7 @@ failing_of inlet = inlet.failing
 -- how often it failed
 abbrev pub faults_of : MemInlet → ℕ
 faults_of inlet = inlet.failing.faults
+
+-- how often the end was given
+abbrev pub ends_of : MemInlet → ℕ
+ends_of inlet = inlet.ends

@@ -1,4 +1,5 @@
-//! Which calls of an object in memory fail. Each such object keeps one of these, and nothing else counts its faults.
+//! Which calls of an object in memory fail. Each object that can fail keeps one of these, a method one for `begin` and
+//! one for `more`, and nothing else counts its faults.
 ghost use Rattle.std.specs.Prelude.{◌≡◌};
 ghost use Rattle.acq_memory.specs.Failing.{is_past};
 

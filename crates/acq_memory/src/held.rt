@@ -1,4 +1,5 @@
-//! The files of a disk in memory as a sorted map, and what each change does to them.
+//! The files of a disk or of written files in memory as a sorted map, what each change does to them, and what a read of
+//! bytes in memory gives.
 ghost use Rattle.std.specs.Prelude.{◌≡◌, ◌≤◌, length, min, take, drop, None, Some, IfOk, OnOk, OnErr};
 ghost use Rattle.acq_outside.specs.Disk.{IsNames, IsRead, spliced, with_file, after_write, after_cut, after_rename};
 ghost use Rattle.acq_outside.specs.History.{start_files, after_change};

@@ -1,9 +1,10 @@
-//! The outside in memory: a disk, a configuration folder, a method, served files, written files, an input, an output and a
-//! clock. Each tells what it holds, and which of its calls fail is said when it is made. The disk keeps its changes, so
-//! that it can be crashed: a choice of bytes stands for each thing that a crash may leave.
+//! The outside in memory: a disk, a configuration folder, a method, served files, written files, an input, an output
+//! and a clock. Each tells what it holds, and which of its calls fail is said when it is made. The disk keeps its
+//! changes, so that it can be crashed: a choice of bytes stands for each thing that a crash may leave.
 //!
 //! The objects meet their traits' clauses, fail exactly the calls of their row but for want of memory (`listed`,
-//! `others`), and a failed call of a disk or of written files changes nothing (`failed`, `err`). The disk may crash:
+//! `others`), and a failed call of a disk or of written files changes nothing (`failed`, `err`). An input fills what it
+//! is handed as far as its bytes reach (`filled`), and counts its ends one by one (`once`). The disk may crash:
 //! `MemDisk::crashed` is what a choice leaves of it, and is among what acq_outside's crash model says that a crash may
 //! leave.
 #![tactic(auto)]
