@@ -26,6 +26,7 @@ pub fn unless<T: Drop>(kind: ErrorKind, answer: io::Result<T>) -> io::Result<Opt
 /// The answer of the system, an error of it as a fault that is counted.
 pub fn counted<T: Drop>(faults: &mut u64, done: io::Result<T>) -> Result<T, Fault>
     ensures frame { Counts faults.old faults.new result }
+    ensures ok { IsOk result ↔ IsOk done }
     ensures answer { IfOk result (λ value. done ≡ Ok value) }
 {
     match done {

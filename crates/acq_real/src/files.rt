@@ -1,6 +1,6 @@
 //! Files of the operating system that a call writes.
-ghost use Rattle.std.specs.Prelude.{◌≡◌, nat_eq, true, None};
-ghost use Rattle.std.specs.Fs.{asks_create, asks_truncate, asks_write};
+ghost use Rattle.std.specs.Prelude.{◌≡◌, nat_eq, false, true, None};
+ghost use Rattle.std.specs.Fs.{asks_append, asks_create, asks_create_new, asks_truncate, asks_write};
 
 use crate::answer::counted;
 use acq_base::Text;
@@ -10,8 +10,8 @@ use std::io::ErrorKind;
 use std::os::unix::fs::FileExt;
 use std::{io, rt};
 
-/// The files of the operating system, to be written. A name is a path and is taken as it stands, and links are followed. A
-/// path that isn't UTF-8 is a fault, and so is one at which no file can be made or written.
+/// The files of the operating system, to be written. A name is a path and is taken as it stands, and links are followed.
+/// A path that isn't UTF-8 is a fault, and so is one at which no file can be made or written.
 #[derive(Drop)]
 pub struct RealFiles<R: Drop> {
     rt: R,
@@ -56,11 +56,14 @@ fn write(rt: &impl rt::Files<File = File>, path: &[u8], at: u64, bytes: &[u8]) -
     file.write_all_at(bytes, at)
 }
 
-/// How a file is opened to be written from a place on: at 0 it is made or emptied, and else it has to be there.
+/// How a file is opened to be written from a place on: at 0 it is made or emptied, and else it has to be there. One that
+/// is there is never refused, and what is written isn't moved to its end.
 fn way_to_write(at: u64) -> OpenOptions
     ensures writes { asks_write result ≡ true }
     ensures makes { asks_create result ≡ nat_eq at 0 }
     ensures empties { asks_truncate result ≡ nat_eq at 0 }
+    ensures in_place { asks_append result ≡ false }
+    ensures takes_present { asks_create_new result ≡ false }
 {
     let mut way = OpenOptions::new();
     way.write(true);

@@ -1,5 +1,5 @@
 //! The standard input.
-ghost use Rattle.std.specs.Prelude.{◌≤◌, None, IfOk, length};
+ghost use Rattle.std.specs.Prelude.{◌≤◌, IfOk, length};
 ghost use Rattle.std.specs.Io.KnownBytes.{ReadConsumes};
 
 use crate::answer::{counted, unless};
@@ -12,17 +12,26 @@ use std::io::{ErrorKind, Read};
 pub struct RealInlet<R: Drop> {
     reader: R,
     faults: u64,
+    /// How often the end was given.
+    ends: u64,
 }
 
 impl<R: Read + Drop> RealInlet<R> {
     ghost use Rattle.std.specs.Prelude.{◌≡◌};
-    ghost use Rattle.acq_real.specs.RealInlet.{faults_of};
+    ghost use Rattle.acq_real.specs.RealInlet.{ends_of, faults_of, reader_of};
 
-    /// The input from this reader, which is `rt.stdin()` for the standard input. It has not failed yet.
+    /// The input from this reader, which is `rt.stdin()` for the standard input. It has not failed yet, nor
+    /// given an end.
     pub fn new(reader: R) -> RealInlet<R>
-        ensures { faults_of result ≡ 0 }
+        ensures reader { reader_of result ≡ reader }
+        ensures faults { faults_of result ≡ 0 }
+        ensures ends { ends_of result ≡ 0 }
     {
-        RealInlet { reader, faults: 0 }
+        RealInlet {
+            reader,
+            faults: 0,
+            ends: 0,
+        }
     }
 
     /// How often it failed.
@@ -34,13 +43,38 @@ impl<R: Read + Drop> RealInlet<R> {
 }
 
 impl<R: Read + Drop> Inlet for RealInlet<R> {
-    ghost faults = { λ inlet. inlet.faults };
+    ghost use Rattle.std.specs.Prelude.{◌≡◌, ◌≢◌, ◌<◌, ◌≤◌, None, IfOk, OnErr, length};
+    ghost use Rattle.acq_outside.specs.Count.{Rose};
+    ghost use Rattle.acq_outside.specs.Frame.{Counts};
+    ghost use Rattle.acq_real.specs.RealInlet.{ends_of, faults_of, reader_of};
+
+    ghost faults = { faults_of };
+
+    ghost ends = { ends_of };
 
     ghost left = { λ _. None };
 
-    fn read(&mut self, out: &mut [u8]) -> Result<usize, Fault> {
+    fn read(&mut self, out: &mut [u8]) -> Result<usize, Fault>
+        requires { 0 < length out.old }
+        ensures frame { Counts (faults_of self.old) (faults_of self.new) result }
+
+        ensures ends { IfOk result (λ n. n ≡ 0 → Rose (ends_of self.old) (ends_of self.new)) }
+        ensures goes_on { IfOk result (λ n. n ≢ 0 → ends_of self.new ≡ ends_of self.old) }
+        ensures failed { OnErr result (ends_of self.new ≡ ends_of self.old) }
+        ensures ends_count { ends_of self.old ≤ ends_of self.new }
+
+        ensures within { IfOk result (λ n. n ≤ length out.old) }
+        ensures room { length out.new ≡ length out.old }
+
+        // What the reader's known bytes lose is what is given, and a fault loses none.
+        ensures bytes { ReadConsumes (R.remaining (reader_of self.old)) (R.remaining (reader_of self.new)) result out.new }
+    {
         let read = read_some(&mut self.reader, out);
-        counted(&mut self.faults, read)
+        let n = counted(&mut self.faults, read)?;
+        if n == 0 {
+            self.ends = self.ends.saturating_add(1);
+        }
+        Ok(n)
     }
 }
 

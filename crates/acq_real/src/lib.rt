@@ -1,9 +1,9 @@
-//! The outside as the operating system has it: a folder of lists, a configuration folder, served files, written files, a
-//! clock, an input and an output.
+//! The outside as the operating system has it: a folder of lists, a configuration folder, served files, written files,
+//! a clock, an input and an output.
 //!
-//! These adapters are the trusted edge. They tell no content; what is proved of them is that their count of faults rises
-//! just where a call answers a fault, that the disk takes no name that may lead out of its folder, and what is made of
-//! the values that the system answers: which entries are listed, which errors count, which moment a time is.
+//! These adapters are the trusted edge. They tell no content; what is proved of them is that their count of faults
+//! rises just where a call answers a fault, that the disk takes no name that may lead out of its folder, and what is
+//! made of the values that the system answers: which entries are listed, which errors count, which moment a time is.
 //!
 //! Proved: no crash, a count that rises just where a call answers a fault; a name that leads out of the disk's
 //! folder is a fault that counts and is never listed, and the disk keeps the folder that it is given (`inside`,
@@ -12,14 +12,17 @@
 //! that was noted with it (`path` of `serving`), what the disk opens for a name is noted with that name's path
 //! (`path` of `open`, `open_or_make`), and behind a call that moved, replaced or removed a file none that is noted
 //! with their paths is kept (`closed` of `move_one`, `remove_one`); what an error of the system means, seconds of a
-//! time, a line put on any output, a read of any input, which takes the bytes that it gives and no other (`bytes` of
-//! `read_some`), and that a file to be written is made or emptied at 0 alone (`makes`, `empties` of `way_to_write`)
-//! are functions with clauses of their own; objects begin with no fault and no moment given. Only tested: what calls
-//! do to a folder, links in each place among them, that each call works on what it opened for its own name, that
-//! written files have their bytes at the places that were named, that a second disk on one folder is `Held`, that a
-//! file is read as an input, and that the output takes a line. That the standard input is read is not tested, nor
-//! that what is synced lasts. A `partial` replaced by a link between two looks at it isn't seen, nor is what another
-//! process puts in place of a file that is open.
+//! time and a line put on any output are functions with clauses of their own; an answer of the system is a fault
+//! just where it is an error (`ok` of `counted`); a read of an input takes from its reader, where that one's bytes
+//! are known, those that it gives and no other, and none where it fails (`bytes` of the input's `read`), and a count
+//! rises where it gives the end and nowhere else (`ends`, `goes_on`, `failed`); a file to be written is opened so
+//! that it is made or emptied at 0 alone, keeps the places that are named and may be there before (`makes`,
+//! `empties`, `in_place`, `takes_present` of `way_to_write`); objects begin with no fault, no end given and no moment
+//! given. Only tested: what calls do to a folder, links in each place among them, that each call works on what it
+//! opened for its own name, that written files have their bytes at the places that were named, that a second disk on
+//! one folder is `Held`, that a file is read as an input, and that the output takes a line. That the standard input
+//! is read is not tested, nor that what is synced lasts. A `partial` replaced by a link between two looks at it isn't
+//! seen, nor is what another process puts in place of a file that is open.
 #![tactic(auto)]
 
 pub use clock::RealClock;
