@@ -43,9 +43,9 @@ impl MemInlet {
 }
 
 impl Inlet for MemInlet {
-    ghost use Rattle.std.specs.Prelude.{◌≡◌, ◌≢◌, ◌↔◌, ◌<◌, ◌≤◌, Some, IfOk, IsErr, IsTrue, OnErr, length, min, take};
-    ghost use Rattle.acq_outside.specs.Count.{Rose, one_more};
-    ghost use Rattle.acq_outside.specs.Frame.{Counts};
+    ghost use Rattle.std.specs.Prelude.{◌≡◌, ◌↔◌, ◌<◌, ◌≤◌, Some, IfOk, IsErr, IsTrue, OnErr, length, min, take};
+    ghost use Rattle.acq_outside.specs.Count.{one_more};
+    ghost use Rattle.acq_outside.specs.Frame.{GivesBy};
     ghost use Rattle.acq_outside.specs.Inlet.{Gave, IsSpent};
     ghost use Rattle.acq_memory.specs.Failing.{counted, is_listed};
     ghost use Rattle.acq_memory.specs.MemInlet.{ends_of, failing_of, faults_of, left_of, told_left};
@@ -59,12 +59,8 @@ impl Inlet for MemInlet {
     #[tactic(auto, using(crate::proofs::ReadOn::given))]
     fn read(&mut self, out: &mut [u8]) -> Result<usize, Fault>
         requires { 0 < length out.old }
-        ensures frame { Counts (faults_of self.old) (faults_of self.new) result }
 
-        ensures ends { IfOk result (λ n. n ≡ 0 → Rose (ends_of self.old) (ends_of self.new)) }
-        ensures goes_on { IfOk result (λ n. n ≢ 0 → ends_of self.new ≡ ends_of self.old) }
-        ensures failed { OnErr result (ends_of self.new ≡ ends_of self.old) }
-        ensures ends_count { ends_of self.old ≤ ends_of self.new }
+        ensures frame { GivesBy faults_of ends_of self.old self.new result }
 
         ensures within { IfOk result (λ n. n ≤ length out.old) }
         ensures room { length out.new ≡ length out.old }

@@ -1,6 +1,6 @@
 -- The frame of a call on an outside object: how its counts go whatever it answers, and what it leaves as it was. A contract
 -- says it in one clause of that name, beside what the call is for.
-use Rattle.std.specs.Prelude.{◌≡◌, ◌≢◌, ◌≤◌, ℕ, Bool, List, Option, Result, OnOk, OnErr, IfErr, IsErrOf}
+use Rattle.std.specs.Prelude.{◌≡◌, ◌≢◌, ◌≤◌, ℕ, Bool, List, Option, Result, OnOk, OnErr, IfOk, IfErr, IsErrOf}
 use Rattle.acq_base.specs.Mirror.{MirrorMap}
 use Rattle.acq_outside.specs.Count.{Rose}
 use Rattle.acq_outside.specs.Crash.{State}
@@ -56,6 +56,16 @@ pub record LooksCountingBy {O F T E : Type 0} (kind : E) (faults : O → ℕ) (f
   pub counts : CountsOnly kind (faults old) (faults new) result
   pub open counts use *
   pub same : files new ≡ files old
+
+-- A call of an input that answers how many bytes it gave: its faults are counted, and the ends that it gave, which is
+-- giving none.
+pub record GivesBy {I E : Type 0} (faults gives_end : I → ℕ) (old new : I) (result : Result ℕ E) : Type 0 where
+  pub counts : Counts (faults old) (faults new) result
+  pub open counts use *
+  pub ends_count : gives_end old ≤ gives_end new
+  pub ended : IfOk result (λ n. n ≡ 0 → Rose (gives_end old) (gives_end new))
+  pub goes_on : IfOk result (λ n. n ≢ 0 → gives_end new ≡ gives_end old)
+  pub failed : OnErr result (gives_end new ≡ gives_end old)
 
 -- A call of a method, whose word has the cause of a fault in it: its count never falls, and its mirror stays.
 pub record FetchesBy {M : Type 0} (faults : M → ℕ) (world : M → Option MirrorMap) (old new : M) : Type 0 where

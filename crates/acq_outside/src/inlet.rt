@@ -1,7 +1,6 @@
 //! An input, as the rest of the program asks for it.
-ghost use Rattle.std.specs.Prelude.{◌≡◌, ◌≢◌, ℕ, ◌<◌, ◌≤◌, List, length, take, Option, IfOk, OnErr};
-ghost use Rattle.acq_outside.specs.Count.{Rose};
-ghost use Rattle.acq_outside.specs.Frame.{Counts};
+ghost use Rattle.std.specs.Prelude.{◌≡◌, ℕ, ◌<◌, ◌≤◌, List, length, take, Option, IfOk, OnErr};
+ghost use Rattle.acq_outside.specs.Frame.{GivesBy};
 ghost use Rattle.acq_outside.specs.Inlet.{Gave, IsSpent};
 
 use crate::Fault;
@@ -21,12 +20,8 @@ pub trait Inlet: Drop {
     /// is lost.
     fn read(&mut self, out: &mut [u8]) -> Result<usize, Fault>
         requires { 0 < length out.old }
-        ensures frame { Counts (faults self.old) (faults self.new) result }
 
-        ensures ends { IfOk result (λ n. n ≡ 0 → Rose (ends self.old) (ends self.new)) }
-        ensures goes_on { IfOk result (λ n. n ≢ 0 → ends self.new ≡ ends self.old) }
-        ensures failed { OnErr result (ends self.new ≡ ends self.old) }
-        ensures ends_count { ends self.old ≤ ends self.new }
+        ensures frame { GivesBy faults ends self.old self.new result }
 
         ensures within { IfOk result (λ n. n ≤ length out.old) }
         ensures room { length out.new ≡ length out.old }

@@ -7,7 +7,7 @@
 //! object holds, where it tells it, and that the object's count of faults rises just where a call answers a fault
 //! (`frame`; of a method's `begin` and `more` the rise stands in `word`, and of its `fetch` in `reply`; a clock can't
 //! fail). An input gives its bytes in order, each once (`gave`), loses none by a fault (`err`), and answers 0 only at
-//! its end (`spent`), where its count of ends rises, as it does nowhere else (`ends`, `goes_on`, `failed`). A put
+//! its end (`spent`), where its count of ends rises, as it does nowhere else (`frame`). A put
 //! changes the file that it names and no other (`ok`, `err`). Real objects tell nothing of content, so for them the
 //! counts and causes alone hold. A method counts the fetches that it begins (`begins`) and answers in words, of which
 //! each piece goes on where the one before ended (`word`), and its `fetch` joins them, whichever method it is

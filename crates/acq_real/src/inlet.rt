@@ -43,9 +43,8 @@ impl<R: Read + Drop> RealInlet<R> {
 }
 
 impl<R: Read + Drop> Inlet for RealInlet<R> {
-    ghost use Rattle.std.specs.Prelude.{◌≡◌, ◌≢◌, ◌<◌, ◌≤◌, None, IfOk, OnErr, length};
-    ghost use Rattle.acq_outside.specs.Count.{Rose};
-    ghost use Rattle.acq_outside.specs.Frame.{Counts};
+    ghost use Rattle.std.specs.Prelude.{◌≡◌, ◌<◌, ◌≤◌, None, IfOk, length};
+    ghost use Rattle.acq_outside.specs.Frame.{GivesBy};
     ghost use Rattle.acq_real.specs.RealInlet.{ends_of, faults_of, reader_of};
 
     ghost faults = { faults_of };
@@ -56,12 +55,8 @@ impl<R: Read + Drop> Inlet for RealInlet<R> {
 
     fn read(&mut self, out: &mut [u8]) -> Result<usize, Fault>
         requires { 0 < length out.old }
-        ensures frame { Counts (faults_of self.old) (faults_of self.new) result }
 
-        ensures ends { IfOk result (λ n. n ≡ 0 → Rose (ends_of self.old) (ends_of self.new)) }
-        ensures goes_on { IfOk result (λ n. n ≢ 0 → ends_of self.new ≡ ends_of self.old) }
-        ensures failed { OnErr result (ends_of self.new ≡ ends_of self.old) }
-        ensures ends_count { ends_of self.old ≤ ends_of self.new }
+        ensures frame { GivesBy faults_of ends_of self.old self.new result }
 
         ensures within { IfOk result (λ n. n ≤ length out.old) }
         ensures room { length out.new ≡ length out.old }

@@ -15,7 +15,7 @@
 //! time and a line put on any output are functions with clauses of their own; an answer of the system is a fault
 //! just where it is an error (`ok` of `counted`); a read of an input takes from its reader, where that one's bytes
 //! are known, those that it gives and no other, and none where it fails (`bytes` of the input's `read`), and a count
-//! rises where it gives the end and nowhere else (`ends`, `goes_on`, `failed`); a file to be written is opened so
+//! rises where it gives the end and nowhere else (`frame`); a file to be written is opened so
 //! that it is made or emptied at 0 alone, keeps the places that are named and may be there before (`makes`,
 //! `empties`, `in_place`, `takes_present` of `way_to_write`); objects begin with no fault, no end given and no moment
 //! given. Only tested: what calls do to a folder, links in each place among them, that each call works on what it
