@@ -2,13 +2,13 @@
 use Rattle.std.proofs.Common.{◌≡◌, ◌∙◌, ℕ, suc, ◌-◌, ◌+◌, ◌<◌, arith, List, [], ◌∷◌, ◌++◌, map, reverse, length, get_or, set, Result, Ok, Err, OnOk, MatchResult, refl, sym, ap, subst}
 use Rattle.std.proofs.lemmas.List.{get_or_at, length-append, length-reverse, reverse-append, reverse-reverse, set_at}
 use Rattle.acq_net.specs.declared.mem_port.MemPort.{MemPort}
-use Rattle.acq_net.specs.declared.script.Heard.{Heard}
+use Rattle.acq_net.specs.declared.script.FromPeer.{FromPeer}
 use Rattle.acq_net.specs.MemPort.{said_on, talks_of}
 use Rattle.acq_net.specs.Script.{hears, unheard}
 use Rattle.acq_net.specs.Talk.{Talk, receives, sends}
 use Rattle.acq_net.specs.Talks.{accepts, on_first}
 
-sent_in : (sent : List (List ℕ)) (heard : List Heard) → map (λ (talk : Talk). talk.sent) (said_on sent heard) ≡ sent
+sent_in : (sent : List (List ℕ)) (heard : List FromPeer) → map (λ (talk : Talk). talk.sent) (said_on sent heard) ≡ sent
 sent_in [] heard = refl
 sent_in (sent ∷ others) [] = ap (λ l. sent ∷ l) (sent_in others [])
 sent_in (sent ∷ others) (one ∷ heard) = ap (λ l. sent ∷ l) (sent_in others heard)
@@ -17,21 +17,21 @@ pub sent_on : (port : MemPort) → port.sent ≡ reverse (map (λ talk. talk.sen
 sent_on port = sym (ap reverse (sent_in (reverse port.sent) (port.heard ∷ reverse port.former.items)) ∙ reverse-reverse port.sent)
 
 -- one more connection was accepted
-pub accepted_on : (sent : List (List ℕ)) (heard : Heard) (former : List Heard) → said_on (reverse (sent ++ [] ∷ [])) (unheard ∷ reverse (former ++ heard ∷ [])) ≡ accepts (said_on (reverse sent) (heard ∷ reverse former))
+pub accepted_on : (sent : List (List ℕ)) (heard : FromPeer) (former : List FromPeer) → said_on (reverse (sent ++ [] ∷ [])) (unheard ∷ reverse (former ++ heard ∷ [])) ≡ accepts (said_on (reverse sent) (heard ∷ reverse former))
 accepted_on sent heard former = ap (λ l. said_on l (unheard ∷ reverse (former ++ heard ∷ []))) (reverse-append sent ([] ∷ [])) ∙ ap (λ l. accepts (said_on (reverse sent) l)) (reverse-append former (heard ∷ []))
 
 -- bytes were heard on the latest one
-pub heard_on : (sent : List (List ℕ)) (heard : Heard) (former : List Heard) (bytes : List ℕ) → said_on sent (hears bytes heard ∷ former) ≡ on_first (receives bytes) (said_on sent (heard ∷ former))
+pub heard_on : (sent : List (List ℕ)) (heard : FromPeer) (former : List FromPeer) (bytes : List ℕ) → said_on sent (hears bytes heard ∷ former) ≡ on_first (receives bytes) (said_on sent (heard ∷ former))
 heard_on [] heard former bytes = refl
 heard_on (sent ∷ others) heard former bytes = refl
 
 -- bytes were sent on the latest one
-pub said_on_first : (sent : List (List ℕ)) (heard : List Heard) (bytes : List ℕ) → said_on (on_first (λ row. row ++ bytes) sent) heard ≡ on_first (sends bytes) (said_on sent heard)
+pub said_on_first : (sent : List (List ℕ)) (heard : List FromPeer) (bytes : List ℕ) → said_on (on_first (λ row. row ++ bytes) sent) heard ≡ on_first (sends bytes) (said_on sent heard)
 said_on_first [] heard bytes = refl
 said_on_first (sent ∷ others) [] bytes = refl
 said_on_first (sent ∷ others) (one ∷ heard) bytes = refl
 
-length_in : (sent : List (List ℕ)) (heard : List Heard) → length (said_on sent heard) ≡ length sent
+length_in : (sent : List (List ℕ)) (heard : List FromPeer) → length (said_on sent heard) ≡ length sent
 length_in [] heard = refl
 length_in (sent ∷ others) [] = ap suc (length_in others [])
 length_in (sent ∷ others) (one ∷ heard) = ap suc (length_in others heard)

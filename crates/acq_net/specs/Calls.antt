@@ -20,9 +20,9 @@ counted calls = record { listed = calls.listed; made = one_more calls.made; faul
 abbrev pub starved : Calls → Calls
 starved calls = record { listed = calls.listed; made = calls.made; faults = one_more calls.faults; dry = one_more calls.dry }
 
--- after a fault by want of a connection
-abbrev pub missed : Calls → Calls
-missed calls = record { listed = calls.listed; made = calls.made; faults = one_more calls.faults; dry = calls.dry }
+-- after a fault by want of a connection, or of a port number at which peers could make one
+abbrev pub unconnected : Calls → Calls
+unconnected calls = record { listed = calls.listed; made = calls.made; faults = one_more calls.faults; dry = calls.dry }
 
 -- a listed call fails
 abbrev pub FailsAsListed : {T E : Type 0} → Calls → Calls → Result T E → Type 0
@@ -32,6 +32,6 @@ FailsAsListed old new result = IsTrue (is_listed old) → IsErr result × (new �
 abbrev pub FailsDryAlone : {T E : Type 0} → Calls → Calls → Result T E → Type 0
 FailsDryAlone old new result = is_listed old ≡ false → MatchResult result (λ _. new ≡ counted old) (λ _. new ≡ starved (counted old))
 
--- another one fails for want of a connection
-abbrev pub FailsAtOnce : {T E : Type 0} → Calls → Calls → Result T E → Type 0
-FailsAtOnce old new result = is_listed old ≡ false → IsErr result × (new ≡ missed (counted old))
+-- another one fails for want of a connection, or of a port number at which peers could make one
+abbrev pub FailsUnconnected : {T E : Type 0} → Calls → Calls → Result T E → Type 0
+FailsUnconnected old new result = is_listed old ≡ false → IsErr result × (new ≡ unconnected (counted old))

@@ -2,7 +2,7 @@
 use Rattle.std.specs.Prelude.{ℕ, false, ◌||◌, if◌then◌else◌, List, [], ◌∷◌, ◌++◌}
 use Rattle.std.specs.List.{flat_map}
 use Rattle.acq_net.specs.Talk.{Talk, is_none}
-use Rattle.acq_net.specs.declared.script.Heard.{Heard}
+use Rattle.acq_net.specs.declared.script.FromPeer.{FromPeer}
 use Rattle.acq_net.specs.declared.script.Script.{Script}
 
 -- the bytes of pieces, one after another
@@ -35,13 +35,13 @@ later_of [] = []
 later_of (row ∷ rows) = rows
 
 -- nothing was heard yet
-abbrev pub unheard : Heard
+abbrev pub unheard : FromPeer
 unheard = record { received = []; ended = false }
 
 -- these bytes were heard; none are the peer's end
-abbrev pub hears : List ℕ → Heard → Heard
+abbrev pub hears : List ℕ → FromPeer → FromPeer
 hears bytes heard = record { received = heard.received ++ bytes; ended = heard.ended || is_none bytes }
 
 -- what was said on a connection, as the bytes sent and what was heard
-abbrev pub told : List ℕ → Heard → Talk
-told sent heard = record { sent = sent; received = heard.received; ended = heard.ended }
+abbrev pub talk_with : List ℕ → FromPeer → Talk
+talk_with sent heard = record { sent = sent; received = heard.received; ended = heard.ended }

@@ -1,6 +1,6 @@
 -- What a connection in memory shows.
 use Rattle.std.specs.Prelude.{ℕ, Option, Some}
-use Rattle.acq_net.specs.Script.{told}
+use Rattle.acq_net.specs.Script.{talk_with}
 use Rattle.acq_net.specs.Talk.{Talk}
 use Rattle.acq_net.specs.declared.calls.Calls.{Calls}
 use Rattle.acq_net.specs.declared.script.Script.{Script}
@@ -8,7 +8,7 @@ use Rattle.acq_net.specs.declared.script_link.Conversation.{Conversation}
 use Rattle.acq_net.specs.declared.script_link.ScriptLink.{ScriptLink}
 
 abbrev pub said : Conversation → Talk
-said talk = told talk.sent talk.heard
+said talk = talk_with talk.sent talk.heard
 
 abbrev pub talk_of : ScriptLink → Talk
 talk_of link = said link.talk

@@ -19,7 +19,7 @@ impl Calls {
     ghost use Rattle.std.specs.Prelude.{◌≡◌, ◌≤◌, is_err};
     ghost use Rattle.acq_outside.specs.Count.{Rose};
     ghost use Rattle.acq_outside.specs.Frame.{Counts};
-    ghost use Rattle.acq_net.specs.Calls.{counted, is_listed, missed, starved};
+    ghost use Rattle.acq_net.specs.Calls.{counted, is_listed, starved, unconnected};
 
     /// No call was made yet.
     pub fn new(listed: Row<u64>) -> Calls
@@ -58,9 +58,9 @@ impl Calls {
         Fault
     }
 
-    /// Counts a fault of a call that needs a connection, where there is none.
-    pub fn miss(&mut self) -> Fault
-        ensures after { self.new ≡ missed self.old }
+    /// Counts a fault of a call for want of a connection, or of a port number at which peers could make one.
+    pub fn fail_unconnected(&mut self) -> Fault
+        ensures after { self.new ≡ unconnected self.old }
         ensures count { self.old.faults ≤ self.new.faults }
         ensures fault { Rose self.old.faults self.new.faults }
     {

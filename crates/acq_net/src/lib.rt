@@ -13,10 +13,14 @@
 //! A `Port` has the connections that peers make to this program, one at a time. Where it tells, it tells of each that
 //! it accepted the bytes that were sent and received and whether the peer's end was heard (`talks`): `accept` adds one
 //! on which nothing was said (`accepted`), and what is sent and received goes to the latest one (`sent`, `received`,
-//! `part`). A fault comes only where its count of faults rose, and a second count, `lost`, rises with a fault of
-//! `listen` or `accept` alone (`frame`). `MemPort` is one in memory, whose peers say what a script has; of it is proved
-//! which calls fail too (`listed`, `others`). `TcpPort` is one over TCP, at 127.0.0.1, which tells nothing of content:
-//! that bytes pass between it and a `TcpLink` is only tested, and how long it waits for a silent peer neither.
+//! `part`). Each tells the number of the port at which it listens, if it does: `listen` alone changes it (`at`,
+//! `nowhere`), and `accept` is Ok only where it listens (`listens`). A fault comes only where its count of faults rose,
+//! and a second count, `lost`, rises with a fault of `listen` or `accept` alone (`frame`). `MemPort` is one in memory,
+//! whose peers say what a script has; of it is proved too which calls fail: those that are listed (`listed`), `accept`
+//! where it doesn't listen (`nowhere`), `receive` and `send` where no connection was accepted (`unaccepted`), and of the
+//! others only those that want memory (`others`). `TcpPort` is one over TCP, at 127.0.0.1, which tells nothing of
+//! content: that bytes pass between it and a `TcpLink` is only tested, and how long it waits for a silent peer is
+//! neither proved nor tested.
 #![tactic(auto)]
 
 pub use link::Link;

@@ -4,7 +4,7 @@ ghost use Rattle.acq_net.specs.Talks.{on_first};
 
 use crate::Port;
 use crate::calls::Calls;
-use crate::script::{Heard, Script};
+use crate::script::{FromPeer, Script};
 use acq_base::{Bytes, NoMemory, Row};
 use acq_outside::Fault;
 use std::alloc::Global;
@@ -16,28 +16,34 @@ use std::mem;
 pub struct MemPort {
     alloc: Global,
     script: Script,
+    /// The port number at which it listens, if it does.
+    at: Option<u16>,
     /// The bytes sent on each accepted connection, oldest first.
     sent: Row<Bytes>,
     /// What was heard on the latest of them, if there is one.
-    heard: Heard,
+    heard: FromPeer,
     /// What was heard on those before it, oldest first.
-    former: Vec<Heard>,
+    former: Vec<FromPeer>,
     lost: u64,
     calls: Calls,
 }
 
 impl MemPort {
-    ghost use Rattle.std.specs.Prelude.{◌≡◌, [], MatchResult, map, reverse};
+    ghost use Rattle.std.specs.Prelude.{◌≡◌, ◌≤◌, [], MatchResult, None, map, reverse};
+    ghost use Rattle.acq_outside.specs.Count.{Rose, one_more};
     ghost use Rattle.acq_net.specs.Calls.{fresh_calls};
-    ghost use Rattle.acq_net.specs.MemPort.{calls_of, lost_of, script_of, talks_of};
+    ghost use Rattle.acq_net.specs.MemPort.{at_of, calls_of, lost_of, script_of, talks_of};
     ghost use Rattle.acq_net.specs.Script.{to_come, waiting};
     ghost use Rattle.acq_net.specs.Talks.{accepts};
 
     /// A port at which the n-th call of `accept` takes the n-th row of pieces; the rows past the last are empty. `failing`
     /// holds the numbers of its calls of `listen`, `accept`, `receive` and `send` that are to fail, counted together from 1.
+    /// An `accept` where it doesn't listen is a fault too, and so is a `receive` or `send` before any connection. The row of
+    /// an `accept` that fails is passed over.
     pub fn new(alloc: Global, connections: Row<Row<Bytes>>, failing: Row<u64>) -> MemPort
         ensures talks { talks_of result ≡ [] }
         ensures lost { lost_of result ≡ 0 }
+        ensures at { at_of result ≡ None }
         ensures calls { calls_of result ≡ fresh_calls failing }
         ensures to_come { to_come (script_of result) ≡ [] }
         ensures waiting { waiting (script_of result) ≡ connections }
@@ -45,8 +51,9 @@ impl MemPort {
         MemPort {
             alloc,
             script: Script::new(alloc, connections),
+            at: None,
             sent: Row::new(alloc),
-            heard: Heard::new(alloc),
+            heard: FromPeer::new(alloc),
             former: Vec::new(alloc),
             lost: 0,
             calls: Calls::new(failing),
@@ -87,22 +94,39 @@ impl MemPort {
     fn begin(&mut self) -> Result<(), NoMemory>
         ensures talks { MatchResult result (λ _. talks_of self.new ≡ accepts (talks_of self.old)) (λ _. talks_of self.new ≡ talks_of self.old) }
         ensures lost { lost_of self.new ≡ lost_of self.old }
+        ensures at { at_of self.new ≡ at_of self.old }
         ensures calls { calls_of self.new ≡ calls_of self.old }
         ensures script { script_of self.new ≡ script_of self.old }
     {
         self.former.reserve(1)?;
         self.sent.push(Bytes::new(self.alloc))?;
-        let former = mem::replace(&mut self.heard, Heard::new(self.alloc));
+        let former = mem::replace(&mut self.heard, FromPeer::new(self.alloc));
         self.former.push_reserved(former);
         Ok(())
+    }
+
+    /// Passes over the peer that wasn't accepted.
+    fn refuse(&mut self) -> Fault
+        ensures talks { talks_of self.new ≡ talks_of self.old }
+        ensures lost { lost_of self.new ≡ one_more (lost_of self.old) }
+        ensures count { lost_of self.old ≤ lost_of self.new }
+        ensures fault { Rose (lost_of self.old) (lost_of self.new) }
+        ensures at { at_of self.new ≡ at_of self.old }
+        ensures calls { calls_of self.new ≡ calls_of self.old }
+        ensures to_come { to_come (script_of self.new) ≡ [] }
+        ensures waiting { waiting (script_of self.new) ≡ waiting (script_of self.old) }
+    {
+        self.script.pass_over();
+        self.lost = self.lost.saturating_add(1);
+        Fault
     }
 }
 
 impl Port for MemPort {
-    ghost use Rattle.std.specs.Prelude.{◌≡◌, ◌<◌, ◌≤◌, ◌++◌, [], length, min, take, Some, IfOk, OnOk, OnErr, is_err};
-    ghost use Rattle.acq_net.specs.Calls.{FailsAsListed, FailsAtOnce, FailsDryAlone, counted, is_listed};
-    ghost use Rattle.acq_net.specs.MemPort.{calls_of, faults_of, lost_by, lost_of, script_of, talks_of, told_talks};
-    ghost use Rattle.acq_net.specs.PortFrame.{AwaitsBy, ConversesBy};
+    ghost use Rattle.std.specs.Prelude.{◌≡◌, ◌<◌, ◌≤◌, ◌++◌, [], length, min, take, None, Some, IfOk, IsSome, IsTrue, OnOk, OnErr, is_err};
+    ghost use Rattle.acq_net.specs.Calls.{FailsAsListed, FailsDryAlone, FailsUnconnected, counted, is_listed};
+    ghost use Rattle.acq_net.specs.MemPort.{at_of, calls_of, faults_of, lost_by, lost_of, script_of, talks_of, told_talks};
+    ghost use Rattle.acq_net.specs.PortFrame.{AcceptsBy, AwaitsBy, ClosesBy, ConversesBy};
     ghost use Rattle.acq_net.specs.Script.{bytes_of, first_of, later_of, next_piece, to_come, waiting};
     ghost use Rattle.acq_net.specs.Talk.{receives, sends};
     ghost use Rattle.acq_net.specs.Talks.{ReceivesPartOfLatest, SendsPartOfLatest, accepts, on_first};
@@ -111,10 +135,14 @@ impl Port for MemPort {
 
     ghost lost = { lost_of };
 
+    ghost at = { at_of };
+
     ghost talks = { told_talks };
 
-    fn listen(&mut self, _port: u16) -> Result<(), Fault>
+    fn listen(&mut self, port: u16) -> Result<(), Fault>
         ensures frame { AwaitsBy faults_of lost_of self.old self.new result }
+        ensures at { OnOk result (at_of self.new ≡ Some port) }
+        ensures nowhere { OnErr result (at_of self.new ≡ None) }
         ensures same { told_talks self.new ≡ told_talks self.old }
 
         // A listed call fails, and no other one does.
@@ -123,41 +151,57 @@ impl Port for MemPort {
         ensures counted { calls_of self.new ≡ counted (calls_of self.old) }
         ensures lost { lost_of self.new ≡ lost_by result (lost_of self.old) }
     {
-        let done = self.calls.call();
-        if done.is_err() {
-            self.lost = self.lost.saturating_add(1);
+        match self.calls.call() {
+            Ok(()) => {
+                self.at = Some(port);
+                Ok(())
+            }
+            Err(fault) => {
+                self.at = None;
+                self.lost = self.lost.saturating_add(1);
+                Err(fault)
+            }
         }
-        done
     }
 
     fn accept(&mut self) -> Result<(), Fault>
-        ensures frame { AwaitsBy faults_of lost_of self.old self.new result }
+        ensures frame { AcceptsBy faults_of lost_of at_of self.old self.new result }
+        ensures listens { OnOk result (IsSome (at_of self.old)) }
         ensures accepted { OnOk result (told_talks self.new ≡ Some (accepts (talks_of self.old))) }
         ensures none { OnErr result (told_talks self.new ≡ told_talks self.old) }
 
-        // The peer of each connection has the next row. A listed call fails, and another one for want of memory alone.
-        ensures to_come { to_come (script_of self.new) ≡ bytes_of (first_of (waiting (script_of self.old))) }
+        // The peer of each connection has the next row, which is passed over where the call fails. A listed call fails, and
+        // another one where it doesn't listen or for want of memory alone.
+        ensures to_come { OnOk result (to_come (script_of self.new) ≡ bytes_of (first_of (waiting (script_of self.old)))) }
+        ensures passed_over { OnErr result (to_come (script_of self.new) ≡ []) }
         ensures waiting { waiting (script_of self.new) ≡ later_of (waiting (script_of self.old)) }
         ensures listed { FailsAsListed (calls_of self.old) (calls_of self.new) result }
-        ensures others { FailsDryAlone (calls_of self.old) (calls_of self.new) result }
+        ensures nowhere { at_of self.old ≡ None → FailsUnconnected (calls_of self.old) (calls_of self.new) result }
+        ensures others { IsSome (at_of self.old) → FailsDryAlone (calls_of self.old) (calls_of self.new) result }
         ensures lost { lost_of self.new ≡ lost_by result (lost_of self.old) }
     {
-        self.script.turn();
-        if self.calls.call().is_ok() {
-            match self.begin() {
-                Ok(()) => return Ok(()),
-                Err(NoMemory) => self.calls.run_dry(),
-            };
+        self.script.next_connection();
+        if self.calls.call().is_err() {
+            return Err(self.refuse());
         }
-        self.lost = self.lost.saturating_add(1);
-        Err(Fault)
+        if self.at.is_none() {
+            self.calls.fail_unconnected();
+            return Err(self.refuse());
+        }
+        match self.begin() {
+            Ok(()) => Ok(()),
+            Err(NoMemory) => {
+                self.calls.run_dry();
+                Err(self.refuse())
+            }
+        }
     }
 
     #[tactic(auto, using(crate::proofs::MemTalks::heard_on, crate::proofs::MemTalks::length_said))]
     fn receive(&mut self, out: &mut [u8]) -> Result<usize, Fault>
         requires { 0 < length out.old }
 
-        ensures frame { ConversesBy faults_of lost_of self.old self.new result }
+        ensures frame { ConversesBy faults_of lost_of at_of self.old self.new result }
         ensures opened { OnOk result (0 < length (talks_of self.old)) }
 
         ensures within { IfOk result (λ n. n ≤ length out.old) }
@@ -166,17 +210,21 @@ impl Port for MemPort {
         ensures part { OnErr result (ReceivesPartOfLatest (told_talks self.old) (told_talks self.new)) }
 
         // The bytes come in order, as many of one piece as there is room for, and the end behind the last of them. A listed
-        // call fails, and another one for want of a connection or of memory alone.
+        // call fails, and another one for want of a connection or of memory alone. The peers to come keep their rows, and
+        // only want of memory may take bytes of this one.
         ensures to_come { IfOk result (λ n. to_come (script_of self.old) ≡ take n out.new ++ to_come (script_of self.new)) }
         ensures ended { IfOk result (λ n. n ≡ 0 → to_come (script_of self.old) ≡ []) }
         ensures piece { IfOk result (λ n. n ≡ min (length (next_piece (script_of self.old))) (length out.old)) }
+        ensures waiting { waiting (script_of self.new) ≡ waiting (script_of self.old) }
+        ensures kept { IsTrue (is_listed (calls_of self.old)) → script_of self.new ≡ script_of self.old }
+        ensures kept_unaccepted { talks_of self.old ≡ [] → script_of self.new ≡ script_of self.old }
         ensures listed { FailsAsListed (calls_of self.old) (calls_of self.new) result }
-        ensures unaccepted { talks_of self.old ≡ [] → FailsAtOnce (calls_of self.old) (calls_of self.new) result }
+        ensures unaccepted { talks_of self.old ≡ [] → FailsUnconnected (calls_of self.old) (calls_of self.new) result }
         ensures others { 0 < length (talks_of self.old) → FailsDryAlone (calls_of self.old) (calls_of self.new) result }
     {
         self.calls.call()?;
         if self.sent.is_empty() {
-            return Err(self.calls.miss());
+            return Err(self.calls.fail_unconnected());
         }
         match self.script.say(&mut self.heard, out) {
             Ok(n) => Ok(n),
@@ -186,7 +234,7 @@ impl Port for MemPort {
 
     #[tactic(auto, using(crate::proofs::MemTalks::said_on_first, crate::proofs::MemTalks::length_said))]
     fn send(&mut self, bytes: &[u8]) -> Result<(), Fault>
-        ensures frame { ConversesBy faults_of lost_of self.old self.new result }
+        ensures frame { ConversesBy faults_of lost_of at_of self.old self.new result }
         ensures opened { OnOk result (0 < length (talks_of self.old)) }
         ensures sent { OnOk result (told_talks self.new ≡ Some (on_first (sends bytes.now) (talks_of self.old))) }
         ensures part { OnErr result (SendsPartOfLatest bytes.now (told_talks self.old) (told_talks self.new)) }
@@ -194,12 +242,12 @@ impl Port for MemPort {
         // A listed call fails, and another one for want of a connection or of memory alone.
         ensures script { script_of self.new ≡ script_of self.old }
         ensures listed { FailsAsListed (calls_of self.old) (calls_of self.new) result }
-        ensures unaccepted { talks_of self.old ≡ [] → FailsAtOnce (calls_of self.old) (calls_of self.new) result }
+        ensures unaccepted { talks_of self.old ≡ [] → FailsUnconnected (calls_of self.old) (calls_of self.new) result }
         ensures others { 0 < length (talks_of self.old) → FailsDryAlone (calls_of self.old) (calls_of self.new) result }
     {
         self.calls.call()?;
         if self.sent.is_empty() {
-            return Err(self.calls.miss());
+            return Err(self.calls.fail_unconnected());
         }
         let mut rows = mem::replace(&mut self.sent, Row::new(self.alloc)).into_vec();
         let appended = append_to_last(&mut rows, bytes);
@@ -210,7 +258,13 @@ impl Port for MemPort {
         }
     }
 
-    fn close(&mut self) {}
+    fn close(&mut self)
+        ensures frame { ClosesBy faults_of lost_of at_of told_talks self.old self.new }
+
+        // The peer keeps what it has still to say.
+        ensures script { script_of self.new ≡ script_of self.old }
+        ensures calls { calls_of self.new ≡ calls_of self.old }
+    {}
 }
 
 /// Appends bytes to the last of some rows, if there is one.

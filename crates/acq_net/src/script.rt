@@ -32,15 +32,24 @@ impl Script {
     }
 
     /// Goes on to the next connection, whose peer has an empty row behind the last one.
-    pub fn turn(&mut self)
+    pub fn next_connection(&mut self)
         ensures to_come { to_come self.new ≡ bytes_of (first_of (waiting self.old)) }
         ensures waiting { waiting self.new ≡ later_of (waiting self.old) }
     {
         self.pieces = next_row(self.alloc, &mut self.connections);
     }
 
-    /// Says as many bytes of one piece as there is room for, or the end behind the last one, and lets it be heard.
-    pub fn say(&mut self, heard: &mut Heard, out: &mut [u8]) -> Result<usize, NoMemory>
+    /// The peer of the present connection says nothing more.
+    pub fn pass_over(&mut self)
+        ensures to_come { to_come self.new ≡ [] }
+        ensures waiting { waiting self.new ≡ waiting self.old }
+    {
+        self.pieces = Vec::new(self.alloc);
+    }
+
+    /// Says as many bytes of one piece as there is room for, or the end behind the last one, and lets it be heard. After want
+    /// of memory the piece may be lost, and `out` may have changed.
+    pub fn say(&mut self, heard: &mut FromPeer, out: &mut [u8]) -> Result<usize, NoMemory>
         requires { 0 < length out.old }
         ensures room { length out.new ≡ length out.old }
         ensures within { IfOk result (λ n. n ≤ length out.old) }
@@ -94,20 +103,20 @@ impl Script {
 
 /// What was heard of a peer.
 #[derive(Debug, Drop)]
-pub struct Heard {
+pub struct FromPeer {
     received: Bytes,
     ended: bool,
 }
 
-impl Heard {
+impl FromPeer {
     ghost use Rattle.std.specs.Prelude.{◌≡◌, OnErr, OnOk};
     ghost use Rattle.acq_net.specs.Script.{hears, unheard};
 
     /// Nothing was heard yet.
-    pub fn new(alloc: Global) -> Heard
+    pub fn new(alloc: Global) -> FromPeer
         ensures { result ≡ unheard }
     {
-        Heard {
+        FromPeer {
             received: Bytes::new(alloc),
             ended: false,
         }

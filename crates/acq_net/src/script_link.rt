@@ -2,7 +2,7 @@
 
 use crate::Link;
 use crate::calls::Calls;
-use crate::script::{Heard, Script};
+use crate::script::{FromPeer, Script};
 use acq_base::{Bytes, NoMemory, Row, Text};
 use acq_outside::Fault;
 use std::alloc::Global;
@@ -12,7 +12,7 @@ use std::mem;
 #[derive(Debug, Drop)]
 struct Conversation {
     sent: Bytes,
-    heard: Heard,
+    heard: FromPeer,
 }
 
 impl Conversation {
@@ -26,7 +26,7 @@ impl Conversation {
     {
         Conversation {
             sent: Bytes::new(alloc),
-            heard: Heard::new(alloc),
+            heard: FromPeer::new(alloc),
         }
     }
 }
@@ -103,9 +103,9 @@ impl ScriptLink {
 }
 
 impl Link for ScriptLink {
-    ghost use Rattle.std.specs.Prelude.{◌≡◌, ◌≢◌, ◌<◌, ◌≤◌, ◌++◌, [], length, min, take, None, Some, IfOk, OnOk, OnErr, is_err};
+    ghost use Rattle.std.specs.Prelude.{◌≡◌, ◌≢◌, ◌<◌, ◌≤◌, ◌++◌, [], length, min, take, None, Some, IfOk, IsTrue, OnOk, OnErr, is_err};
     ghost use Rattle.acq_outside.specs.Count.{Rose};
-    ghost use Rattle.acq_net.specs.LinkFrame.{ListensBy, OpensBy, SaysBy};
+    ghost use Rattle.acq_net.specs.LinkFrame.{LeavesBy, ListensBy, OpensBy, SaysBy};
     ghost use Rattle.acq_net.specs.Talk.{ReceivesPart, SendsPart, receives, sends, silent};
     ghost use Rattle.acq_net.specs.Calls.{FailsAsListed, FailsDryAlone, counted, is_listed};
     ghost use Rattle.acq_net.specs.Script.{bytes_of, first_of, later_of, next_piece, to_come, waiting};
@@ -141,7 +141,7 @@ impl Link for ScriptLink {
     {
         self.made = self.made.saturating_add(1);
         self.former = mem::replace(&mut self.talk, Conversation::new(self.alloc));
-        self.script.turn();
+        self.script.next_connection();
         self.calls.call()
     }
 
@@ -176,10 +176,13 @@ impl Link for ScriptLink {
         ensures part { OnErr result (ReceivesPart (Some (talk_of self.old)) (Some (talk_of self.new))) }
 
         // The bytes come in order, as many of one piece as there is room for, and the end behind the last of them. A listed
-        // call fails, and another one for want of memory alone.
+        // call fails, and another one for want of memory alone. The peers to come keep their rows, and only want of memory
+        // may take bytes of this one.
         ensures to_come { IfOk result (λ n. to_come (script_of self.old) ≡ take n out.new ++ to_come (script_of self.new)) }
         ensures ended { IfOk result (λ n. n ≡ 0 → to_come (script_of self.old) ≡ []) }
         ensures piece { IfOk result (λ n. n ≡ min (length (next_piece (script_of self.old))) (length out.old)) }
+        ensures waiting { waiting (script_of self.new) ≡ waiting (script_of self.old) }
+        ensures kept { IsTrue (is_listed (calls_of self.old)) → script_of self.new ≡ script_of self.old }
         ensures listed { FailsAsListed (calls_of self.old) (calls_of self.new) result }
         ensures others { FailsDryAlone (calls_of self.old) (calls_of self.new) result }
     {
@@ -194,5 +197,11 @@ impl Link for ScriptLink {
         }
     }
 
-    fn close(&mut self) {}
+    fn close(&mut self)
+        ensures frame { LeavesBy faults_of made_of ends_of (λ link. Some (talk_of link)) told_former (λ _. None) (λ _. None) self.old self.new }
+
+        // The peer keeps what it has still to say.
+        ensures script { script_of self.new ≡ script_of self.old }
+        ensures calls { calls_of self.new ≡ calls_of self.old }
+    {}
 }

@@ -1,5 +1,5 @@
 //! What a link and a port over TCP share.
-ghost use Rattle.std.specs.Prelude.{◌≤◌, ◌≡◌, IfOk, length};
+ghost use Rattle.std.specs.Prelude.{◌≤◌, ◌≡◌, IfOk, IsSome, OnOk, length};
 ghost use Rattle.acq_outside.specs.Count.{Rose};
 
 use acq_outside::Fault;
@@ -16,16 +16,19 @@ pub fn count(faults: &mut u64) -> Fault
     Fault
 }
 
-/// Writes all bytes to a connection.
-pub fn write(stream: &mut Option<TcpStream>, bytes: &[u8]) -> io::Result<()> {
+/// Writes all bytes to a connection, if there is one.
+pub fn write(stream: &mut Option<TcpStream>, bytes: &[u8]) -> io::Result<()>
+    ensures opened { OnOk result (IsSome stream.old) }
+{
     match stream {
         Some(stream) => stream.write_all(bytes),
         None => Err(io::Error::from(ErrorKind::NotConnected)),
     }
 }
 
-/// Reads bytes of a connection, again where a signal broke in.
+/// Reads bytes of a connection, if there is one, again where a signal broke in.
 pub fn read(stream: &mut Option<TcpStream>, out: &mut [u8]) -> io::Result<usize>
+    ensures opened { OnOk result (IsSome stream.old) }
     ensures within { IfOk result (λ n. n ≤ length out.old) }
     ensures room { length out.new ≡ length out.old }
 {

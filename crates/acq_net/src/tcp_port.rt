@@ -1,4 +1,5 @@
 //! Connections that peers make over TCP.
+ghost use Rattle.std.specs.Prelude.{◌≡◌, IfOk, IsSome, OnOk};
 
 use crate::Port;
 use crate::tcp::{count, read, write};
@@ -14,6 +15,13 @@ const SILENT_SECONDS: u64 = 30;
 /// How long a peer may send nothing behind what it was sent, in seconds.
 const KEPT_SECONDS: u64 = 10;
 
+/// A listener, and the number of its port.
+#[derive(Drop)]
+struct Listening {
+    listener: TcpListener,
+    number: u16,
+}
+
 /// A port of the address 127.0.0.1, over TCP. A peer that was sent something and sends nothing behind it for 10 seconds is
 /// given up, since others wait; so is one that connected and says nothing, or falls silent in what it says, for 30 seconds,
 /// and one that takes no byte for so long. Each is a fault. A connection ends where it is closed, where the next one is
@@ -22,26 +30,27 @@ const KEPT_SECONDS: u64 = 10;
 #[derive(Drop)]
 pub struct TcpPort<R: Drop> {
     rt: R,
-    listener: Option<TcpListener>,
+    listening: Option<Listening>,
     stream: Option<TcpStream>,
-    /// Whether something was sent on the connection, and nothing received behind that.
+    /// Whether a `send` was done on the connection, and nothing received behind it.
     kept: bool,
     faults: u64,
     lost: u64,
 }
 
 impl<R: Net<Listener = TcpListener, Stream = TcpStream> + Drop> TcpPort<R> {
-    ghost use Rattle.std.specs.Prelude.{◌≡◌};
-    ghost use Rattle.acq_net.specs.TcpPort.{faults_of, lost_of};
+    ghost use Rattle.std.specs.Prelude.{◌≡◌, None};
+    ghost use Rattle.acq_net.specs.TcpPort.{at_of, faults_of, lost_of};
 
     /// A port that doesn't listen yet.
     pub fn new(rt: R) -> TcpPort<R>
         ensures faults { faults_of result ≡ 0 }
         ensures lost { lost_of result ≡ 0 }
+        ensures at { at_of result ≡ None }
     {
         TcpPort {
             rt,
-            listener: None,
+            listening: None,
             stream: None,
             kept: false,
             faults: 0,
@@ -66,18 +75,21 @@ impl<R: Net<Listener = TcpListener, Stream = TcpStream> + Drop> TcpPort<R> {
 
 impl<R: Net<Listener = TcpListener, Stream = TcpStream> + Drop> Port for TcpPort<R> {
     ghost use Rattle.std.specs.Prelude.{None};
+    ghost use Rattle.acq_net.specs.TcpPort.{at_of};
 
     ghost faults = { λ port. port.faults };
 
     ghost lost = { λ port. port.lost };
 
+    ghost at = { at_of };
+
     ghost talks = { λ _. None };
 
     fn listen(&mut self, port: u16) -> Result<(), Fault> {
-        self.listener = None;
-        match TcpListener::bind(&self.rt, (Ipv4Addr::LOCALHOST, port)) {
-            Ok(listener) => {
-                self.listener = Some(listener);
+        self.listening = None;
+        match bind(&self.rt, port) {
+            Ok(listening) => {
+                self.listening = Some(listening);
                 Ok(())
             }
             Err(_) => {
@@ -90,7 +102,7 @@ impl<R: Net<Listener = TcpListener, Stream = TcpStream> + Drop> Port for TcpPort
     fn accept(&mut self) -> Result<(), Fault> {
         self.stream = None;
         self.kept = false;
-        match next_stream(&self.listener) {
+        match next_stream(&self.listening) {
             Ok(stream) => {
                 self.stream = Some(stream);
                 Ok(())
@@ -121,9 +133,11 @@ impl<R: Net<Listener = TcpListener, Stream = TcpStream> + Drop> Port for TcpPort
     }
 
     fn send(&mut self, bytes: &[u8]) -> Result<(), Fault> {
-        self.kept = true;
         match write(&mut self.stream, bytes) {
-            Ok(()) => Ok(()),
+            Ok(()) => {
+                self.kept = true;
+                Ok(())
+            }
             Err(_) => Err(count(&mut self.faults)),
         }
     }
@@ -133,13 +147,26 @@ impl<R: Net<Listener = TcpListener, Stream = TcpStream> + Drop> Port for TcpPort
     }
 }
 
+/// Listens at a port of the address 127.0.0.1.
+fn bind<R: Net<Listener = TcpListener, Stream = TcpStream>>(
+    rt: &R,
+    number: u16,
+) -> io::Result<Listening>
+    ensures { IfOk result (λ listening. listening.number ≡ number) }
+{
+    let listener = TcpListener::bind(rt, (Ipv4Addr::LOCALHOST, number))?;
+    Ok(Listening { listener, number })
+}
+
 /// The next connection, of which a peer has not let go before it was accepted.
-fn next_stream(listener: &Option<TcpListener>) -> io::Result<TcpStream> {
-    let Some(listener) = listener else {
+fn next_stream(listening: &Option<Listening>) -> io::Result<TcpStream>
+    ensures listens { OnOk result (IsSome listening.now) }
+{
+    let Some(listening) = listening else {
         return Err(io::Error::from(ErrorKind::NotConnected));
     };
     for _ in 0..u64::MAX {
-        match listener.accept() {
+        match listening.listener.accept() {
             Ok((stream, _)) => return prepared(stream),
             Err(error) if error.kind() == ErrorKind::ConnectionAborted => {}
             Err(error) => return Err(error),
