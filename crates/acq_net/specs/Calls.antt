@@ -1,8 +1,13 @@
 -- Which calls of a connection in memory fail, and how they are counted.
-use Rattle.std.specs.Prelude.{◌≡◌, ℕ, ◌==◌, Bool, false, if◌then◌else◌, List, IsTrue, Result, IsErr, MatchResult}
+use Rattle.std.specs.Prelude.{◌≡◌, ◌≤◌, ℕ, ◌==◌, Bool, false, if◌then◌else◌, List, IsTrue, Result, IsErr, MatchResult}
 use Rattle.std.specs.List.{list_any}
-use Rattle.acq_outside.specs.Count.{one_more}
+use Rattle.acq_outside.specs.Count.{Rose, one_more}
 use Rattle.acq_net.specs.declared.calls.Calls.{Calls}
+
+-- A fault is counted: the count didn't fall, and it rose.
+pub record CountsOne (before after : ℕ) : Type 0 where
+  pub count : before ≤ after
+  pub fault : Rose before after
 
 -- before any call
 abbrev pub fresh_calls : List ℕ → Calls

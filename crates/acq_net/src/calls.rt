@@ -16,10 +16,9 @@ pub struct Calls {
 }
 
 impl Calls {
-    ghost use Rattle.std.specs.Prelude.{◌≡◌, ◌≤◌, is_err};
-    ghost use Rattle.acq_outside.specs.Count.{Rose};
+    ghost use Rattle.std.specs.Prelude.{◌≡◌, is_err};
     ghost use Rattle.acq_outside.specs.Frame.{Counts};
-    ghost use Rattle.acq_net.specs.Calls.{counted, is_listed, starved, unconnected};
+    ghost use Rattle.acq_net.specs.Calls.{CountsOne, counted, is_listed, starved, unconnected};
 
     /// No call was made yet.
     pub fn new(listed: Row<u64>) -> Calls
@@ -50,8 +49,7 @@ impl Calls {
     /// Counts a fault by want of memory.
     pub fn run_dry(&mut self) -> Fault
         ensures after { self.new ≡ starved self.old }
-        ensures count { self.old.faults ≤ self.new.faults }
-        ensures fault { Rose self.old.faults self.new.faults }
+        ensures frame { CountsOne self.old.faults self.new.faults }
     {
         self.faults = self.faults.saturating_add(1);
         self.dry = self.dry.saturating_add(1);
@@ -61,8 +59,7 @@ impl Calls {
     /// Counts a fault of a call for want of a connection, or of a port number at which peers could make one.
     pub fn fail_unconnected(&mut self) -> Fault
         ensures after { self.new ≡ unconnected self.old }
-        ensures count { self.old.faults ≤ self.new.faults }
-        ensures fault { Rose self.old.faults self.new.faults }
+        ensures frame { CountsOne self.old.faults self.new.faults }
     {
         self.faults = self.faults.saturating_add(1);
         Fault

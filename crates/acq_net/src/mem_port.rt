@@ -29,9 +29,9 @@ pub struct MemPort {
 }
 
 impl MemPort {
-    ghost use Rattle.std.specs.Prelude.{◌≡◌, ◌≤◌, [], MatchResult, None, map, reverse};
-    ghost use Rattle.acq_outside.specs.Count.{Rose, one_more};
-    ghost use Rattle.acq_net.specs.Calls.{fresh_calls};
+    ghost use Rattle.std.specs.Prelude.{◌≡◌, [], MatchResult, None, map, reverse};
+    ghost use Rattle.acq_outside.specs.Count.{one_more};
+    ghost use Rattle.acq_net.specs.Calls.{CountsOne, fresh_calls};
     ghost use Rattle.acq_net.specs.MemPort.{at_of, calls_of, lost_of, script_of, talks_of};
     ghost use Rattle.acq_net.specs.Script.{to_come, waiting};
     ghost use Rattle.acq_net.specs.Talks.{accepts};
@@ -109,8 +109,7 @@ impl MemPort {
     fn refuse(&mut self) -> Fault
         ensures talks { talks_of self.new ≡ talks_of self.old }
         ensures lost { lost_of self.new ≡ one_more (lost_of self.old) }
-        ensures count { lost_of self.old ≤ lost_of self.new }
-        ensures fault { Rose (lost_of self.old) (lost_of self.new) }
+        ensures frame { CountsOne (lost_of self.old) (lost_of self.new) }
         ensures at { at_of self.new ≡ at_of self.old }
         ensures calls { calls_of self.new ≡ calls_of self.old }
         ensures to_come { to_come (script_of self.new) ≡ [] }

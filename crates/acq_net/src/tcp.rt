@@ -1,6 +1,6 @@
 //! What a link and a port over TCP share.
 ghost use Rattle.std.specs.Prelude.{◌≤◌, ◌≡◌, IfOk, IsSome, OnOk, length};
-ghost use Rattle.acq_outside.specs.Count.{Rose};
+ghost use Rattle.acq_net.specs.Calls.{CountsOne};
 
 use acq_outside::Fault;
 use std::io;
@@ -9,8 +9,7 @@ use std::net::TcpStream;
 
 /// Counts a fault.
 pub fn count(faults: &mut u64) -> Fault
-    ensures count { faults.old ≤ faults.new }
-    ensures fault { Rose faults.old faults.new }
+    ensures frame { CountsOne faults.old faults.new }
 {
     *faults = faults.saturating_add(1);
     Fault
