@@ -7,7 +7,7 @@ use Rattle.journal_model.specs.Reopen.{reopened}
 use Rattle.journal_model.specs.Rest.{IsIdle, IsAtRest, KeptAtRestSince, part_bytes}
 use Rattle.commit_journal.specs.declared.changing.Change.{Change}
 use Rattle.commit_journal.specs.Changes.{Filled, filled_all, after_commit}
-use Rattle.commit_journal.specs.Commits.{CrashKeepsInstalled, PreparedAfter, CrashLeavesBeforeOrAfter, IsAtRestAfter}
+use Rattle.commit_journal.specs.Commits.{CrashKeepsInstalled, PreparedAfter, CrashLeavesBeforeOrAfter, HasMoreStates, IsAtRestAfter}
 
 -- a commit: its groups of changes, with the bytes that they put
 abbrev pub Commit : Type 0
@@ -22,9 +22,10 @@ pub record CommitHasBegun (commit : Commit) (old now : List State) : Type 0 wher
   pub puts : filled_all (part_bytes prepared) groups ≡ commit
   pub during : Since prepared now (CrashLeavesBeforeOrAfter groups commit prepared)
 
--- and what they promise once both have answered Ok
+-- and what they promise once both have answered Ok: it is acknowledged at a later moment than it was begun at
 pub record HasCommitted (commit : Commit) (old now : List State) : Type 0 where
   pub begun : CommitHasBegun commit old now
+  pub later : HasMoreStates begun.prepared now
   pub rests : IsNow (IsAtRestAfter begun.groups commit begun.prepared) now
 
 -- How far a run has got that makes these commits in turn: so many are acknowledged and so many begun, from one state of the

@@ -45,7 +45,7 @@ leaves_of lists old now since = since_map (IsAtRest lists) (CrashLeaves lists) o
 earlier : (commits : List Commit) (lists : Files) (a b : ℕ) (old mid now : List State) → Since old mid (CrashLeaves lists) → CommitsOneByOne commits lists a b mid now → CommitsOneByOne commits lists a b old now
 earlier commits lists _ _ old mid now first (none since) = none (since_more (CrashLeaves lists) old mid now first since)
 earlier _ lists _ _ old mid now first (within commit began since during) = within commit began (since_more (CrashLeaves lists) old mid began first since) during
-earlier _ lists _ _ old mid now first (behind commit began done since during stands rest) = behind commit began done (since_more (CrashLeaves lists) old mid began first since) during stands rest
+earlier _ lists _ _ old mid now first (behind commit began done since later during stands rest) = behind commit began done (since_more (CrashLeaves lists) old mid began first since) later during stands rest
 
 ready : (commit : Commit) (lists : Files) (old now : List State) → IsNow (IsAtRest lists) old → (h : CommitHasBegun commit old now) → IsNow (IsPreparedOver h.groups lists) h.prepared
 ready commit lists old now rest h = stands_as (PreparedAfter h.groups old) (IsPreparedOver h.groups lists) h.prepared (λ s after. after lists rest) h.ready
@@ -64,6 +64,6 @@ commits_are_in_turn _ lists _ _ old now rest (begins commit h) = within commit h
 commits_are_in_turn _ lists _ _ old now rest (acknowledges {commits = commits} {acknowledged = a} {begun = b} {mid = mid} commit h moment) =
     let after : IsNow (IsAtRest (after_commit commit lists)) mid =
     stands_as (IsAtRestAfter h.begun.groups commit h.begun.prepared) (IsAtRest (after_commit commit lists)) mid (λ s rests_after. rests_after lists (ready commit lists old mid rest h.begun)) h.rests in
-    behind commit h.begun.prepared mid (prepared_since lists old h.begun.prepared rest h.begun.before) (either commit lists old mid rest h.begun)
+    behind commit h.begun.prepared mid (prepared_since lists old h.begun.prepared rest h.begun.before) h.later (either commit lists old mid rest h.begun)
     (stands_as (IsAtRest (after_commit commit lists)) (CrashLeaves (after_commit commit lists)) mid (λ s r. r.leaves) after)
     (commits_are_in_turn commits (after_commit commit lists) a b mid now after moment)
