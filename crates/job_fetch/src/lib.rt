@@ -7,7 +7,8 @@
 //! (`left`). A fault of the method is told, and comes only where its count rose in that call (`counted`,
 //! `method_dry`). At every moment lists stay, and where no change of another name was pending, a crash leaves all other
 //! files as it might have left them before, in a folder without a journal too (`staging`). These are fields of the record
-//! in `fetch_staged`'s clause `comes`; `fetch_into_memory` has `answer`, `counted` and `dry` as clauses of its own.
+//! in `fetch_staged`'s clause `comes`; `fetch_into_memory` has `answer`, `counted` and `dry` as clauses of its own. Each
+//! begins one fetch (`begins`).
 #![tactic(auto)]
 
 pub use memory::fetch_into_memory;

@@ -1,6 +1,7 @@
 //! A fetch whose pieces are joined in memory.
 ghost use Rattle.std.specs.Prelude.{◌≡◌, [], false, IfOk, OnErr};
 ghost use Rattle.acq_base.specs.Uri.{IsSound};
+ghost use Rattle.acq_outside.specs.Count.{one_more};
 ghost use Rattle.acq_outside.specs.Fetches.{Fetches};
 ghost use Rattle.job_fetch.specs.Fetched.{IsAnswer, IsCounted, IsInMemory, IsSoundEnd};
 
@@ -21,6 +22,7 @@ pub fn fetch_into_memory<M: Method>(
     requires from { job.now.from ≡ 0 }
 
     ensures frame { Fetches M.Method method.old method.new }
+    ensures begins { M.begins method.new ≡ one_more (M.begins method.old) }
     ensures dry { OnErr result (M.faults method.new ≡ M.faults method.old) }
 
     ensures counted { IfOk result (IsCounted (M.faults method.old) (M.faults method.new)) }

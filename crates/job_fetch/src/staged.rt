@@ -1,6 +1,7 @@
 //! A fetch whose pieces go into the list's file under `partial/` as they come.
 ghost use Rattle.std.specs.Prelude.{◌≡◌, ◌<◌, ◌≤◌, ◌^◌, length, IfOk};
 ghost use Rattle.acq_base.specs.Uri.{IsSound};
+ghost use Rattle.acq_outside.specs.Count.{one_more};
 ghost use Rattle.acq_outside.specs.Stays.{StaysCounting};
 ghost use Rattle.acq_outside.specs.States.{IsTold};
 ghost use Rattle.acq_outside.specs.Word.{CanBegin, IsSoundWord, IsWord};
@@ -35,6 +36,7 @@ pub fn fetch_staged<D: Disk, M: Method>(
     requires keep { IsTold (D.trace disk.old) → job.now.from ≤ length (part_bytes (D.trace disk.old) name.now.0) }
 
     ensures frame { StaysCounting OutError.Fault D.Disk disk.old disk.new result }
+    ensures begins { M.begins method.new ≡ one_more (M.begins method.old) }
     ensures comes { ComesWhole D.Disk M.Method name.now.0 job.now disk.old disk.new method.old method.new result }
 {
     prove!(job.from <= job.max);
@@ -66,6 +68,7 @@ fn fill<D: Disk, M: Method>(
     requires word { IsWord (M.faults method.old) (M.faults method.old) (M.world method.old) (fetch_at job.now job.now.from) (M.under method.old) first }
 
     ensures frame { StaysCounting OutError.Fault D.Disk disk.old disk.new result }
+    ensures begins { M.begins method.new ≡ M.begins method.old }
     ensures comes { ComesWhole D.Disk M.Method name.now.0 job.now disk.old disk.new method.old method.new result }
 {
     let filling = open(disk, name, job.from)?;
@@ -91,6 +94,7 @@ fn receive<D: Disk, M: Method>(
     requires word { IsWord (M.faults method.old) (M.faults method.old) (M.world method.old) (fetch_at job.now opened.part.len) (M.under method.old) first }
 
     ensures frame { StaysCounting OutError.Fault D.Disk disk.old disk.new result }
+    ensures begins { M.begins method.new ≡ M.begins method.old }
 
     ensures comes { Comes D.Disk M.Method opened.part.name job.now.from disk.old disk.new method.old method.new result }
     ensures more { IfOk result (HasMore job.now.from opened.part.name (D.trace disk.new)) }

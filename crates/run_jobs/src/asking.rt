@@ -1,5 +1,6 @@
 //! One job of a run: it goes out, is fetched, and its answer comes in.
 ghost use Rattle.std.specs.Prelude.{◌≡◌, ◌≢◌, ◌+◌, ℕ, true, false, length, None, Err, IfOk, OnOk};
+ghost use Rattle.acq_outside.specs.Count.{one_more};
 ghost use Rattle.acq_outside.specs.Fetches.{Fetches};
 ghost use Rattle.acq_outside.specs.States.{Since};
 ghost use Rattle.acq_outside.specs.Stays.{StaysCounting};
@@ -8,6 +9,7 @@ ghost use Rattle.board_model.specs.Jobs.{NoneAsks};
 ghost use Rattle.job_fetch.specs.Fetched.{IsCounted, IsSoundEnd};
 ghost use Rattle.journal_model.specs.Rest.{KeptAtRestSince};
 ghost use Rattle.update_core.specs.BoardRefinement.{board_of};
+ghost use Rattle.run_jobs.specs.Counting.{BeginsAsked};
 ghost use Rattle.run_jobs.specs.Fetching.{Answers, CanFetch, ComesTo, IsFetched, KeepsBytes};
 ghost use Rattle.run_jobs.specs.Running.{JobKeepsRunGoing, MayAsk, SameBoard};
 
@@ -33,6 +35,7 @@ fn fetch<D: Disk, M: Method>(
     ensures frame { StaysCounting OutError.Fault D.Disk disk.old disk.new result }
     ensures method { Fetches M.Method method.old method.new }
 
+    ensures begins { M.begins method.new ≡ one_more (M.begins method.old) }
     ensures counted { IfOk result (IsCounted (M.faults method.old) (M.faults method.new)) }
     ensures sound { IfOk result IsSoundEnd }
 
@@ -64,6 +67,7 @@ pub fn ask_one<D: Disk, M: Method>(
     ensures undamaged { (at : ℕ) → result ≢ Err (RunError.BadJournal at) }
     ensures method { Fetches M.Method method.old method.new }
 
+    ensures begins { OnOk result (BeginsAsked (M.begins method.old) (M.begins method.new) (board_of board.old).asks (board_of board.new).asks) }
     ensures same { OnOk result (SameBoard (board_of board.old) (board_of board.new)) }
     ensures more { IfOk result (λ more. more ≡ true → length (board_of board.new).asks ≡ length (board_of board.old).asks + 1) }
     ensures none { IfOk result (λ more. more ≡ false → NoneAsks (board_of board.new)) }

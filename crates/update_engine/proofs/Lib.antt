@@ -12,5 +12,6 @@ mod Ended
 mod NewBoards
 mod PutNames
 mod Over
+mod Begins
 mod Stepping
 mod Known

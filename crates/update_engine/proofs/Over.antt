@@ -19,7 +19,7 @@ use Rattle.commit_journal.specs.declared.opening.Journal.{Journal}
 use Rattle.journal_model.specs.Names.{journal}
 use Rattle.journal_model.specs.Reopen.{installed_now}
 use Rattle.journal_model.specs.Rest.{IsAtRest, IsIdle, IsSynced, KeptAtRestSince}
-use Rattle.list_commits.specs.Made.{CommitsMade, none, rests}
+use Rattle.list_commits.specs.Made.{CommitsMade, after_all, none, rests}
 use Rattle.run_jobs.specs.Counting.{CountsUp}
 use Rattle.run_jobs.specs.Running.{RunStart, MayAsk, IsSoundBegun, IsUnderWay}
 use Rattle.run_model.specs.Begun.{RunInput}
@@ -245,11 +245,11 @@ safe_ended laws run mirror mirror' others others' counts counts' count later ent
 
 -- ---- the faults of each method
 
-lane_zero : (asks : List Asked) → Each (λ asked. asked.lane ≡ 0) asks → asks_of_lane 0 asks ≡ asks
+pub lane_zero : (asks : List Asked) → Each (λ asked. asked.lane ≡ 0) asks → asks_of_lane 0 asks ≡ asks
 lane_zero [] each = refl
 lane_zero (a ∷ asks) each = subst (λ (n : ℕ). (if n == 0 then a ∷ asks_of_lane 0 asks else asks_of_lane 0 asks) ≡ a ∷ asks) (sym each.0) (ap (λ (xs : List Asked). a ∷ xs) (lane_zero asks each.1))
 
-lane_other : (lane : ℕ) (asks : List Asked) → Each (λ asked. asked.lane ≡ 0) asks → asks_of_lane (suc lane) asks ≡ []
+pub lane_other : (lane : ℕ) (asks : List Asked) → Each (λ asked. asked.lane ≡ 0) asks → asks_of_lane (suc lane) asks ≡ []
 lane_other lane [] each = refl
 lane_other lane (a ∷ asks) each =
     let apart : (0 == suc lane) ≡ false = grind (arith, nat_tests) in
@@ -281,10 +281,10 @@ keeps_others mirror mirror' others count later counts entry now same rose = reco
 -- ---- its log
 
 pub logged : CommittingLaws → (run : Run) (mirror mirror' : Option MirrorMap) (others others' : List (Option MirrorMap)) (counts : List ℕ) (count later : ℕ) (entry opened mid now : List State) (b c : Board) (cleanup : Bool) (log : RunLog)
-    → (ToldAs IsSynced entry → IsOpen entry opened) → StartsRun run opened b → (IsTold now → IsTold mid) → run.settings.cleanup ≡ cleanup → RunGoesOn mirror count later b c opened mid
+    → (ToldAs IsSynced entry → IsOpen entry opened) → StartsRun run opened b → (IsTold entry → IsTold now) → (IsTold now → IsTold mid) → run.settings.cleanup ≡ cleanup → RunGoesOn mirror count later b c opened mid
     → (run.together ≡ true → c.settled ≡ b.settled) → CommitsAll run.together cleanup c mid now log → EndsWithLog cleanup c mid log
     → LogIsTrue run (record { trace = entry; mirrors = mirror ∷ others; faults = count ∷ counts }) (record { trace = now; mirrors = mirror' ∷ others'; faults = later ∷ counts }) log
-logged laws run mirror mirror' others others' counts count later entry opened mid now b c cleanup log ready_at starts back switch far unsettled ended ends =
+logged laws run mirror mirror' others others' counts count later entry opened mid now b c cleanup log ready_at starts told back switch far unsettled ended ends =
     let h : IsNewRun run mirror count opened b = starts mirror count in
     let w : RunGoesOnWith h.start [] later b c opened mid = far h.start [] h.sound h.from h.under_way in
     let e : IsLogOfRun h.start ([] ++ w.more) later log = ends h.start ([] ++ w.more) later h.sound (cleanup_is run mirror count opened b cleanup h switch) w.under_way in
@@ -293,14 +293,14 @@ logged laws run mirror mirror' others others' counts count later entry opened mi
       of_run = h.of_run;
       heard = [] ++ w.more;
       tells = e.tells;
-      answers = λ told. for_first mirror others (λ (m : MirrorMap). Agrees m h.start.parts h.start.config.sources ([] ++ w.more))
-          (subst (λ (o : Option MirrorMap). IfSome o (λ (m : MirrorMap). Agrees m h.start.parts h.start.config.sources ([] ++ w.more))) h.from (w.under_way.heard.answers (back told)));
+      answers = λ tells. for_first mirror others (λ (m : MirrorMap). Agrees m h.start.parts h.start.config.sources ([] ++ w.more))
+          (subst (λ (o : Option MirrorMap). IfSome o (λ (m : MirrorMap). Agrees m h.start.parts h.start.config.sources ([] ++ w.more))) h.from (w.under_way.heard.answers (back tells)));
       faults = faults_rise count later counts log.asks (subst (λ (n : ℕ). CountsUp n later log.asks) h.at e.counts) e.lanes;
-      commits = λ settled. finished h w (ready_at settled);
+      commits = λ settled. finished h w (ready_at settled) (told (was_told IsSynced entry settled));
     }
   where
-    finished : (h : IsNewRun run mirror count opened b) (w : RunGoesOnWith h.start [] later b c opened mid) → IsOpen entry opened → HasFinished run (begun_of h.start) ([] ++ w.more) entry now log
-    finished h w is =
+    finished : (h : IsNewRun run mirror count opened b) (w : RunGoesOnWith h.start [] later b c opened mid) → IsOpen entry opened → IsTold now → HasFinished run (begun_of h.start) ([] ++ w.more) entry now log
+    finished h w is tells =
         let e : HasCommittedAll run.together h.start ([] ++ w.more) (installed_now entry) opened now log =
         ended h.start ([] ++ w.more) later (installed_now entry) opened (cleanup_is run mirror count opened b cleanup h switch) (begun_over run mirror count later entry opened mid b c is h w unsettled) in
         record {
@@ -311,8 +311,17 @@ logged laws run mirror mirror' others others' counts count later entry opened mi
           ran = e.ran;
           same = e.same;
           made = e.made;
-          rests = laws.leaves (commits_of e.commits) (installed_now entry) opened now e.made is.opens.rests;
+          rests = told_as (IsAtRest (after_all (commits_of e.commits) (installed_now entry))) now (laws.leaves (commits_of e.commits) (installed_now entry) opened now e.made is.opens.rests) tells;
         }
+
+-- each entry is of the first method
+pub lanes_told : (run : Run) (mirror : Option MirrorMap) (count later : ℕ) (opened mid : List State) (b c : Board) (cleanup : Bool) (log : RunLog) → StartsRun run opened b → run.settings.cleanup ≡ cleanup → RunGoesOn mirror count later b c opened mid
+    → EndsWithLog cleanup c mid log → Each (λ asked. asked.lane ≡ 0) log.asks
+lanes_told run mirror count later opened mid b c cleanup log starts switch far ends =
+    let h : IsNewRun run mirror count opened b = starts mirror count in
+    let w : RunGoesOnWith h.start [] later b c opened mid = far h.start [] h.sound h.from h.under_way in
+    let e : IsLogOfRun h.start ([] ++ w.more) later log = ends h.start ([] ++ w.more) later h.sound (cleanup_is run mirror count opened b cleanup h switch) w.under_way in
+    e.lanes
 
 -- a verdict for each source
 pub verdicts_told : (run : Run) (mirror : Option MirrorMap) (count later : ℕ) (opened mid : List State) (b c : Board) (cleanup : Bool) (log : RunLog) → StartsRun run opened b → run.settings.cleanup ≡ cleanup → RunGoesOn mirror count later b c opened mid

@@ -23,7 +23,7 @@ use Rattle.lists_dir.specs.Installed.{installed_of}
 use Rattle.release_file.specs.declared.changing.Change.{Change}
 use Rattle.update_model.specs.declared.log.Asked.{Asked}
 use Rattle.update_model.specs.declared.log.RunLog.{RunLog}
-use Rattle.run_jobs.specs.Counting.{CountsUp}
+use Rattle.run_jobs.specs.Counting.{CountsUp, counted_on}
 use Rattle.run_jobs.specs.declared.error.RunError.{RunError}
 use Rattle.run_jobs.specs.declared.error.RunError.TheVariants.{BadJournal, DiskFault, NoMemory}
 use Rattle.run_model.specs.Begun.{RunInput, ReadsPlanned}
@@ -75,6 +75,11 @@ asks_of_lane lane asks = filter (λ asked. asked.lane == lane) asks
 pub record FaultsRise (before after : List ℕ) (asks : List Asked) : Type 0 where
   pub lanes : Each (λ asked. asked.lane < length before) asks
   pub counts : (lane first last : ℕ) → slice_get before lane ≡ Some first → slice_get after lane ≡ Some last → CountsUp first last (asks_of_lane lane asks)
+
+-- of each method just as many fetches were begun as the log tells
+abbrev pub BeginsAsTold : List ℕ → List ℕ → List Asked → Type 0
+BeginsAsTold before after asks =
+    (lane first last : ℕ) → slice_get before lane ≡ Some first → slice_get after lane ≡ Some last → last ≡ counted_on first (length (asks_of_lane lane asks))
 
 -- ---- with what it begins
 
@@ -159,7 +164,7 @@ pub record HasFinished (run : Run) (begun : RunInput) (heard : List Note) (entry
   pub ran : HasRun run.together begun (installed_now entry) log commits
   pub same : ran.heard ≡ heard
   pub made : CommitsMade (commits_of commits) opened now
-  pub rests : IsNow (IsAtRest (after_all (commits_of commits) (installed_now entry))) now
+  pub rests : ToldAs (IsAtRest (after_all (commits_of commits) (installed_now entry))) now
 
 -- The log tells what the run heard, and each answer is the mirror's or a fault. Over a disk that tells and was synced, the
 -- run's commits are all made.
@@ -173,11 +178,13 @@ pub record LogIsTrue (run : Run) (before after : Engine) (log : RunLog) : Type 0
   pub commits : ToldAs IsSynced before.trace → HasFinished run begun heard before.trace after.trace log
 
 -- What a run answers, and what it does to the outside: a journal that is damaged changes no file, damage is told just
--- where it is there, a log has a verdict for each source and is true, and a crash at any moment leaves whole commits.
+-- where it is there, a log has a verdict for each source, tells each fetch that was begun and is true, and a crash at any
+-- moment leaves whole commits.
 pub record Runs {D M : Type 0} (d : Disks D) (m : Methods M) (run : Run) (old new : D) (asked answered : List M)
     (result : Result RunLog RunError) : Type 0 where
   pub unchanged : (at : ℕ) → result ≡ Err (BadJournal at) → d.files new ≡ d.files old
   pub damage : IsTrue (d.tells old) → RunFindsDamage (damage_of (d.files old)) result
   pub verdicts : IfOk result (λ log. length log.verdicts ≡ length run.plan.sources)
+  pub begins : IfOk result (λ log. BeginsAsTold (map m.begins asked) (map m.begins answered) log.asks)
   pub log : IfOk result (LogIsTrue run (engine d m old asked) (engine d m new answered))
   pub crash : SurvivesCrash run (engine d m old asked) (engine d m new answered)

@@ -1,5 +1,5 @@
 //! The beginning of a run over an open journal.
-ghost use Rattle.std.specs.Prelude.{Bool, IfOk};
+ghost use Rattle.std.specs.Prelude.{◌≡◌, [], Bool, IfOk};
 ghost use Rattle.acq_base.specs.Plan.{IsSound};
 ghost use Rattle.acq_outside.specs.Stays.{ReadsCounting};
 ghost use Rattle.update_core.specs.BoardRefinement.{board_of};
@@ -27,6 +27,7 @@ pub fn begin_run<D: Disk>(
 ) -> Result<Board, OutError>
     requires { IsSound plan }
     ensures frame { ReadsCounting OutError.Fault D.Disk disk.old disk.new result }
+    ensures unasked { IfOk result (λ board. (board_of board).asks ≡ []) }
     ensures starts { (together : Bool) → IfOk result (λ board. StartsRun (run_of plan settings change now together) (D.trace disk.old) (board_of board)) }
 {
     sources_are_planned();

@@ -157,6 +157,7 @@ pub fn end_run<D: Disk>(
     ensures frame { StaysCounting RunError.DiskFault D.Disk disk.old disk.new result }
     ensures undamaged { (at : ℕ) → result ≢ Err (RunError.BadJournal at) }
 
+    ensures asks { IfOk result (λ log. log.asks ≡ (board_of board).asks) }
     ensures idle { OnOk result (IsNow IsIdle (D.trace disk.new)) }
     ensures ends { IfOk result (EndsWithLog cleanup (board_of board) (D.trace disk.old)) }
     ensures stops { OnErr result (StopsWhileEnding together cleanup (board_of board) (D.trace disk.old) (D.trace disk.new)) }

@@ -7,9 +7,10 @@
 //! far as they had got, and the disk is synced again (the definition `SurvivesCrash`). Where it answers a log, the
 //! log is that of a board to which the run's calls led and which is finished; each answer in it is the mirror's or
 //! a fault, and the faults of each method are told in order, within what it counted; over a disk that tells and was
-//! synced, the run's commits are all made and the disk is at rest with the lists after them (`LogIsTrue`). Damage
-//! of the journal is told only where it is there, and then no log is answered. A fault of the disk is told only
-//! where its count rose, and none goes untold beside a log (`frame`).
+//! synced, the run's commits are all made and the disk is at rest with the lists after them (`LogIsTrue`). Just those
+//! fetches were begun that the log tells (`BeginsAsTold`). Damage of the journal is told only where it is there, and
+//! then no log is answered. A fault of the disk is told only where its count rose, and none goes untold beside a log
+//! (`frame`).
 #![tactic(auto)]
 
 pub use top::run_update;

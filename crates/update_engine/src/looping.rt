@@ -1,11 +1,13 @@
 //! The loop of a run over one method.
-ghost use Rattle.std.specs.Prelude.{◌≡◌, ◌≢◌, ℕ, true, Err, OnErr, OnOk};
+ghost use Rattle.std.specs.Prelude.{◌≡◌, ◌≢◌, ℕ, false, true, Err, None, OnErr, OnOk};
 ghost use Rattle.acq_outside.specs.Fetches.{Fetches};
 ghost use Rattle.acq_outside.specs.States.{Since, IsNow};
 ghost use Rattle.acq_outside.specs.Stays.{StaysCounting};
+ghost use Rattle.board_model.specs.Boards.{first_ready};
 ghost use Rattle.board_model.specs.Jobs.{NoneAsks};
 ghost use Rattle.journal_model.specs.Rest.{IsIdle, KeptAtRestSince};
 ghost use Rattle.update_core.specs.BoardRefinement.{board_of};
+ghost use Rattle.run_jobs.specs.Counting.{BeginsAsked};
 ghost use Rattle.run_jobs.specs.Running.{MayAsk};
 ghost use Rattle.update_engine.specs.Session.{KeepsRunGoing, RunGoesOn, MayCommit, OnlySettles, StopsBetweenAsks, StopsWhileAsking};
 
@@ -38,6 +40,7 @@ pub fn ask_until_done<D: Disk, M: Method>(
     ensures undamaged { (at : ℕ) → result ≢ Err (RunError.BadJournal at) }
     ensures method { Fetches M.Method method.old method.new }
 
+    ensures begins { OnOk result (BeginsAsked (M.begins method.old) (M.begins method.new) (board_of board.old).asks (board_of board.new).asks) }
     ensures unsettled { together ≡ true → OnOk result ((board_of board.new).settled ≡ (board_of board.old).settled) }
     ensures none { OnOk result (NoneAsks (board_of board.new)) }
     ensures config { OnOk result ((board_of board.new).config ≡ (board_of board.old).config) }
@@ -56,7 +59,8 @@ pub fn ask_until_done<D: Disk, M: Method>(
     }
 }
 
-/// One by one, settles the sources that are ready and commits their new sets; together does nothing.
+/// One by one, settles the sources that are ready and commits their new sets, so that none waits while more is asked;
+/// together does nothing.
 fn install_between<D: Disk>(
     alloc: Global,
     together: bool,
@@ -70,6 +74,7 @@ fn install_between<D: Disk>(
     ensures undamaged { (at : ℕ) → result ≢ Err (RunError.BadJournal at) }
 
     ensures unsettled { together ≡ true → OnOk result ((board_of board.new).settled ≡ (board_of board.old).settled) }
+    ensures none { together ≡ false → OnOk result (first_ready (board_of board.new).slots ≡ None) }
     ensures only { OnOk result (OnlySettles (board_of board.old) (board_of board.new)) }
 
     ensures bare { together ≡ true → D.trace disk.new ≡ D.trace disk.old }

@@ -27,6 +27,7 @@ loop-word-preserved g c =
     let long : length c.append.new.self ≡ length c.loop-word.joined + length c.in-Piece.bytes = ap length grown ∙ length-append c.loop-word.joined c.in-Piece.bytes in
     record {
       frame = record { count = omega (arith, c.loop-word.invariant.frame.count, c.more-word.ensures.frame.count); same = c.more-word.ensures.frame.same ∙ c.loop-word.invariant.frame.same };
+      begins = c.more-word.ensures.begins ∙ c.loop-word.invariant.begins;
       sound = c.more-word.ensures.sound;
       word = subst (λ n. IsWord (g.M.Method.faults c.args.method.now) (g.M.Method.faults c.more-word.new.self) world (fetch_at c.args.job.now n) (g.M.Method.under c.more-word.new.self) c.more-word.result) (sym long)
           (next_word (g.M.Method.faults c.args.method.now) (g.M.Method.faults c.loop-word.method) (g.M.Method.faults c.more-word.new.self) world (g.M.Method.world c.loop-word.method) (fetch_at c.args.job.now (length c.loop-word.joined))

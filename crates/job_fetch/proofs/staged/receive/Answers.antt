@@ -41,6 +41,7 @@ loop-word-preserved g c =
     record {
       frame = stayed_on inv.frame c.in_ok-add-in-Piece.ensures.frame;
       method = record { count = omega (arith, inv.method.count, c.more-word.ensures.frame.count); same = c.more-word.ensures.frame.same ∙ inv.method.same };
+      begins = c.more-word.ensures.begins ∙ inv.begins;
       name = name ∙ inv.name;
       past = omega (arith, inv.past, len);
       filling = c.in_ok-add-in-Piece.ensures.filling;

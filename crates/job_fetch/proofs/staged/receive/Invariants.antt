@@ -11,6 +11,7 @@ abbrev pub invariant-loop-word : goal.invariant-loop-word
 invariant-loop-word g l = record {
   frame : HasStayed g.D.Disk l.fn.disk l.disk;
   method : Fetches g.M.Method l.fn.method l.method;
+  begins : g.M.Method.begins l.method ≡ g.M.Method.begins l.fn.method;
   name : l.filling.part.name ≡ l.fn.opened.part.name;
   past : l.job.from ≤ l.filling.part.len;
   filling : IsFilling (g.D.Disk.trace l.disk) l.filling;

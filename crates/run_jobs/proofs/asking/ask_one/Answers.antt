@@ -1,6 +1,6 @@
 use Rattle.board_bounds.proofs.Theorems.{asks_may_be_fetched, planned_names_are_put_names}
 use Rattle.board_model.proofs.Theorems.{absorbed_boards_are_reached, absorbed_boards_want_parts, boards_stand, boards_without_jobs_ask_nothing, issued_boards_are_reached, jobs_always_stand, staged_asks_are_wanted}
-use Rattle.std.proofs.Common.{◌∙◌, sym}
+use Rattle.std.proofs.Common.{◌∙◌, ap, arith, length, refl, sym}
 use Rattle.update_core.specs.BoardRefinement.{board_of}
 use Rattle.run_jobs.proofs.Keeping.{moments_of}
 use Rattle.run_jobs.proofs.Idle.{nothing_asked}
@@ -39,3 +39,19 @@ returns-in_ok-absorb-in-Some-clause-more g c = λ yes. one_more
 
 pub returns-in-None-clause-none : goal.returns-in-None-clause-none
 returns-in-None-clause-none g c = λ no. nothing_asked jobs_always_stand boards_without_jobs_ask_nothing _ _ _ _ c.requires.ready c.in_ok-issue.ensures.board (sym c.in_ok-issue.ensures.job ∙ c.in-None.is)
+
+pub returns-in_ok-absorb-in-Some-clause-begins : goal.returns-in_ok-absorb-in-Some-clause-begins
+returns-in_ok-absorb-in-Some-clause-begins g c = record {
+  more = 1;
+  asked = one_more
+      (record { stand = boards_stand; issued = issued_boards_are_reached; absorbed = absorbed_boards_are_reached; rest = absorbed_boards_want_parts; asks = staged_asks_are_wanted; fetched = asks_may_be_fetched; put = planned_names_are_put_names })
+      _ _ _ (board_of c.issue.new.self) _ c.in-Some.job c.in_ok-closed-in-Some.closed _ c.requires.ready (sym c.in_ok-issue.ensures.job ∙ c.in-Some.is) c.in_ok-issue.ensures.board c.in_ok-absorb-in-Some.ensures;
+  begins = c.fetch.ensures.begins;
+}
+
+pub returns-in-None-clause-begins : goal.returns-in-None-clause-begins
+returns-in-None-clause-begins g c = record {
+  more = 0;
+  asked = let same = ap (λ b. length b.asks) c.in_ok-issue.ensures.board in omega (arith, same);
+  begins = refl;
+}

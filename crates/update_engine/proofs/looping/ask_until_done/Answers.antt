@@ -4,6 +4,7 @@ use Rattle.board_bounds.proofs.Theorems.{asks_are_few}
 use Rattle.update_core.specs.BoardRefinement.{board_of}
 use Rattle.update_engine.proofs.Committing.{on_err}
 use Rattle.update_engine.proofs.Known.{commits_known}
+use Rattle.update_engine.proofs.Begins.{begins_more, begins_same}
 use Rattle.update_engine.proofs.Stepping.{bare_aside, bare_round, far_aside, far_asked, far_stops, far_stops_asking, idle_after, ready_aside, ready_asked, smaller, stands_ready}
 use Rattle.update_engine.proofs.looping.ask_until_done.Goals as goal
 
@@ -48,6 +49,7 @@ asks-preserved g c = record {
   bare = λ together. bare_round _ _ _ _ (c.asks.invariant.bare together) (c.install_between.ensures.bare together) c.ask_one.ensures.moments;
   unsettled = λ together. c.in_ok-ask_one.ensures.same.settled ∙ (c.in_ok-install_between.ensures.unsettled together ∙ c.asks.invariant.unsettled together);
   config = c.in_ok-ask_one.ensures.same.config ∙ (c.in_ok-install_between.ensures.only.config ∙ c.asks.invariant.config);
+  begins = begins_more _ _ _ _ _ _ (begins_same _ _ _ _ _ c.asks.invariant.begins c.in_ok-install_between.ensures.only.asks) c.in_ok-ask_one.ensures.begins;
   frame = stayed_on_counting (stayed_on_counting c.asks.invariant.frame c.in_ok-install_between.ensures.frame) c.in_ok-ask_one.ensures.frame;
   method = record { count = omega (arith, c.asks.invariant.method.count, c.ask_one.ensures.method.count); same = c.ask_one.ensures.method.same ∙ c.asks.invariant.method.same };
 }
@@ -60,3 +62,6 @@ asks-smaller g c = smaller asks_are_few _ _ (board_of c.asks.board) (board_of c.
 
 pub returns-then-not-branch-clause-unsettled : goal.returns-then-not-branch-clause-unsettled
 returns-then-not-branch-clause-unsettled g c = λ together. c.in_ok-ask_one.ensures.same.settled ∙ (c.in_ok-install_between.ensures.unsettled together ∙ c.asks.invariant.unsettled together)
+
+pub returns-then-not-branch-clause-begins : goal.returns-then-not-branch-clause-begins
+returns-then-not-branch-clause-begins g c = begins_more _ _ _ _ _ _ (begins_same _ _ _ _ _ c.asks.invariant.begins c.in_ok-install_between.ensures.only.asks) c.in_ok-ask_one.ensures.begins
