@@ -4,7 +4,7 @@ use Rattle.std.specs.Prelude.{unwrap_or}
 use Rattle.acq_outside.specs.Crash.{AllSound, State, reads, trace_of}
 use Rattle.acq_outside.specs.Disk.{Files}
 use Rattle.acq_outside.specs.History.{Past}
-use Rattle.acq_outside.specs.States.{IsTold, IsNow, ToldAs}
+use Rattle.acq_outside.specs.States.{ToldAs}
 use Rattle.acq_outside.proofs.Crashes.{reads_left}
 use Rattle.journal_model.specs.Names.{is_installed_name}
 use Rattle.journal_model.specs.Reopen.{installed_now}
@@ -13,18 +13,14 @@ use Rattle.journal_model.specs.Rest.{IsAtRest, IsSynced}
 -- ---- a disk at rest
 
 -- so it stands for the lists with which it is at rest
-rest-lists : (lists : Files) (trace : List State) → AllSound trace → IsTold trace → IsNow (IsAtRest lists) trace → installed_now trace ≡ lists
-rest-lists lists [] sound told rests = absurd told
-rest-lists lists (s ∷ past) sound told rests = ap (λ (o : Option Files). unwrap_or o (λ name. None)) (rests.leaves (reads s) (reads_left s sound.0))
+rest-lists : (lists : Files) (trace : List State) → AllSound trace → ToldAs (IsAtRest lists) trace → installed_now trace ≡ lists
+rest-lists lists [] sound rests = absurd rests
+rest-lists lists (s ∷ past) sound rests = ap (λ (o : Option Files). unwrap_or o (λ name. None)) (rests.leaves (reads s) (reads_left s sound.0))
 
-at-rest : (lists : Files) (trace : List State) → IsTold trace → IsNow (IsAtRest lists) trace → ToldAs (IsAtRest lists) trace
-at-rest lists [] told rests = absurd told
-at-rest lists (s ∷ past) told rests = rests
-
-pub rests-so : (lists : Files) (trace : List State) → AllSound trace → IsTold trace → IsNow (IsAtRest lists) trace → (installed_now trace ≡ lists) × ToldAs (IsAtRest (installed_now trace)) trace
-rests-so lists trace sound told rests =
-    let same = rest-lists lists trace sound told rests in
-    (same, subst (λ (l : Files). ToldAs (IsAtRest l) trace) (sym same) (at-rest lists trace told rests))
+pub rests-so : (lists : Files) (trace : List State) → AllSound trace → ToldAs (IsAtRest lists) trace → (installed_now trace ≡ lists) × ToldAs (IsAtRest (installed_now trace)) trace
+rests-so lists trace sound rests =
+    let same = rest-lists lists trace sound rests in
+    (same, subst (λ (l : Files). ToldAs (IsAtRest l) trace) (sym same) rests)
 
 pub settled-at : (lists : Files) (trace : List State) → ToldAs (IsAtRest lists) trace → ToldAs IsSynced trace
 settled-at lists [] rests = absurd rests

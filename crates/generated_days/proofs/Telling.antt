@@ -123,7 +123,7 @@ module _
 
   pub tells-day : TellsDay mirror run (installed_now before.trace) (installed_now after.trace) log × ToldAs (IsAtRest (installed_now after.trace)) after.trace
   tells-day =
-      let rests = rests-so (after_all (commits_of finished.commits) (installed_now before.trace)) after.trace quiet.sound quiet.told finished.rests in (
+      let rests = rests-so (after_all (commits_of finished.commits) (installed_now before.trace)) after.trace quiet.sound finished.rests in (
         record {
           parts = logged.begun.parts;
           none = subst (λ (sources : List Source). (name : List ℕ) → Contains (flat_map target_names sources) name → logged.begun.parts name ≡ []) logged.of_run.sources none-begun;

@@ -1,3 +1,6 @@
+mod GivenUp
+mod Claiming
 mod Serving
 mod Stopping
+mod Midst
 pub mod Theorems

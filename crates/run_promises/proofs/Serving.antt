@@ -1,31 +1,30 @@
--- A run in which no method failed gave no ask up, and so leaves what its mirror's answers define.
-use Rattle.std.proofs.Common.{◌≡◌, ◌⊎◌, ◌≤◌, ◌<◌, ◌==◌, ℕ, suc, Bool, zero, if◌then◌else◌, true, false, List, [], ◌∷◌, length, Option, Some, None, refl, sym, arith, inl, inr}
-use Rattle.std.specs.Prelude.{slice_get}
+-- A run that gave no ask up leaves what its mirror's answers define, and one in which no method failed gave none up.
+use Rattle.std.proofs.Common.{◌≡◌, ◌⊎◌, ◌≤◌, ◌<◌, ◌==◌, ℕ, suc, Bool, zero, if◌then◌else◌, true, false, List, [], ◌∷◌, length, Option, Some, None, refl, sym, subst, arith, inl, inr}
+use Rattle.std.specs.Prelude.{◌&&◌, slice_get}
 use Rattle.std.specs.List.{AllByRecursion as Each}
 use Rattle.acq_base.specs.Mirror.{MirrorMap}
+use Rattle.acq_base.specs.Uri.{same_uri}
 use Rattle.acq_base.specs.declared.plan.Source.{Source}
+use Rattle.acq_base.specs.declared.settings.Settings.{Settings}
+use Rattle.acq_base.specs.declared.uri.Uri.{Uri}
 use Rattle.acq_outside.specs.Count.{Rose}
 use Rattle.acq_outside.specs.Crash.{State}
 use Rattle.acq_outside.specs.States.{IsTold, ToldAs}
-use Rattle.board_model.specs.Agreeing.{Agrees, AfterAnswer, IsAnswered, NoneIsDead}
-use Rattle.board_model.specs.Keys.{same_key}
+use Rattle.board_model.specs.Agreeing.{Agrees, NoneIsDead}
+use Rattle.board_model.specs.Jobs.{one_if}
 use Rattle.board_model.specs.Laws.{BoardsStand}
 use Rattle.board_model.specs.Runs.{Note}
-use Rattle.board_model.specs.Stands.{entries_of, of_key}
-use Rattle.board_model.specs.declared.key.Key.{Key}
+use Rattle.board_model.specs.Stands.{entries_of}
 use Rattle.journal_model.specs.Reopen.{installed_now}
-use Rattle.journal_model.specs.Rest.{IsSynced}
+use Rattle.journal_model.specs.Rest.{IsAtRest}
 use Rattle.list_commits.specs.Made.{after_all}
 use Rattle.run_jobs.specs.Counting.{CountsOn, CountsUp}
 use Rattle.run_model.specs.Begun.{RunInput}
 use Rattle.run_model.specs.Groups.{commits_of}
 use Rattle.run_model.specs.Laws.{RunsHoldAsTold, RunsKeepOthers, RunsLeadToNext, RunsLeaveMirrored}
 use Rattle.run_model.specs.Coming.{HeardMirrorFully, LeavesMirrored}
-use Rattle.update_engine.specs.Run.{Engine, ForMirror, HasFinished, IsConfiguredBy, LogIsTrue, NoneFell, Run, asks_of_lane}
+use Rattle.update_engine.specs.Run.{Engine, ForMirror, HasFinished, IsConfiguredBy, KeepsMethods, LogIsTrue, NoneFell, Run, asks_of_lane}
 use Rattle.update_model.specs.Next.{IsNext}
-use Rattle.update_model.specs.Trails.{heard_of}
-use Rattle.update_model.specs.declared.ask.Closed.{Closed}
-use Rattle.update_model.specs.declared.ask.Closed.TheVariants as closed
 use Rattle.update_model.specs.declared.log.Asked.{Asked}
 use Rattle.update_model.specs.declared.log.Heard.{Heard}
 use Rattle.update_model.specs.declared.log.Heard.TheVariants.{Served, Not}
@@ -33,7 +32,8 @@ use Rattle.acq_base.specs.declared.fetch.NotServed.TheVariants.{Moved, Absent, T
 use Rattle.update_model.specs.declared.log.RunLog.{RunLog}
 use Rattle.run_jobs.proofs.OneJob.{same_number}
 use Rattle.run_jobs.proofs.Telling.{counts_rise}
-use Rattle.run_promises.specs.Promise.{ListsMatchMirror, ReadsLists, RunsEndAsServed, RunsEndAsTold, SomeRose}
+use Rattle.run_promises.proofs.GivenUp.{none_is_dead}
+use Rattle.run_promises.specs.Promise.{ListsMatchMirror, NoneIsGivenUp, ReadsLists, RunsEndAsServed, RunsEndAsTold, SomeRose, faults_of, is_fault}
 
 -- ---- faults that are told, and counts
 
@@ -106,41 +106,31 @@ quiet_entries count (e ∷ asks) lanes quiet =
     behind lane true both = both.1
     behind lane false others = others
 
+-- entries that tell no fault tell few
+none_told : (source : ℕ) (uri : Uri) (asks : List Asked) → AreQuiet asks → faults_of source uri asks ≡ 0
+none_told source uri [] quiet = refl
+none_told source uri (asked ∷ asks) quiet =
+    let rest = none_told source uri asks quiet.1 in
+    let here = by asked.heard (asked.source == source) (same_uri asked.uri uri) quiet.0 in
+    omega (arith, rest, here)
+  where
+    by : (heard : Heard) (mine same : Bool) → IsQuiet heard → one_if (mine && (same && is_fault heard)) ≡ 0
+    by heard false same q = refl
+    by heard true false q = refl
+    by (Served sum) true true q = refl
+    by (Not (Moved place)) true true q = refl
+    by (Not (Absent status)) true true q = refl
+    by (Not TooBig) true true q = refl
+    by (Not (Garbled at)) true true q = refl
+    by (Not (Fault before after)) true true q = absurd q
+
+none_given_up : (retries : ℕ) (asks : List Asked) → AreQuiet asks → NoneIsGivenUp retries asks
+none_given_up retries asks quiet = λ source uri. let none = none_told source uri asks quiet in omega (arith, none)
+
 -- ---- what was heard
 
-abbrev AreQuietNotes : List Note → Type 0
-AreQuietNotes [] = Unit {0}
-AreQuietNotes (note ∷ notes) = IsQuiet (heard_of note.told.closed) × AreQuietNotes notes
-
-quiet_notes : (notes : List Note) → AreQuiet (entries_of notes) → AreQuietNotes notes
-quiet_notes [] quiet = tt
-quiet_notes (note ∷ notes) quiet = (quiet.0, quiet_notes notes quiet.1)
-
-quiet_of_key : (key : Key) (notes : List Note) → AreQuietNotes notes → AreQuietNotes (of_key key notes)
-quiet_of_key key [] quiet = tt
-quiet_of_key key (note ∷ notes) quiet = by (same_key note.key key) (quiet_of_key key notes quiet.1)
-  where
-    by : (same : Bool) → AreQuietNotes (of_key key notes) → AreQuietNotes (if same then note ∷ of_key key notes else of_key key notes)
-    by true others = (quiet.0, others)
-    by false others = others
-
-answered : (retries left : ℕ) (notes : List Note) → AreQuietNotes notes → IsAnswered retries left notes
-answered retries left [] quiet = tt
-answered retries left (note ∷ notes) quiet = by note.told.closed quiet.0 (answered retries retries notes quiet.1)
-  where
-    by : (answer : Closed) → IsQuiet (heard_of answer) → IsAnswered retries retries notes → AfterAnswer answer left (λ n. IsAnswered retries n notes) (IsAnswered retries retries notes)
-    by (closed.Served body) q rest = rest
-    by (closed.Not (Moved place)) q rest = rest
-    by (closed.Not (Absent status)) q rest = rest
-    by (closed.Not TooBig) q rest = rest
-    by (closed.Not (Garbled at)) q rest = rest
-    by (closed.Not (Fault before after)) q rest = absurd q
-
-none_is_dead : (retries : ℕ) (notes : List Note) → AreQuietNotes notes → NoneIsDead retries notes
-none_is_dead retries notes quiet = λ key. answered retries retries (of_key key notes) (quiet_of_key key notes quiet)
-
 -- the log of a board is what was heard
-logs_what_was_heard : BoardsStand → (run : Run) (before after : Engine) (log : RunLog) (logged : LogIsTrue run before after log) → log.asks ≡ entries_of logged.heard
+pub logs_what_was_heard : BoardsStand → (run : Run) (before after : Engine) (log : RunLog) (logged : LogIsTrue run before after log) → log.asks ≡ entries_of logged.heard
 logs_what_was_heard stand run before after log logged =
     let reached = logged.tells.reached in
     let stands = (stand logged.begun.config logged.begun.olds reached.lanes reached.events).log in
@@ -174,31 +164,47 @@ told_lists leaves run before after log logged mirror agree lives finished n sour
     let heard_out : HeardMirrorFully mirror logged.begun finished.ran.heard = rw finished.same (record { agrees = agree; lives = lives }) in
     leaves run.together logged.begun (installed_now before.trace) log finished.commits finished.ran mirror n source finished.read.begins heard_out (rw logged.of_run.sources is)
 
+pub told_of : (P : State → Type 0) (now : List State) → ToldAs P now → IsTold now
+told_of P [] is = absurd is
+told_of P (s ∷ past) is = tt
+
 serves_lists : RunsLeadToNext → RunsLeaveMirrored → (run : Run) (before after : Engine) (log : RunLog) (logged : LogIsTrue run before after log) (mirror : MirrorMap)
     → (IsTold after.trace → Agrees mirror logged.begun.parts logged.begun.config.sources logged.heard) → NoneIsDead logged.begun.config.settings.retries logged.heard
     → HasFinished run logged.begun logged.heard before.trace after.trace log → ListsMatchMirror run mirror before.trace after.trace log
-serves_lists next leaves run before after log logged mirror agrees lives finished = record {
-  begun = logged.begun;
-  reads = reads_lists run logged.begun logged.heard before.trace after.trace log logged.of_run finished;
-  lists = after_all (commits_of finished.commits) (installed_now before.trace);
-  rests = finished.rests;
-  next = λ told. next_lists next run before after log logged mirror (agrees told) lives finished;
-  told = λ told. told_lists leaves run before after log logged mirror (agrees told) lives finished;
-}
+serves_lists next leaves run before after log logged mirror agrees lives finished =
+    let told = told_of (IsAtRest (after_all (commits_of finished.commits) (installed_now before.trace))) after.trace finished.rests in
+    record {
+      begun = logged.begun;
+      reads = reads_lists run logged.begun logged.heard before.trace after.trace log logged.of_run finished;
+      lists = after_all (commits_of finished.commits) (installed_now before.trace);
+      rests = finished.rests;
+      next = next_lists next run before after log logged mirror (agrees told) lives finished;
+      told = told_lists leaves run before after log logged mirror (agrees told) lives finished;
+    }
+
+-- each method told no fault, or some count rose
+quiet_or_risen : (run : Run) (before after : Engine) (log : RunLog) → KeepsMethods before after → LogIsTrue run before after log → SomeRose before.faults after.faults ⊎ NoneIsGivenUp run.settings.retries log.asks
+quiet_or_risen run before after log keeps logged = by (all_quiet before.faults after.faults (λ lane. asks_of_lane lane log.asks) keeps.counts logged.faults.counts)
+  where
+    by : ((lane : ℕ) → lane < length before.faults → AreQuiet (asks_of_lane lane log.asks)) ⊎ SomeRose before.faults after.faults
+        → SomeRose before.faults after.faults ⊎ NoneIsGivenUp run.settings.retries log.asks
+    by (inr risen) = inl risen
+    by (inl quiet) = inr (none_given_up run.settings.retries log.asks (quiet_entries (length before.faults) log.asks logged.faults.lanes quiet))
+
+-- none of what was heard was given up, where none of the log was
+pub heard_out : BoardsStand → (run : Run) (before after : Engine) (log : RunLog) (logged : LogIsTrue run before after log) → NoneIsGivenUp run.settings.retries log.asks
+    → NoneIsDead logged.begun.config.settings.retries logged.heard
+heard_out stand run before after log logged few =
+    none_is_dead stand logged.begun.config logged.begun.olds logged.heard logged.tells.board logged.tells.reached
+    (subst (λ (settings : Settings). NoneIsGivenUp settings.retries (entries_of logged.heard)) (sym logged.of_run.settings)
+    (subst (λ (asks : List Asked). NoneIsGivenUp run.settings.retries asks) (logs_what_was_heard stand run before after log logged) few))
 
 pub serves : BoardsStand → RunsLeadToNext → RunsLeaveMirrored → RunsEndAsServed
 serves stand next leaves run before after log keeps logged =
-    for_mirror before.mirrors _ _ logged.answers (λ mirror agrees settled. by mirror agrees settled (all_quiet before.faults after.faults (λ lane. asks_of_lane lane log.asks) keeps.counts logged.faults.counts))
-  where
-    by : (mirror : MirrorMap) → (IsTold after.trace → Agrees mirror logged.begun.parts logged.begun.config.sources logged.heard) → ToldAs IsSynced before.trace
-        → ((lane : ℕ) → lane < length before.faults → AreQuiet (asks_of_lane lane log.asks)) ⊎ SomeRose before.faults after.faults
-        → SomeRose before.faults after.faults ⊎ ListsMatchMirror run mirror before.trace after.trace log
-    by mirror agrees settled (inr risen) = inl risen
-    by mirror agrees settled (inl quiet) =
-        let asks = quiet_entries (length before.faults) log.asks logged.faults.lanes quiet in
-        let notes = quiet_notes logged.heard (rw (logs_what_was_heard stand run before after log logged) at asks) in
-        let finished = logged.commits settled in
-        inr (serves_lists next leaves run before after log logged mirror agrees (none_is_dead logged.begun.config.settings.retries logged.heard notes) finished)
+    for_mirror before.mirrors _ _ logged.answers (λ mirror agrees settled. record {
+      lists = λ few. serves_lists next leaves run before after log logged mirror agrees (heard_out stand run before after log logged few) (logged.commits settled);
+      quiet = quiet_or_risen run before after log keeps logged;
+    })
 
 -- ---- what is told
 

@@ -1,12 +1,16 @@
 -- What a run promises, in the words of those who keep lists.
-use Rattle.std.specs.Prelude.{◌≡◌, ◌⊎◌, ℕ, List, ◌∷◌, slice_get, Some, Ok}
+use Rattle.std.specs.Prelude.{◌≡◌, ◌≤◌, ◌⊎◌, ◌==◌, ◌&&◌, ◌+◌, ℕ, Bool, true, false, List, [], ◌∷◌, slice_get, Some, Ok}
 use Rattle.std.specs.List.{AllByRecursion as Each}
 use Rattle.acq_base.specs.Mirror.{MirrorMap}
+use Rattle.acq_base.specs.Uri.{same_uri}
+use Rattle.acq_base.specs.declared.fetch.NotServed.TheVariants.{Moved, Absent, TooBig, Garbled, Fault}
 use Rattle.acq_base.specs.declared.plan.Source.{Source}
+use Rattle.acq_base.specs.declared.uri.Uri.{Uri}
 use Rattle.acq_outside.specs.Count.{Rose}
 use Rattle.acq_outside.specs.Crash.{State, IsImage}
 use Rattle.acq_outside.specs.Disk.{Files}
-use Rattle.acq_outside.specs.States.{From, IsTold, Since, IsNow, ToldAs}
+use Rattle.acq_outside.specs.States.{From, Since, ToldAs}
+use Rattle.board_model.specs.Jobs.{one_if}
 use Rattle.board_model.specs.RunLaws.{HasSet}
 use Rattle.journal_model.specs.Reopen.{ReopensAsAt, installed_now, reopened}
 use Rattle.journal_model.specs.Rest.{IsAtRest, IsSynced}
@@ -17,6 +21,9 @@ use Rattle.update_engine.specs.Run.{Engine, ForMirror, HasOpenedJournal, IsConfi
 use Rattle.update_model.specs.Next.{HasWholeSet, IsNext, Keeps}
 use Rattle.update_model.specs.Outcomes.{AdmittedRelease}
 use Rattle.update_model.specs.Releases.{IsAdmissible, installed_release}
+use Rattle.update_model.specs.declared.log.Asked.{Asked}
+use Rattle.update_model.specs.declared.log.Heard.{Heard}
+use Rattle.update_model.specs.declared.log.Heard.TheVariants.{Served, Not}
 use Rattle.update_model.specs.declared.log.RunLog.{RunLog}
 use Rattle.update_model.specs.declared.settled.Held.{Held}
 use Rattle.update_model.specs.declared.settled.Verdict2.{Verdict2}
@@ -91,7 +98,7 @@ pub record ListsMatchLog (run : Run) (entry now : List State) (log : RunLog) : T
   pub begun : RunInput
   pub reads : ReadsLists run entry begun
   pub lists : Files
-  pub rests : IsNow (IsAtRest lists) now
+  pub rests : ToldAs (IsAtRest lists) now
   pub holds : (n : ℕ) (source : Source) (verdict : Verdict2) (held : Held) → slice_get run.plan.sources n ≡ Some source → slice_get log.verdicts n ≡ Some verdict
       → HasSet verdict held → HasSetAsLogged begun source held (installed_now entry) lists
   pub keeps : (n : ℕ) (source : Source) (verdict : Verdict2) → slice_get run.plan.sources n ≡ Some source → slice_get log.verdicts n ≡ Some verdict
@@ -108,20 +115,42 @@ abbrev pub SomeRose : List ℕ → List ℕ → Type 0
 SomeRose (before ∷ befores) (after ∷ afters) = Rose before after ⊎ SomeRose befores afters
 SomeRose befores afters = ⊥
 
+-- a fault of a method
+abbrev pub is_fault : Heard → Bool
+is_fault (Served sum) = false
+is_fault (Not (Moved place)) = false
+is_fault (Not (Absent status)) = false
+is_fault (Not TooBig) = false
+is_fault (Not (Garbled at)) = false
+is_fault (Not (Fault before after)) = true
+
+-- how many faults these entries tell of a source at a URI
+abbrev pub faults_of : ℕ → Uri → List Asked → ℕ
+faults_of source uri [] = 0
+faults_of source uri (asked ∷ asks) = one_if (asked.source == source && (same_uri asked.uri uri && is_fault asked.heard)) + faults_of source uri asks
+
+-- no more of any than are asked again
+abbrev pub NoneIsGivenUp : ℕ → List Asked → Type 0
+NoneIsGivenUp retries asks = (source : ℕ) (uri : Uri) → faults_of source uri asks ≤ retries
+
 -- The disk is at rest with the lists that are next over those that stood at entry: of each source the set that the mirror's
 -- answers define, or what it had, with the lists on their way that stood there once the journal was open. The log tells that.
 pub record ListsMatchMirror (run : Run) (mirror : MirrorMap) (entry now : List State) (log : RunLog) : Type 0 where
   pub begun : RunInput
   pub reads : ReadsLists run entry begun
   pub lists : Files
-  pub rests : IsNow (IsAtRest lists) now
-  pub next : IsTold now → IsNext mirror (installed_now entry) begun.parts run.plan run.settings run.change run.moment lists
-  pub told : IsTold now → (n : ℕ) (source : Source) → slice_get run.plan.sources n ≡ Some source → LeavesMirrored mirror begun n source log (installed_now entry) lists
+  pub rests : ToldAs (IsAtRest lists) now
+  pub next : IsNext mirror (installed_now entry) begun.parts run.plan run.settings run.change run.moment lists
+  pub told : (n : ℕ) (source : Source) → slice_get run.plan.sources n ≡ Some source → LeavesMirrored mirror begun n source log (installed_now entry) lists
 
--- over one mirror that all methods tell, and a disk that tells and was synced: a method failed, or the lists end so
+-- Where no ask was given up the lists end so, and none was where no method failed.
+pub record EndsAsServed (run : Run) (mirror : MirrorMap) (before after : Engine) (log : RunLog) : Type 0 where
+  pub lists : NoneIsGivenUp run.settings.retries log.asks → ListsMatchMirror run mirror before.trace after.trace log
+  pub quiet : SomeRose before.faults after.faults ⊎ NoneIsGivenUp run.settings.retries log.asks
+
+-- over one mirror that all methods tell, and a disk that tells and was synced
 abbrev pub EndsOverMirror : Run → Engine → Engine → RunLog → Type 0
-EndsOverMirror run before after log = ForMirror before.mirrors (λ mirror.
-    WasSynced before → SomeRose before.faults after.faults ⊎ ListsMatchMirror run mirror before.trace after.trace log)
+EndsOverMirror run before after log = ForMirror before.mirrors (λ mirror. WasSynced before → EndsAsServed run mirror before after log)
 
 -- a run that answers a log does
 abbrev pub RunsEndAsServed : Type 0

@@ -1,14 +1,22 @@
-//! What runs promise, in the words of those who keep lists: four laws over what an update's contract says.
+//! What runs promise, in the words of those who keep lists: laws over what an update's contract says.
 //!
 //! Each is a function without a body of its own, which a caller of a run calls for what it says.
 //!
-//! Four laws that say in the words of those who keep lists what follows of a run's clauses: whatever it answers, a
+//! They say in the words of those who keep lists what follows of a run's clauses: whatever it answers, a
 //! stop leaves each source its former set or a new one, whole, of a Release that may be installed beside the former
 //! one (`runs_stop_with_sets`), and over a mirror that new set is the one that its answers define
 //! (`runs_stop_as_served`); where it answers a log, the lists are as the log tells (`lists_match_log`); and over a
-//! mirror they end as its answers define, or a method failed (`lists_match_mirror`).
+//! mirror they end as its answers define, or a fetch was given up, as none is where no method failed
+//! (`lists_match_mirror`). The log is what items of the plan heard, and shows of each source the routes of its items,
+//! in order, its verdict by their ends, and that little was asked (`logs_show_runs`); and a source that the mirror
+//! serves whole, an admissible Release with bytes that fit for each list that it names, has a set in it
+//! (`runs_tell_served`). A journal that a stop leaves is never damaged, and a stop in the midst of a call leaves whole
+//! sets too (`runs_stop_undamaged`).
 #![tactic(auto)]
 
-pub use promises::{lists_match_log, lists_match_mirror, runs_stop_as_served, runs_stop_with_sets};
+pub use promises::{
+    lists_match_log, lists_match_mirror, logs_show_runs, runs_stop_as_served, runs_stop_undamaged,
+    runs_stop_with_sets, runs_tell_served,
+};
 
 mod promises;

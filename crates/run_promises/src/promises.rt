@@ -1,8 +1,10 @@
 //! What runs promise, in the words of those who keep lists: laws, each a function without a body.
 
+ghost use Rattle.run_promises.specs.Claims as claim;
 ghost use Rattle.run_promises.specs.Promise as law;
 
-/// Over a mirror, a run that answers a log leaves the lists that the mirror's answers define, unless a method failed.
+/// Over a mirror, a run that answers a log leaves the lists that the mirror's answers define, unless a fetch was given up, and
+/// none was where no method failed.
 pub fn lists_match_mirror()
     ensures { law.RunsEndAsServed }
 {}
@@ -21,4 +23,23 @@ pub fn runs_stop_with_sets()
 /// Over a mirror such a new set is the one that the mirror's answers define.
 pub fn runs_stop_as_served()
     ensures { law.RunsStopAsServed }
+{}
+
+/// The log of a run is what items of its plan heard, and shows of each source the routes of its items, in order, what they
+/// came to, and that little was asked.
+pub fn logs_show_runs()
+    ensures { claim.LogsShowRuns }
+{}
+
+/// A mirror that serves a source whole has a new set for it, which a log tells where no fetch was given up.
+pub fn runs_tell_served()
+    ensures logs { claim.RunsTellServed }
+    ensures sets { claim.ServedSourcesHaveSets }
+{}
+
+/// No journal that a run leaves, nor an image of one, is damaged, and a stop in the midst of a call of the disk leaves each
+/// source a whole set as one before it or behind it does.
+pub fn runs_stop_undamaged()
+    ensures journal { claim.RunsStopUndamaged }
+    ensures within { claim.StopsWithinCalls }
 {}

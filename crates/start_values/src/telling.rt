@@ -29,7 +29,7 @@ pub fn begin_program<E: Environment, S: Sink>(
     }
 }
 
-/// WritesRefusal why nothing was carried out, and answers the exit status: that of the refusal, or 105 where the output fails.
+/// Tells why nothing was carried out, and answers the exit status: that of the refusal, or 105 where the output fails.
 pub fn write_refusal<S: Sink>(refused: Refused, out: &mut S) -> u8
     ensures count { S.faults out.old ≤ S.faults out.new }
     ensures told { WritesRefusal (S.faults out.old) (S.faults out.new) (S.written out.old) (S.written out.new) refused result }

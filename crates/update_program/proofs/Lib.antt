@@ -3,3 +3,4 @@ mod Damage
 mod Endings
 mod Lines
 mod Promised
+mod Served

@@ -5,12 +5,14 @@ use Rattle.command_words.specs.declared.request.Options.{Options}
 use Rattle.configuration.specs.declared.configuring.Configured.{Configured}
 use Rattle.report_text.specs.declared.fault.FaultLine.{FaultLine}
 use Rattle.report_text.specs.declared.fault.FaultLine.TheVariants.{Disk, Memory, Held, Etc}
+use Rattle.run_promises.specs.Claims.{LogsShowRuns, RunsStopUndamaged, RunsTellServed, ShowsRun, TellsServedOverMirror}
 use Rattle.run_promises.specs.Promise.{ListsMatchLog, EndsOverMirror, RunsEndAsServed, RunsEndAsTold, RunsStopAsServed, RunsStopWithSets, WasSynced}
 use Rattle.update_engine.specs.Run.{KeepsMethods, Run}
 use Rattle.update_model.specs.declared.log.RunLog.{RunLog}
 use Rattle.update_program.specs.Asked.{AsksForRun, GivesConfiguration, run_for}
 use Rattle.update_program.specs.Ending.{EndsUpdateOf, RunsAtClock, IsBeforeRun, IsNoRun, MakesRun, HasNoConfiguration, WritesWhyNoLog}
-use Rattle.update_program.specs.Headline.{IsRefused, Promises}
+use Rattle.update_program.proofs.Served.{ends_well}
+use Rattle.update_program.specs.Headline.{EndsWellOverMirror, IsRefused, Promises}
 use Rattle.update_program.specs.Objects.{Objects, Output}
 use Rattle.update_program.specs.Said.{WritesLine, fault_status}
 
@@ -40,7 +42,7 @@ without_log None is = is
 without_log (Some log) is = tt
 
 module _
-    (serves : RunsEndAsServed) (tells : RunsEndAsTold) (stops_as_served : RunsStopAsServed) (stops : RunsStopWithSets) (told : Option EtcFiles) (options : Options) (moment : Option ℤ) (before after : Objects)
+    (serves : RunsEndAsServed) (tells : RunsEndAsTold) (stops_as_served : RunsStopAsServed) (stops : RunsStopWithSets) (shows : LogsShowRuns) (served : RunsTellServed) (undamaged : RunsStopUndamaged) (told : Option EtcFiles) (options : Options) (moment : Option ℤ) (before after : Objects)
     (status : ℕ) (keeps : KeepsMethods before.engine after.engine) where
   by_why : WritesWhyNoLog before after status → status ≡ 100 → IsRefused told options before
   by_why (inl said) is = absurd (disk_failed before.out after.out status said is)
@@ -67,6 +69,18 @@ module _
   ends_run run None ran = tt
   ends_run run (Some log) ran = serves run before.engine after.engine log keeps ran.log
 
+  shows_run : (run : Run) (log : Option RunLog) → MakesRun run before after log status → IfSome log (ShowsRun run)
+  shows_run run None ran = tt
+  shows_run run (Some log) ran = shows run before.engine after.engine log ran.log
+
+  served_run : (run : Run) (log : Option RunLog) → MakesRun run before after log status → IfSome log (TellsServedOverMirror run before.engine)
+  served_run run None ran = tt
+  served_run run (Some log) ran = served run before.engine after.engine log ran.log
+
+  complete_run : (run : Run) (log : Option RunLog) → MakesRun run before after log status → IfSome log (λ known. EndsWellOverMirror run before.engine known status)
+  complete_run run None ran = tt
+  complete_run run (Some log) ran = ends_well run before.engine after.engine before.out after.out log status ran.log (served run before.engine after.engine log ran.log) ran.said
+
   refused_run : (run : Run) (log : Option RunLog) → MakesRun run before after log status → IfNone log (status ≡ 100 → IsRefused told options before)
   refused_run run None ran = by_why ran.why
   refused_run run (Some log) ran = tt
@@ -82,8 +96,12 @@ module _
       asks = asked it ran.0 given ran.1;
       stops = stops (run_for it ran.0 options.together) before.engine after.engine ran.2.crash;
       stops_as_served = stops_as_served (run_for it ran.0 options.together) before.engine after.engine ran.2.crash;
+      undamaged = undamaged (run_for it ran.0 options.together) before.engine after.engine ran.2.crash;
       tells = tells_run (run_for it ran.0 options.together) log ran.2;
+      shows = shows_run (run_for it ran.0 options.together) log ran.2;
       ends = ends_run (run_for it ran.0 options.together) log ran.2;
+      served = served_run (run_for it ran.0 options.together) log ran.2;
+      complete = complete_run (run_for it ran.0 options.together) log ran.2;
     });
     refused = refused_run (run_for it ran.0 options.together) log ran.2;
   }

@@ -1,5 +1,5 @@
 -- What words, configuration and clock ask for.
-use Rattle.std.specs.Prelude.{◌≡◌, ℕ, ℤ, Bool, List, map, Option, Some, None, Ok, Result, IfSome, String, string_bytes}
+use Rattle.std.specs.Prelude.{◌≡◌, ◌⊎◌, ℕ, ℤ, Bool, List, map, Option, Some, None, Ok, Err, Result, IfSome, IsSomeAnd, String, string_bytes}
 use Rattle.std.specs.Global.{Global}
 use Rattle.acq_outside.specs.Etc.{EtcFiles}
 use Rattle.command_words.specs.Words.{request_of}
@@ -39,6 +39,12 @@ pub record GivesConfiguration (told : Option EtcFiles) (options : List (List ℕ
   pub files : EtcFiles
   pub those : IfSome told (λ all. files ≡ all)
   pub give : answer ≡ configured (folder_of files) options
+
+-- there is no configuration: the files, where they are told, refuse it with the options, or the status tells a fault of its
+-- folder
+abbrev pub RefusesConfiguration : Option EtcFiles → List (List ℕ) → ℕ → Type 0
+RefusesConfiguration told options status =
+    IsSomeAnd told (λ files. (refusal : ConfigurationError) × (configured (folder_of files) options ≡ Err refusal)) ⊎ (status ≡ 106)
 
 abbrev pub run_for : Configured → ℤ → Bool → Run
 run_for it now together = run_of it.plan it.settings it.change now together

@@ -1,13 +1,15 @@
 -- How a call ends.
 use Rattle.std.specs.Prelude.{◌≡◌, ◌⊎◌, ℕ, ℤ, Bool, List, Option, Some, None, Ok, Err, IfSome, IfNone, IsSome, IsTrue}
 use Rattle.acq_outside.specs.Etc.{EtcFiles}
+use Rattle.acq_outside.specs.declared.clock.Clock.{Ghosts as Clocks}
+use Rattle.acq_outside.specs.declared.disk.Disk.{Ghosts as Disks}
 use Rattle.command_words.specs.declared.request.Options.{Options}
 use Rattle.commit_journal.specs.Opening.{damage_of}
 use Rattle.configuration.specs.declared.configuring.Configured.{Configured}
 use Rattle.configuration.specs.declared.error.ConfigurationError.{ConfigurationError}
 use Rattle.report_text.specs.Refused.{line_of}
 use Rattle.report_text.specs.declared.fault.FaultLine.TheVariants.{Words, Journal, Disk, Memory, Held, Etc}
-use Rattle.update_engine.specs.Run.{Run, LogIsTrue, SurvivesCrash}
+use Rattle.update_engine.specs.Run.{BeginsAsTold, Run, LogIsTrue, SurvivesCrash}
 use Rattle.update_model.specs.declared.log.RunLog.{RunLog}
 use Rattle.update_program.specs.Asked.{GivesConfiguration, run_for}
 use Rattle.update_program.specs.Objects.{Objects, Span}
@@ -21,6 +23,13 @@ pub record IsNoRun (before after : Objects) (log : Option RunLog) : Type 0 where
   pub files : after.files ≡ before.files
   pub mirrors : after.engine.mirrors ≡ before.engine.mirrors
   pub methods : after.engine.faults ≡ before.engine.faults
+  pub begins : after.begins ≡ before.begins
+
+-- neither the lists folder nor the clock was asked for anything that counts
+pub record LeavesDiskAndClock {D C : Type 0} (d : Disks D) (c : Clocks C) (disk disk' : D) (clock clock' : C) : Type 0 where
+  pub faults : d.faults disk' ≡ d.faults disk
+  pub held : d.held disk' ≡ d.held disk
+  pub moments : c.given clock' ≡ c.given clock
 
 -- ---- words that are refused
 
@@ -41,11 +50,12 @@ WritesWhyNoLog before after status =
     ⊎ (((at : ℕ) × (IsTrue before.tells → damage_of before.files ≡ Some at) × (after.files ≡ before.files) × WritesFault before.out after.out (Journal at) status)
     ⊎ WritesLine before.out after.out Memory status)
 
--- A run, whether it answers a log or not: what a stop leaves, what the log tells, and what was written. No run that
--- answers a log goes on over a damaged journal.
+-- A run, whether it answers a log or not: what a stop leaves, what the log tells, which is each fetch that was begun, and
+-- what was written. No run that answers a log goes on over a damaged journal.
 pub record MakesRun (run : Run) (before after : Objects) (answer : Option RunLog) (status : ℕ) : Type 0 where
   pub crash : SurvivesCrash run before.engine after.engine
   pub log : IfSome answer (LogIsTrue run before.engine after.engine)
+  pub begins : IfSome answer (λ log. BeginsAsTold before.begins after.begins log.asks)
   pub said : IfSome answer (λ log. WritesReportOrMemory before.out after.out run.plan log status)
   pub why : IfNone answer (WritesWhyNoLog before after status)
   pub undamaged : IsTrue before.tells → IsSome answer → damage_of before.files ≡ None

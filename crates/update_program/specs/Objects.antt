@@ -1,5 +1,5 @@
 -- The objects that a call is handed, at one moment.
-use Rattle.std.specs.Prelude.{Bool, ℕ, List, Option}
+use Rattle.std.specs.Prelude.{Bool, ℕ, List, map, Option}
 use Rattle.std.specs.Global.{Vec}
 use Rattle.acq_outside.specs.Disk.{Files}
 use Rattle.acq_outside.specs.declared.disk.Disk.{Ghosts as Disks}
@@ -16,15 +16,16 @@ pub record Output : Type 0 where
 abbrev pub output : {S : Type 0} → Sinks S → S → Output
 output s out = record { faults = s.faults out; written = s.written out }
 
--- the lists folder, as it is and as it was, the methods and the output
+-- the lists folder, as it is and as it was, the methods, with how often each was asked, and the output
 pub record Objects : Type 0 where
   pub engine : Engine
   pub tells : Bool
   pub files : Files
+  pub begins : List ℕ
   pub out : Output
 
 abbrev pub objects : {D M S : Type 0} → Disks D → Methods M → Sinks S → D → List M → S → Objects
-objects d m s disk methods out = record { engine = run.engine d m disk methods; tells = d.tells disk; files = d.files disk; out = output s out }
+objects d m s disk methods out = record { engine = run.engine d m disk methods; tells = d.tells disk; files = d.files disk; begins = map m.begins methods; out = output s out }
 
 -- the objects before a call and after it
 pub record Span : Type 0 where

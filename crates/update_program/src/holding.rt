@@ -6,7 +6,7 @@ ghost use Rattle.acq_outside.specs.Count.{Rose};
 ghost use Rattle.update_engine.specs.Run.{KeepsMethods, engine};
 ghost use Rattle.update_program.specs.Ending.{RunsAtClock};
 ghost use Rattle.update_program.specs.Objects.{objects};
-ghost use Rattle.update_program.specs.Said.{ReadsOnce};
+ghost use Rattle.update_program.specs.Said.{BlamesOutput, ReadsOnce};
 
 use crate::Ran;
 use crate::run::run_plan;
@@ -33,9 +33,9 @@ pub fn run_with_hold<D: Disk, M: Method, C: Clock, S: Sink>(
     ensures moment { ReadsOnce (C.given clock.old) (C.given clock.new) result.log }
     ensures disk_fault { result.status.0 ≡ 102 → Rose (D.faults disk.old) (D.faults disk.new) }
     ensures quiet_disk { IsSome result.log → D.faults disk.new ≡ D.faults disk.old }
-    ensures sink_fault { result.status.0 ≡ 105 → Rose (S.faults out.old) (S.faults out.new) }
-    ensures quiet_sink { result.status.0 ≢ 105 → S.faults out.new ≡ S.faults out.old }
+    ensures output { BlamesOutput (S.faults out.old) (S.faults out.new) result.status.0 }
     ensures held_fault { result.status.0 ≡ 104 → Rose (D.held disk.old) (D.held disk.new) }
+    ensures quiet_held { IsSome result.log → D.held disk.new ≡ D.held disk.old }
     ensures no_etc_fault { result.status.0 ≢ 106 }
     ensures ended { RunsAtClock it together (C.last clock.new) (objects D.Disk M.Method S.Sink disk.old methods.old.items out.old)
         (objects D.Disk M.Method S.Sink disk.new methods.new.items out.new) result.log result.status.0 }

@@ -4,7 +4,8 @@ ghost use Rattle.std.specs.Prelude.{◌≡◌, ◌≢◌, ◌≤◌, vec_len, Is
 ghost use Rattle.acq_outside.specs.Count.{Rose};
 ghost use Rattle.report_text.specs.Refused.{line_of};
 ghost use Rattle.update_engine.specs.Run.{KeepsMethods, engine};
-ghost use Rattle.update_program.specs.Ending.{EndsUpdateOf};
+ghost use Rattle.update_program.specs.Asked.{RefusesConfiguration};
+ghost use Rattle.update_program.specs.Ending.{EndsUpdateOf, LeavesDiskAndClock};
 ghost use Rattle.update_program.specs.Objects.{objects, output};
 ghost use Rattle.update_program.specs.Said.{BlamesOutput, ReadsOnce, WritesFault};
 
@@ -34,11 +35,13 @@ pub fn run_options<E: Etc, D: Disk, M: Method, C: Clock, S: Sink>(
     ensures moment { ReadsOnce (C.given clock.old) (C.given clock.new) result.log }
     ensures disk_fault { result.status.0 ≡ 102 → Rose (D.faults disk.old) (D.faults disk.new) }
     ensures quiet_disk { IsSome result.log → D.faults disk.new ≡ D.faults disk.old }
-    ensures sink_fault { result.status.0 ≡ 105 → Rose (S.faults out.old) (S.faults out.new) }
-    ensures quiet_sink { result.status.0 ≢ 105 → S.faults out.new ≡ S.faults out.old }
+    ensures output { BlamesOutput (S.faults out.old) (S.faults out.new) result.status.0 }
     ensures held_fault { result.status.0 ≡ 104 → Rose (D.held disk.old) (D.held disk.new) }
+    ensures quiet_held { IsSome result.log → D.held disk.new ≡ D.held disk.old }
     ensures etc_fault { result.status.0 ≡ 106 → Rose (E.faults etc.old) (E.faults etc.new) }
     ensures quiet_etc { IsSome result.log → E.faults etc.new ≡ E.faults etc.old }
+    ensures unconfigured { RefusesConfiguration (E.files etc.old) options.now.pairs result.status.0
+        → LeavesDiskAndClock D.Disk C.Clock disk.old disk.new clock.old clock.new }
     ensures ended { EndsUpdateOf (E.files etc.old) options.now (C.last clock.new)
         (objects D.Disk M.Method S.Sink disk.old methods.old.items out.old)
         (objects D.Disk M.Method S.Sink disk.new methods.new.items out.new) result.log result.status.0 }

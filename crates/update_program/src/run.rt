@@ -6,6 +6,7 @@ ghost use Rattle.acq_outside.specs.Count.{Rose};
 ghost use Rattle.update_engine.specs.Run.{KeepsMethods, engine};
 ghost use Rattle.update_program.specs.Ending.{RunsAt};
 ghost use Rattle.update_program.specs.Objects.{objects};
+ghost use Rattle.update_program.specs.Said.{BlamesOutput};
 
 use crate::Ran;
 use crate::say::{write_fault, write_fixed, write_report};
@@ -38,8 +39,7 @@ pub fn run_plan<D: Disk, M: Method, S: Sink>(
     ensures held { D.held disk.new ≡ D.held disk.old }
     ensures disk_fault { result.status.0 ≡ 102 → Rose (D.faults disk.old) (D.faults disk.new) }
     ensures quiet_disk { IsSome result.log → D.faults disk.new ≡ D.faults disk.old }
-    ensures sink_fault { result.status.0 ≡ 105 → Rose (S.faults out.old) (S.faults out.new) }
-    ensures quiet_sink { result.status.0 ≢ 105 → S.faults out.new ≡ S.faults out.old }
+    ensures output { BlamesOutput (S.faults out.old) (S.faults out.new) result.status.0 }
     ensures not_held { result.status.0 ≢ 104 }
     ensures no_etc_fault { result.status.0 ≢ 106 }
     ensures ended { RunsAt it together now (objects D.Disk M.Method S.Sink disk.old methods.old.items out.old)

@@ -13,10 +13,11 @@ returns-in-Err g c =
       moment = inr (rw by.log refl, refl);
       disk_fault = λ e. absurd (by.no_disk_fault e);
       quiet_disk = λ some. let never = rw by.log at some in absurd cc;
-      sink_fault = by.frame.fault;
-      quiet_sink = by.frame.quiet;
+      output = by.frame;
       held_fault = λ e. absurd (by.not_held e);
+      quiet_held = λ some. let never = rw by.log at some in absurd cc;
       etc_fault = λ e. read.frame.fault (ap Err (by.etc_fault e));
       quiet_etc = λ some. let never = rw by.log at some in absurd cc;
-      ended = refusal_ends _ _ _ c.in-Err.refusal _ _ _ _ read.answer by.said (record { no_log = by.log; still = refl; files = refl; mirrors = refl; methods = refl });
+      unconfigured = λ refuses. record { faults = refl; held = refl; moments = refl };
+      ended = refusal_ends _ _ _ c.in-Err.refusal _ _ _ _ read.answer by.said (record { no_log = by.log; still = refl; files = refl; mirrors = refl; methods = refl; begins = refl });
     }

@@ -11,6 +11,7 @@ returns-in-Ok-run_update-clause-ended g c =
     inl (record {
       crash = rw (c.new-judge.ensures, to_z-of_z w64 c.args.now c.ranges.now) at by.run.crash;
       log = rw (c.new-judge.ensures, to_z-of_z w64 c.args.now c.ranges.now) at by.run.log;
+      begins = by.run.begins;
       said = rw c.in-Ok.ensures at c.write_report.ensures.told;
       why = tt;
       undamaged = λ tells some. none_told _ c.in-Ok-run_update.log (by.run.damage tells);
@@ -26,6 +27,7 @@ returns-in-Err-BadJournal-clause-ended g c =
     inl (record {
       crash = rw (c.new-judge.ensures, to_z-of_z w64 c.args.now c.ranges.now) at c.in-Err-BadJournal.ensures.run.crash;
       log = rw left.log tt;
+      begins = rw left.log tt;
       said = rw left.log tt;
       why = rw (left.log, left.status) (says_damage was is c.in-Err-BadJournal.at c.write_fault.result.0 finds (keeps c.in-Err-BadJournal.at refl) c.write_fault.ensures.said);
       undamaged = λ tells some. let never = rw left.log at some in absurd cc;
