@@ -4,43 +4,34 @@
 //! It reads its words and three variables of the environment, makes the real objects, and leaves the rest to
 //! `update_call`, whose status it ends with.
 //!
-//! Proved of its parts: the two folders are those that were read (`etc`, `lists` of `open`), there is one method
-//! (`methods`), and the exit code is the status (`exit_code`).
+//! `main` takes the descriptors of standard input, output and error where it was started without them, makes one method,
+//! and then makes one call of `carry_out` over the system's environment. Proved of that call, over any environment: either what can't be read
+//! is told, or one call of `update_call` is made with the words behind the program's own name, over the folders that the
+//! environment names and that method, and the exit code is its status (`CarriesOut`).
 #![tactic(auto)]
 
 ghost use Rattle.std.specs.Prelude.{◌≡◌};
 ghost use Rattle.std.specs.Process.{exit_status};
 
 use acq_real::RealSink;
-use outside::open;
+use carrying::carry_out;
+use outside::one_method;
 use standard::hold_standard;
-use start_values::{RealEnvironment, Refused, begin_program, write_refusal};
+use start_values::{RealEnvironment, Refused, write_refusal};
 use std::process::ExitCode;
-use update_program::{Status, update_call};
+use update_program::Status;
 
+mod carrying;
 mod outside;
 mod standard;
 
 fn main(rt: HostRuntime) -> ExitCode {
     let _standard = hold_standard(&rt);
     let mut out = RealSink::new(rt);
-    let start = match begin_program(rt.alloc(), &RealEnvironment::new(rt), &mut out) {
-        Ok(start) => start,
-        Err(status) => return exit_code(Status(status)),
-    };
-    let Ok(mut outside) = open(rt, &start) else {
+    let Ok(mut methods) = one_method(rt.alloc(), rt) else {
         return exit_code(Status(write_refusal(Refused::NoMemory, &mut out)));
     };
-    let ran = update_call(
-        &rt,
-        start.words.as_slice(),
-        &mut outside.etc,
-        &mut outside.lists,
-        &mut outside.methods,
-        &mut outside.clock,
-        &mut out,
-    );
-    exit_code(ran.status)
+    carry_out(rt, &RealEnvironment::new(rt), &mut methods, &mut out)
 }
 
 /// The code with which the program ends.

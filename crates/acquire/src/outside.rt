@@ -1,4 +1,4 @@
-//! The real objects of a run, made of what the program goes by.
+//! The real objects of a run: folders and clock, made of what the program goes by, and the method.
 ghost use Rattle.std.specs.Prelude.{◌≡◌, IfOk, string_bytes, vec_len};
 ghost use Rattle.acq_real.specs.RealDisk as disk;
 ghost use Rattle.acq_real.specs.RealEtc as etc;
@@ -18,32 +18,28 @@ use std::rt::{Clock, Files};
 /// The method of the program: files of the system for `file` URIs, peers over TCP for `http` URIs.
 pub type RealMethod<R> = BothMethod<FileMethod<RealTree<R>>, HttpMethod<TcpLink<R>>>;
 
-/// The real objects of a run.
+/// The folders and the clock of a run.
 #[derive(Drop)]
 pub struct Outside<R>
 where
-    R: Files<File = File> + Clock + Net<Stream = TcpStream> + AllocGlobal + Copy,
+    R: Files<File = File> + Clock + AllocGlobal + Copy,
 {
     pub etc: RealEtc<R>,
     pub lists: RealDisk<R>,
-    pub methods: Vec<RealMethod<R>>,
     pub clock: RealClock<R>,
 }
 
-/// The configuration folder and the lists folder that a program goes by, one method, and the system's clock. It touches
-/// none of them.
+/// The configuration folder and the lists folder that a program goes by, and the system's clock. It touches none of them.
 pub fn open<R>(rt: R, start: &Start) -> Result<Outside<R>, NoMemory>
 where
-    R: Files<File = File> + Clock + Net<Stream = TcpStream> + AllocGlobal + Copy,
+    R: Files<File = File> + Clock + AllocGlobal + Copy,
     ensures etc { IfOk result (λ outside. etc.folder_of outside.etc ≡ string_bytes start.now.etc) }
     ensures lists { IfOk result (λ outside. disk.folder_of outside.lists ≡ string_bytes start.now.lists) }
-    ensures methods { IfOk result (λ outside. vec_len outside.methods ≡ 1) }
 {
     let alloc = rt.alloc();
     Ok(Outside {
         etc: open_etc(alloc, rt, start)?,
         lists: open_lists(alloc, rt, start)?,
-        methods: one_method(alloc, rt)?,
         clock: RealClock::new(rt),
     })
 }
@@ -70,7 +66,8 @@ where
     }
 }
 
-fn one_method<R>(alloc: Global, rt: R) -> Result<Vec<RealMethod<R>>, NoMemory>
+/// Files of the system and peers over TCP, as one method. It opens none.
+pub fn one_method<R>(alloc: Global, rt: R) -> Result<Vec<RealMethod<R>>, NoMemory>
 where
     R: Files<File = File> + Net<Stream = TcpStream> + AllocGlobal + Copy,
     ensures { IfOk result (λ methods. vec_len methods ≡ 1) }

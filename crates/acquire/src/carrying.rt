@@ -1,0 +1,61 @@
+//! The one call that the program makes.
+ghost use Rattle.std.specs.Prelude.{◌≡◌, vec_len};
+ghost use Rattle.std.specs.Process.{exit_status};
+ghost use Rattle.acq_real.specs.RealDisk as disk;
+ghost use Rattle.acq_real.specs.RealEtc as etc;
+ghost use Rattle.acquire.specs.Carried.{CarriesOut};
+
+use crate::exit_code;
+use crate::outside::open;
+use acq_outside::{Clock, Disk, Etc, Method, Sink};
+use acq_real::{RealClock, RealDisk, RealEtc, RealSink};
+use start_values::{Environment, Refused, begin_program, write_refusal};
+use std::fs::File;
+use std::process::ExitCode;
+use std::rt;
+use std::sync::Wait;
+use std::thread::Threads;
+use update_program::{Status, update_call};
+
+/// Reads the words and the folders that the environment names, and carries the words out over these folders and one method.
+/// It answers the status of that call, or of the refusal where words or a variable can't be read.
+pub fn carry_out<V, R, M>(
+    rt: R,
+    environment: &V,
+    methods: &mut Vec<M>,
+    out: &mut RealSink<R>,
+) -> ExitCode
+where
+    V: Environment,
+    R: rt::Files<File = File>
+        + rt::Clock
+        + Print
+        + AllocGlobal
+        + Threads
+        + Wait
+        + Copy
+        + Send
+        + 'static,
+    M: Method + Send + 'static,
+    requires { vec_len methods.old ≡ 1 }
+    ensures { CarriesOut ⟦<RealEtc<R> as Etc>⟧ ⟦<RealDisk<R> as Disk>⟧ M.Method ⟦<RealClock<R> as Clock>⟧ ⟦<RealSink<R> as Sink>⟧
+        etc.folder_of disk.folder_of (V.known environment.now) methods.old methods.new out.old out.new (exit_status result) }
+{
+    let start = match begin_program(rt.alloc(), environment, out) {
+        Ok(start) => start,
+        Err(status) => return exit_code(Status(status)),
+    };
+    let Ok(mut outside) = open(rt, &start) else {
+        return exit_code(Status(write_refusal(Refused::NoMemory, out)));
+    };
+    let ran = update_call(
+        &rt,
+        start.words.as_slice(),
+        &mut outside.etc,
+        &mut outside.lists,
+        methods,
+        &mut outside.clock,
+        out,
+    );
+    exit_code(ran.status)
+}
