@@ -17,7 +17,8 @@ use Rattle.update_program.specs.Objects.{output, span}
 use Rattle.update_program.specs.declared.ran.Ran.{Ran}
 
 -- One call of the top call over these methods: its words are those behind the program's own name, its folders are those that
--- the environment names, and the status is the call's; and what the call promises of words and objects.
+-- the environment names, and the status is the call's; and how the call ends by its words, with its headline. The causes of
+-- statuses are not among it.
 pub record CallsUpdate {E D M C S : Type 0} (e : Etcs E) (d : Disks D) (m : Methods M) (c : Clocks C) (s : Sinks S) (etc_folder : E → List ℕ) (lists_folder : D → List ℕ)
     (told : Option Known) (methods methods' : Vec M) (out out' : S) (status : ℕ) : Type 0 where
   pub words : List (String Global)
@@ -35,7 +36,7 @@ pub record CallsUpdate {E D M C S : Type 0} (e : Etcs E) (d : Disks D) (m : Meth
   pub ended : IfUpdate (asked words) (EndsUpdate (e.files etc) (c.last clock') (span d m s lists lists' methods methods' out out') ran)
   pub headline : IfUpdate (asked words) (Headline (e.files etc) (c.last clock') (span d m s lists lists' methods methods' out out') ran)
 
--- words or a variable can't be read or memory ran out, which is told, or that call is made
+-- words or a variable can't be read or memory ran out, which is told, or it ends as such a call may
 abbrev pub CarriesOut : {E D M C S : Type 0} → Etcs E → Disks D → Methods M → Clocks C → Sinks S → (E → List ℕ) → (D → List ℕ) → Option Known → Vec M → Vec M → S → S → ℕ → Type 0
 CarriesOut e d m c s etc_folder lists_folder told methods methods' out out' status =
     IsRefusalWritten told (s.faults out) (s.faults out') (s.written out) (s.written out') status

@@ -6,7 +6,7 @@
 //!
 //! `main` takes the descriptors of standard input, output and error where it was started without them, makes one method,
 //! and then makes one call of `carry_out` over the system's environment. Proved of that call, over any environment: either what can't be read
-//! is told, or one call of `update_call` is made with the words behind the program's own name, over the folders that the
+//! is told, or it ends as one call of `update_call` may, with the words behind the program's own name, over the folders that the
 //! environment names and that method, and the exit code is its status (`CarriesOut`).
 #![tactic(auto)]
 

@@ -1,5 +1,5 @@
 -- What a log shows, and that a source that is served whole has a set.
-use Rattle.std.proofs.Common.{◌≡◌, ℕ, suc, Any, List, [], ◌∷◌, map, Ok, Err, refl, sym, subst, arith}
+use Rattle.std.proofs.Common.{◌≡◌, ◌∙◌, ap, length, ℕ, suc, Any, List, [], ◌∷◌, map, Ok, Err, refl, sym, subst, arith}
 use Rattle.std.specs.Prelude.{ℤ, Option, slice_get, Some, Result}
 use Rattle.std.specs.List.{AllByRecursion as Each}
 use Rattle.acq_base.specs.Mirror.{MirrorMap}
@@ -23,7 +23,7 @@ use Rattle.run_model.specs.Asked.{NotesAreOfItems, OthersHearNothing}
 use Rattle.run_model.specs.Coming.{HeardMirrorFully}
 use Rattle.run_model.specs.Groups.{commits_of}
 use Rattle.run_model.specs.Laws.{RunsAreComplete}
-use Rattle.run_promises.proofs.Serving.{for_mirror, heard_out, logs_what_was_heard, told_of}
+use Rattle.run_promises.proofs.Serving.{for_mirror, heard_out, logs_what_was_heard, reads_lists, told_of}
 use Rattle.run_promises.specs.Claims.{LogsShowRuns, RunsTellServed, ServedSourcesHaveSets, Serves, ShowsSource, TellsSet}
 use Rattle.run_promises.specs.Promise.{NoneIsGivenUp}
 use Rattle.update_engine.specs.Run.{Engine, HasFinished, LogIsTrue, Run}
@@ -58,6 +58,8 @@ pub logs_show_runs : BoardsStand → FinishedBoardsTell → LastAnswersShowOutco
 logs_show_runs stand tell show items others few run before after log logged = record {
   begun = logged.begun;
   of_run = logged.of_run;
+  each = logged.tells.reached.each ∙ ap length logged.of_run.sources;
+  reads = λ synced. reads_lists run logged.begun logged.heard before.trace after.trace log logged.of_run (logged.commits synced);
   heard = logged.heard;
   entries = logs_what_was_heard stand run before after log logged;
   items = rw (sym logged.of_run.sources) (items logged.begun.config logged.begun.olds logged.heard logged.tells.board logged.tells.reached);
@@ -107,7 +109,7 @@ runs_tell_served stand complete have run before after log logged =
     for_mirror before.mirrors _ _ logged.answers (λ mirror agrees synced few n source is serves. by mirror agrees (logged.commits synced) few n source is serves)
   where
     by : (mirror : MirrorMap) → (IsTold after.trace → Agrees mirror logged.begun.parts logged.begun.config.sources logged.heard) → (finished : HasFinished run logged.begun logged.heard before.trace after.trace log)
-        → NoneIsGivenUp run.settings.retries log.asks → (n : ℕ) (source : Source) → slice_get run.plan.sources n ≡ Some source → Serves run mirror (installed_now before.trace) source → TellsSet log n
+        → NoneIsGivenUp run.settings.retries log.asks → (n : ℕ) (source : Source) → slice_get run.plan.sources n ≡ Some source → (serves : Serves run mirror (installed_now before.trace) source) → TellsSet log n (held_of source serves.set)
     by mirror agrees finished few n source is serves =
         let lists = installed_now before.trace in
         let agree = agrees (told_of (IsAtRest (after_all (commits_of finished.commits) lists)) after.trace finished.rests) in
@@ -115,4 +117,4 @@ runs_tell_served stand complete have run before after log logged =
         let set = have run mirror lists logged.begun.parts source serves in
         let told = complete run.together logged.begun lists log finished.commits finished.ran mirror n source serves.set finished.read.begins heard_all (rw logged.of_run.sources is)
         (rw (logged.of_run.settings, logged.of_run.change, logged.of_run.moment) set) in
-        record { verdict = told.0; told = told.1; held = held_of source serves.set; has = told.2 }
+        record { verdict = told.0; told = told.1; has = told.2 }

@@ -35,7 +35,7 @@ use Rattle.board_model.proofs.Making.{list-at}
 use Rattle.board_model.proofs.Notes.{IsKnown, AllKnown, run-known}
 use Rattle.board_model.proofs.Resting.{olds-there}
 use Rattle.run_jobs.proofs.OneJob.{same_number}
-use Rattle.run_promises.specs.Promise.{NoneIsGivenUp, faults_of, is_fault}
+use Rattle.run_promises.specs.Promise.{NoneIsGivenUp, faults_told_of, is_fault}
 
 -- ---- what one item heard
 
@@ -108,12 +108,12 @@ answered_few retries (At ask left faults next) (note ∷ notes) asks few here =
     one (closed.Not (Garbled at)) (suc n) left_here asked later = goes (way left ask.uri (closed.Not (Garbled at))) asked later
 
 -- an item has heard no more faults than its source
-few_of_key : (key : Key) (uri : Uri) (notes : List Note) → faults_in uri (of_key key notes) ≤ faults_of key.source uri (entries_of notes)
+few_of_key : (key : Key) (uri : Uri) (notes : List Note) → faults_in uri (of_key key notes) ≤ faults_told_of key.source uri (entries_of notes)
 few_of_key key uri [] = omega arith
 few_of_key key uri (note ∷ notes) = by (same_key note.key key) refl (few_of_key key uri notes)
   where
-    by : (same : Bool) → same_key note.key key ≡ same → faults_in uri (of_key key notes) ≤ faults_of key.source uri (entries_of notes)
-        → faults_in uri (if same then note ∷ of_key key notes else of_key key notes) ≤ faults_of key.source uri (entries_of (note ∷ notes))
+    by : (same : Bool) → same_key note.key key ≡ same → faults_in uri (of_key key notes) ≤ faults_told_of key.source uri (entries_of notes)
+        → faults_in uri (if same then note ∷ of_key key notes else of_key key notes) ≤ faults_told_of key.source uri (entries_of (note ∷ notes))
     by true same rest =
         let source = (and_parts (note.key.source == key.source) (note.key.place == key.place) same).0 in
         let counts = ap (λ (c : Bool). one_if (c && (same_uri note.ask.uri uri && is_fault (heard_of note.told.closed)))) source in

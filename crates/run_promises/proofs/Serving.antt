@@ -33,7 +33,7 @@ use Rattle.update_model.specs.declared.log.RunLog.{RunLog}
 use Rattle.run_jobs.proofs.OneJob.{same_number}
 use Rattle.run_jobs.proofs.Telling.{counts_rise}
 use Rattle.run_promises.proofs.GivenUp.{none_is_dead}
-use Rattle.run_promises.specs.Promise.{ListsMatchMirror, NoneIsGivenUp, ReadsLists, RunsEndAsServed, RunsEndAsTold, SomeRose, faults_of, is_fault}
+use Rattle.run_promises.specs.Promise.{ListsMatchMirror, NoneIsGivenUp, ReadsLists, RunsEndAsServed, RunsEndAsTold, SomeRose, faults_told_of, is_fault}
 
 -- ---- faults that are told, and counts
 
@@ -107,7 +107,7 @@ quiet_entries count (e ∷ asks) lanes quiet =
     behind lane false others = others
 
 -- entries that tell no fault tell few
-none_told : (source : ℕ) (uri : Uri) (asks : List Asked) → AreQuiet asks → faults_of source uri asks ≡ 0
+none_told : (source : ℕ) (uri : Uri) (asks : List Asked) → AreQuiet asks → faults_told_of source uri asks ≡ 0
 none_told source uri [] quiet = refl
 none_told source uri (asked ∷ asks) quiet =
     let rest = none_told source uri asks quiet.1 in
@@ -144,7 +144,7 @@ for_mirror (None ∷ others) P Q agrees f = tt
 for_mirror (Some mirror ∷ others) P Q agrees f = λ same. f mirror (λ x. agrees x same)
 
 -- with what a finished run began
-reads_lists : (run : Run) (begun : RunInput) (heard : List Note) (entry now : List State) (log : RunLog) → IsConfiguredBy run begun → HasFinished run begun heard entry now log → ReadsLists run entry begun
+pub reads_lists : (run : Run) (begun : RunInput) (heard : List Note) (entry now : List State) (log : RunLog) → IsConfiguredBy run begun → HasFinished run begun heard entry now log → ReadsLists run entry begun
 reads_lists run begun heard entry now log of_run finished = record { opened = finished.opened; opens = finished.opens; of_run = of_run; read = finished.read }
 
 next_lists : RunsLeadToNext → (run : Run) (before after : Engine) (log : RunLog) (logged : LogIsTrue run before after log) (mirror : MirrorMap)

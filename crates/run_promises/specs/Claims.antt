@@ -1,4 +1,4 @@
--- What the log of a run shows of each source, and what a mirror is owed that serves a source whole.
+-- What the log of a run shows of each source, and what holds of a source that a mirror serves whole.
 use Rattle.std.specs.Prelude.{◌≡◌, ◌⊎◌, ◌≤◌, ℕ, suc, ◌+◌, ◌*◌, Any, Contains, List, [], length, slice_get, Some, None, Ok}
 use Rattle.std.specs.List.{AllByRecursion as Each}
 use Rattle.acq_base.specs.Mirror.{MirrorMap}
@@ -15,12 +15,13 @@ use Rattle.board_model.specs.Ends.{ComesTo}
 use Rattle.board_model.specs.Keys.{keys_from}
 use Rattle.board_model.specs.RunLaws.{HasSet, IsSourceAt}
 use Rattle.board_model.specs.Runs.{Note}
+use Rattle.board_model.specs.Settling.{held_of}
 use Rattle.board_model.specs.Stands.{entries_of, history_of}
 use Rattle.commit_journal.specs.Opening.{damage_of}
 use Rattle.journal_model.specs.Reopen.{ReopensAsAt, installed_now}
 use Rattle.run_model.specs.Asked.{IsListed}
 use Rattle.run_model.specs.Begun.{RunInput}
-use Rattle.run_promises.specs.Promise.{HasSets, MayBeInstalled, NoneIsGivenUp, StopLeavesWholeSets, WasSynced}
+use Rattle.run_promises.specs.Promise.{HasSets, MayBeInstalled, NoneIsGivenUp, ReadsLists, StopLeavesWholeSets, WasSynced}
 use Rattle.update_engine.specs.Run.{Engine, ForMirror, IsConfiguredBy, LogIsTrue, Run, SurvivesCrash}
 use Rattle.update_model.specs.Laws.{IsFileOf}
 use Rattle.update_model.specs.Obtained.{reached_files}
@@ -36,9 +37,9 @@ use Rattle.update_model.specs.declared.settled.Verdict2.{Verdict2}
 -- ---- one source
 
 -- Its items have ended in routes, whose entries are those of the log, and the verdict that is told is that of their ends,
--- which the last answers show. Of its lists just those were asked for that its Release names. The log has at most so many
--- entries of it: of InRelease, of Release and for each list of 4 trails and one for each patch, a trail being 11 places, each
--- asked once and again after as many faults as are retried.
+-- which the last answers show. Of its lists just those were asked for that its Release names. The log has few entries of it:
+-- one trail for InRelease, one for Release, and for each list four and one more for each patch; a trail has at most 11 places,
+-- each asked once and again after as many faults as are retried.
 pub record ShowsSource (begun : RunInput) (heard : List Note) (log : RunLog) (n : ℕ) (source : Source) (old : Old) : Type 0 where
   pub verdict : Verdict2
   pub told : slice_get log.verdicts n ≡ Some verdict
@@ -51,10 +52,13 @@ pub record ShowsSource (begun : RunInput) (heard : List Note) (log : RunLog) (n 
 
 -- ---- a run
 
--- The log is what items of the plan heard, and no other entry is there; and it shows each source.
-pub record ShowsRun (run : Run) (log : RunLog) : Type 0 where
+-- The log is what items of the plan heard, and no other entry is there; and it shows each source, beside what was installed of
+-- it when the run began, as a disk that tells and was synced gives it.
+pub record ShowsRun (run : Run) (before : Engine) (log : RunLog) : Type 0 where
   pub begun : RunInput
   pub of_run : IsConfiguredBy run begun
+  pub each : length begun.olds ≡ length run.plan.sources
+  pub reads : WasSynced before → ReadsLists run before.trace begun
   pub heard : List Note
   pub entries : log.asks ≡ entries_of heard
   pub items : Each (λ note. Contains (keys_from 0 run.plan.sources) note.key) heard
@@ -62,7 +66,7 @@ pub record ShowsRun (run : Run) (log : RunLog) : Type 0 where
 
 -- so does each log that a run answers
 abbrev pub LogsShowRuns : Type 0
-LogsShowRuns = (run : Run) (before after : Engine) (log : RunLog) → LogIsTrue run before after log → ShowsRun run log
+LogsShowRuns = (run : Run) (before after : Engine) (log : RunLog) → LogIsTrue run before after log → ShowsRun run before log
 
 -- ---- a source that is served whole
 
@@ -80,16 +84,15 @@ ServedSourcesHaveSets =
     (run : Run) (mirror : MirrorMap) (former : Files) (parts : PartFiles) (source : Source) (serves : Serves run mirror former source)
     → new_set mirror former parts source run.settings run.change run.moment ≡ Ok serves.set
 
--- the log tells a set of the source, new or as it was
-pub record TellsSet (log : RunLog) (n : ℕ) : Type 0 where
+-- the log tells this set of the source, new or as it was
+pub record TellsSet (log : RunLog) (n : ℕ) (held : Held) : Type 0 where
   pub verdict : Verdict2
   pub told : slice_get log.verdicts n ≡ Some verdict
-  pub held : Held
   pub has : HasSet verdict held
 
--- so does the log of each source that is served whole
+-- of each source that is served whole it tells the served set
 abbrev pub TellsServed : Run → MirrorMap → Files → RunLog → Type 0
-TellsServed run mirror former log = (n : ℕ) (source : Source) → slice_get run.plan.sources n ≡ Some source → Serves run mirror former source → TellsSet log n
+TellsServed run mirror former log = (n : ℕ) (source : Source) → slice_get run.plan.sources n ≡ Some source → (serves : Serves run mirror former source) → TellsSet log n (held_of source serves.set)
 
 -- over one mirror that all methods tell, and a disk that tells and was synced, where no fetch was given up
 abbrev pub TellsServedOverMirror : Run → Engine → RunLog → Type 0
@@ -106,7 +109,8 @@ RunsTellServed = (run : Run) (before after : Engine) (log : RunLog) → LogIsTru
 abbrev pub LeavesUndamaged : State → Type 0
 LeavesUndamaged s = (image : Files) → IsImage s image → damage_of image ≡ None
 
--- Up to one moment a crash leaves what it left at entry, and at each moment since then a journal that is not damaged.
+-- Up to one moment a crash leaves what it left at entry, and at each moment since then a journal that is not damaged. So one
+-- that is was found so by the call.
 abbrev pub StopsUndamaged : Engine → Engine → Type 0
 StopsUndamaged before after = (opened : List State) × Since before.trace opened (From ReopensAsAt before.trace) × Since opened after.trace LeavesUndamaged
 

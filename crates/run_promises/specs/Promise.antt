@@ -125,13 +125,13 @@ is_fault (Not (Garbled at)) = false
 is_fault (Not (Fault before after)) = true
 
 -- how many faults these entries tell of a source at a URI
-abbrev pub faults_of : ℕ → Uri → List Asked → ℕ
-faults_of source uri [] = 0
-faults_of source uri (asked ∷ asks) = one_if (asked.source == source && (same_uri asked.uri uri && is_fault asked.heard)) + faults_of source uri asks
+abbrev pub faults_told_of : ℕ → Uri → List Asked → ℕ
+faults_told_of source uri [] = 0
+faults_told_of source uri (asked ∷ asks) = one_if (asked.source == source && (same_uri asked.uri uri && is_fault asked.heard)) + faults_told_of source uri asks
 
 -- no more of any than are asked again
 abbrev pub NoneIsGivenUp : ℕ → List Asked → Type 0
-NoneIsGivenUp retries asks = (source : ℕ) (uri : Uri) → faults_of source uri asks ≤ retries
+NoneIsGivenUp retries asks = (source : ℕ) (uri : Uri) → faults_told_of source uri asks ≤ retries
 
 -- The disk is at rest with the lists that are next over those that stood at entry: of each source the set that the mirror's
 -- answers define, or what it had, with the lists on their way that stood there once the journal was open. The log tells that.
@@ -143,7 +143,7 @@ pub record ListsMatchMirror (run : Run) (mirror : MirrorMap) (entry now : List S
   pub next : IsNext mirror (installed_now entry) begun.parts run.plan run.settings run.change run.moment lists
   pub told : (n : ℕ) (source : Source) → slice_get run.plan.sources n ≡ Some source → LeavesMirrored mirror begun n source log (installed_now entry) lists
 
--- Where no ask was given up the lists end so, and none was where no method failed.
+-- Where no fetch was given up the lists end so, and none was where no method failed.
 pub record EndsAsServed (run : Run) (mirror : MirrorMap) (before after : Engine) (log : RunLog) : Type 0 where
   pub lists : NoneIsGivenUp run.settings.retries log.asks → ListsMatchMirror run mirror before.trace after.trace log
   pub quiet : SomeRose before.faults after.faults ⊎ NoneIsGivenUp run.settings.retries log.asks

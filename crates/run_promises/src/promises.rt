@@ -37,9 +37,12 @@ pub fn runs_tell_served()
     ensures sets { claim.ServedSourcesHaveSets }
 {}
 
-/// No journal that a run leaves, nor an image of one, is damaged, and a stop in the midst of a call of the disk leaves each
-/// source a whole set as one before it or behind it does.
+/// Once its journal was open a run leaves none that is damaged, in whatever a crash leaves.
 pub fn runs_stop_undamaged()
-    ensures journal { claim.RunsStopUndamaged }
-    ensures within { claim.StopsWithinCalls }
+    ensures { claim.RunsStopUndamaged }
+{}
+
+/// A stop in the midst of a call of the disk leaves each source a whole set, where one before the call and one behind it do.
+pub fn stops_within_calls()
+    ensures { claim.StopsWithinCalls }
 {}

@@ -12,7 +12,7 @@ use Rattle.update_model.specs.declared.log.RunLog.{RunLog}
 use Rattle.update_program.specs.Asked.{AsksForRun, GivesConfiguration, run_for}
 use Rattle.update_program.specs.Ending.{EndsUpdateOf, RunsAtClock, IsBeforeRun, IsNoRun, MakesRun, HasNoConfiguration, WritesWhyNoLog}
 use Rattle.update_program.proofs.Served.{ends_well}
-use Rattle.update_program.specs.Headline.{EndsWellOverMirror, IsRefused, Promises}
+use Rattle.update_program.specs.Headline.{StatusIsZeroOverMirror, IsRefused, Promises}
 use Rattle.update_program.specs.Objects.{Objects, Output}
 use Rattle.update_program.specs.Said.{WritesLine, fault_status}
 
@@ -69,7 +69,7 @@ module _
   ends_run run None ran = tt
   ends_run run (Some log) ran = serves run before.engine after.engine log keeps ran.log
 
-  shows_run : (run : Run) (log : Option RunLog) → MakesRun run before after log status → IfSome log (ShowsRun run)
+  shows_run : (run : Run) (log : Option RunLog) → MakesRun run before after log status → IfSome log (ShowsRun run before.engine)
   shows_run run None ran = tt
   shows_run run (Some log) ran = shows run before.engine after.engine log ran.log
 
@@ -77,7 +77,7 @@ module _
   served_run run None ran = tt
   served_run run (Some log) ran = served run before.engine after.engine log ran.log
 
-  complete_run : (run : Run) (log : Option RunLog) → MakesRun run before after log status → IfSome log (λ known. EndsWellOverMirror run before.engine known status)
+  complete_run : (run : Run) (log : Option RunLog) → MakesRun run before after log status → IfSome log (λ known. StatusIsZeroOverMirror run before.engine known status)
   complete_run run None ran = tt
   complete_run run (Some log) ran = ends_well run before.engine after.engine before.out after.out log status ran.log (served run before.engine after.engine log ran.log) ran.said
 

@@ -12,7 +12,7 @@ use Rattle.update_engine.specs.Run.{Engine, ForMirror, LogIsTrue, Run}
 use Rattle.update_model.specs.declared.log.RunLog.{RunLog}
 use Rattle.update_model.specs.declared.settled.Held.{Held}
 use Rattle.update_model.specs.declared.settled.Verdict2.{Verdict2}
-use Rattle.update_program.specs.Headline.{EndsWellOverMirror}
+use Rattle.update_program.specs.Headline.{StatusIsZeroOverMirror}
 use Rattle.update_program.specs.Objects.{Output}
 use Rattle.update_program.specs.Said.{Writes, WritesReportOrMemory, is_kept, status_of_verdicts}
 
@@ -41,7 +41,7 @@ all_told run mirror before after log logged tells serves = none_kept log.verdict
     by n verdict is there =
         let set = tells n there.0 there.1 (each_there (Serves run mirror (installed_now before.trace)) run.plan.sources n there.0 serves there.1) in
         let same : verdict ≡ set.verdict = let both : Some verdict ≡ Some set.verdict = sym is ∙ set.told in cc in
-        ap is_kept same ∙ has_is_not_kept set.verdict set.held set.has
+        ap is_kept same ∙ has_is_not_kept set.verdict _ set.has
 
 -- the status beside such a log
 status_for : (before after : Output) (run : Run) (log : RunLog) (status : ℕ) → list_any is_kept log.verdicts ≡ false → WritesReportOrMemory before after run.plan log status
@@ -64,6 +64,6 @@ for_each (None ∷ others) P Q is f = tt
 for_each (Some mirror ∷ others) P Q is f = λ same. f mirror (is same)
 
 pub ends_well : (run : Run) (before after : Engine) (out out' : Output) (log : RunLog) (status : ℕ) → LogIsTrue run before after log → TellsServedOverMirror run before log → WritesReportOrMemory out out' run.plan log status
-    → EndsWellOverMirror run before log status
+    → StatusIsZeroOverMirror run before log status
 ends_well run before after out out' log status logged tells said =
     for_each before.mirrors _ _ tells (λ mirror served synced few serves. status_for out out' run log status (all_told run mirror before after log logged (served synced few) serves) said)

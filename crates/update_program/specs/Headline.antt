@@ -22,13 +22,13 @@ IsRefused told options before =
 
 -- Where the mirror serves all sources whole and no fetch was given up, the status is 0, unless memory for the report ran out
 -- or the output failed.
-abbrev pub EndsWellOverMirror : Run → Engine → RunLog → ℕ → Type 0
-EndsWellOverMirror run before log status = ForMirror before.mirrors (λ mirror.
+abbrev pub StatusIsZeroOverMirror : Run → Engine → RunLog → ℕ → Type 0
+StatusIsZeroOverMirror run before log status = ForMirror before.mirrors (λ mirror.
     WasSynced before → NoneIsGivenUp run.settings.retries log.asks → Each (Serves run mirror (installed_now before.trace)) run.plan.sources
     → (status ≡ 0) ⊎ ((status ≡ 103) ⊎ (status ≡ 105)))
 
 -- A run that is asked for. A stop leaves each source its former set or a new one, whole, which over a mirror is the
--- mirror's, and no journal that is damaged. Where a log is answered, it shows its run, the lists are as it tells, and over a
+-- mirror's, and no damaged journal but one that the call found. Where a log is answered, it shows its run, the lists are as it tells, and over a
 -- mirror lists and log are what the mirror's answers define, and each source that the mirror serves whole has a set.
 pub record KeepsPromise (told : Option EtcFiles) (options : Options) (moment : Option ℤ) (before after : Objects) (log : Option RunLog) (status : ℕ) : Type 0 where
   pub run : Run
@@ -37,10 +37,10 @@ pub record KeepsPromise (told : Option EtcFiles) (options : Options) (moment : O
   pub stops_as_served : WasSynced before.engine → StopsOverMirror run before.engine after.engine
   pub undamaged : WasSynced before.engine → StopsUndamaged before.engine after.engine
   pub tells : IfSome log (λ known. WasSynced before.engine → ListsMatchLog run before.engine.trace after.engine.trace known)
-  pub shows : IfSome log (ShowsRun run)
+  pub shows : IfSome log (ShowsRun run before.engine)
   pub ends : IfSome log (EndsOverMirror run before.engine after.engine)
   pub served : IfSome log (TellsServedOverMirror run before.engine)
-  pub complete : IfSome log (λ known. EndsWellOverMirror run before.engine known status)
+  pub complete : IfSome log (λ known. StatusIsZeroOverMirror run before.engine known status)
 
 -- What an update promises: it makes no run, or one as above; and without a log the status 100 has its cause. The other
 -- statuses without a log have theirs: the lists folder, the configuration folder, the output or memory failed, or another

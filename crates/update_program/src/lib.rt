@@ -4,7 +4,7 @@
 //! update and writes the report; the first refusal or fault ends it, by one line in place of the report. It touches nothing
 //! but the objects that it is handed.
 //!
-//! Its [own page](../README.md) has the clauses. The headline follows of what a run is by the four laws of
+//! Its [own page](../README.md) has the clauses. The headline follows of what a run is by the laws of
 //! `run_promises`.
 #![tactic(auto)]
 

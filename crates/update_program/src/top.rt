@@ -73,8 +73,8 @@ pub fn update_call<
     ensures generated { IfGenerate (asked words.now) (λ number. IsGenerated number (output S.Sink out.old) (output S.Sink out.new) result.status.0) }
     ensures ended { IfUpdate (asked words.now) (EndsUpdate (E.files etc.old) (C.last clock.new) (span D.Disk M.Method S.Sink disk.old disk.new methods.old methods.new out.old out.new) result) }
 
-    // A stop leaves whole sets, the lists are as a log tells, and over a mirror each new set is the one that its answers
-    // define, and so are lists and log, unless a method failed.
+    // A stop leaves whole sets, a log shows its run, the lists are as it tells, and over a mirror each new set is the one that
+    // its answers define, and so are lists and log, unless a fetch was given up; a source that it serves whole has its set.
     ensures headline { IfUpdate (asked words.now) (Headline (E.files etc.old) (C.last clock.new) (span D.Disk M.Method S.Sink disk.old disk.new methods.old methods.new out.old out.new) result) }
 {
     let alloc = rt.alloc();
