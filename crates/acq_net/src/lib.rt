@@ -7,7 +7,7 @@
 //! here stands for one; it tells too what was said on the connection before (`former`); a fault comes only where
 //! its count rose (`frame`), and how often it connected and heard a peer's end is counted. `ScriptLink` is one in
 //! memory, whose peers say what a script has; `TcpLink` one over TCP, which tells nothing of content: an address
-//! that doesn't answer within 30 seconds is given up, and a peer that is silent for 120 seconds is a fault, which
+//! that doesn't answer within 30 seconds is given up, and a peer that is silent for 30 seconds is a fault, which
 //! no proof or test shows.
 //!
 //! A `Port` has the connections that peers make to this program, one at a time. Where it tells, it tells of each that

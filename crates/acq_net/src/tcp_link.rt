@@ -13,10 +13,10 @@ use std::time::Duration;
 const CONNECT_SECONDS: u64 = 30;
 
 /// How long a peer may neither send nor take a byte, in seconds.
-const SILENT_SECONDS: u64 = 120;
+const SILENT_SECONDS: u64 = 30;
 
 /// A link over TCP. The addresses that a host's name has are tried in turn. An address that doesn't answer within 30
-/// seconds is given up, and a peer that is silent for 120 seconds is a fault. It tells no bytes.
+/// seconds is given up, and a peer that is silent for 30 seconds is a fault. It tells no bytes.
 #[derive(Drop)]
 pub struct TcpLink<R: Drop> {
     rt: R,

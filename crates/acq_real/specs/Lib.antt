@@ -10,4 +10,5 @@ pub mod RealFiles
 -- Cited by this crate's own functions alone, but for what RealSink shows.
 pub mod Answer
 pub mod Opened
+pub mod Ownership
 pub mod RealSink

@@ -22,8 +22,13 @@ use std::rt::Files;
 mod calls;
 
 /// A folder of the operating system. As long as nobody else changes that folder, it works below it alone, and on plain
-/// files alone: any other name is a fault, and so is a folder or a link in place of a file, or in place of `partial`
-/// anything but a folder.
+/// files alone: any other name is a fault, and so is a folder in place of a file, or in place of `partial` anything but a
+/// folder. A link is no file: it isn't read, and a file that is moved to its name takes its place.
+///
+/// `partial` is this user's alone: it is taken over where it isn't, or else a fault. A file in it that somebody else could
+/// have changed counts as none, and one that is cut to nothing is made anew, so that nobody has it open.
+///
+/// The hold is a write lock over the whole file `lock`, which excludes apt's and is excluded by it.
 ///
 /// What stands at a path is looked up first and used by a further call of the system. Another process that puts a link
 /// in its place between the two is found out where the file is opened. Whether `partial` is a folder is looked up by each

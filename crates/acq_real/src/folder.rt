@@ -4,18 +4,43 @@ ghost use Rattle.std.specs.Prelude.{◌≤◌, length, IfOk};
 use crate::answer::{check_folder, plain_length, unless};
 use crate::listing::Entry;
 use crate::opened::{OpenFolders, node_of, open_folders, open_found, still};
+use crate::ownership::{is_private, is_private_file, standing_of, user};
 use acq_base::Text;
+use os::RangeLock;
 use std::alloc::Global;
-use std::fs::{File, Metadata, TryLockError};
-use std::io::ErrorKind;
-use std::os::unix::fs::FileExt;
+use std::fs::{DirBuilder, File, Metadata, OpenOptions, Permissions};
+use std::io::{Error, ErrorKind};
+use std::os::fd::AsRawFd;
+use std::os::unix::fs::{
+    DirBuilderExt, FileExt, MetadataExt, OpenOptionsExt, PermissionsExt, fchown,
+};
 use std::rt::Files;
 use std::{fs, io};
+
+/// The permission bits of `partial`: its files are trusted where they were made, so nobody else may come in.
+const PRIVATE_FOLDER: u32 = 0o700;
+
+/// The permission bits of the file that is locked, as apt makes it: who may not write it may not hold the folder.
+const LOCK_FILE: u32 = 0o640;
+
+/// The permission bits of everybody but a file's owner and group.
+const EVERYBODY: u32 = 0o007;
+
+/// A file's length at most, and so the end of a lock that covers it whole.
+const WHOLE_FILE: u64 = i64::MAX as u64;
 
 /// Makes a folder, and answers whether it was missing.
 fn make_folder(rt: &impl Files, path: &str) -> io::Result<bool> {
     let made = unless(ErrorKind::AlreadyExists, fs::create_dir(rt, path))?;
     Ok(made.is_some())
+}
+
+/// Makes the folder `partial`, where it is missing.
+fn make_partial(rt: &impl Files, path: &str) -> io::Result<()> {
+    let mut how = DirBuilder::new();
+    how.mode(PRIVATE_FOLDER);
+    unless(ErrorKind::AlreadyExists, how.create(rt, path))?;
+    Ok(())
 }
 
 /// Makes the changes of names in a folder lasting.
@@ -34,9 +59,21 @@ fn find_folder(rt: &impl Files, path: &str) -> io::Result<Metadata> {
     Ok(found)
 }
 
+/// The folder `partial`, this user's alone. Where it isn't, it is taken over, as apt does for its own user whenever it
+/// starts; where that isn't allowed it is an error.
+fn find_partial(rt: &impl Files<File = File>, path: &str) -> io::Result<Metadata> {
+    let found = find_folder(rt, path)?;
+    if !is_private(standing_of(&found), user()) {
+        let opened = open_found(rt, path, node_of(&found), false)?;
+        fchown(&opened, Some(user()), None)?;
+        opened.set_permissions(Permissions::from_mode(PRIVATE_FOLDER))?;
+    }
+    Ok(found)
+}
+
 /// Anything but a folder as `partial` is an error. A link to a folder leads out of the disk's own.
-pub fn check_partial(rt: &impl Files, alloc: Global, folder: &str) -> io::Result<()> {
-    find_folder(rt, partial_path(alloc, folder)?.as_str())?;
+pub fn check_partial(rt: &impl Files<File = File>, alloc: Global, folder: &str) -> io::Result<()> {
+    find_partial(rt, partial_path(alloc, folder)?.as_str())?;
     Ok(())
 }
 
@@ -45,7 +82,7 @@ pub fn make_folders(rt: &impl Files<File = File>, alloc: Global, folder: &str) -
     if make_folder(rt, folder)? {
         sync_folder(rt, format!(in alloc; "{folder}/..")?.as_str())?;
     }
-    make_folder(rt, partial_path(alloc, folder)?.as_str())?;
+    make_partial(rt, partial_path(alloc, folder)?.as_str())?;
     check_partial(rt, alloc, folder)
 }
 
@@ -58,7 +95,7 @@ pub fn sync_names(
     folder: &str,
 ) -> io::Result<()> {
     let partial = partial_path(alloc, folder)?;
-    let found = node_of(&find_folder(rt, partial.as_str())?);
+    let found = node_of(&find_partial(rt, partial.as_str())?);
     let folders = match still(kept.take(), found) {
         Some(folders) => folders,
         None => open_folders(rt, folder, partial.as_str(), found)?,
@@ -74,18 +111,30 @@ fn find(rt: &impl Files, path: &str) -> io::Result<Option<Metadata>> {
     unless(ErrorKind::NotFound, fs::symlink_metadata(rt, path))
 }
 
-/// The plain file at a path, `None` where nothing is. Anything else there is an error.
-pub fn find_plain(rt: &impl Files, path: &str) -> io::Result<Option<Metadata>> {
-    let found = find(rt, path)?;
-    if let Some(found) = &found {
-        plain_length(found)?;
+/// The plain file at a path, `None` where nothing is, or a link. Anything else there is an error.
+fn find_plain(rt: &impl Files, path: &str) -> io::Result<Option<Metadata>> {
+    match find(rt, path)? {
+        Some(found) if found.is_symlink() => Ok(None),
+        Some(found) => {
+            plain_length(&found)?;
+            Ok(Some(found))
+        }
+        None => Ok(None),
     }
-    Ok(found)
 }
 
-/// The length of a plain file, `None` where nothing has the path. Anything else there is an error.
-pub fn length(rt: &impl Files, path: &str) -> io::Result<Option<u64>> {
-    match find(rt, path)? {
+/// The file at a path that is used as it stands: a plain one, in `partial` one of this user's alone, since what somebody
+/// else can write may be another list than was fetched. `None` where there is none.
+pub fn find_file(rt: &impl Files, path: &str, in_partial: bool) -> io::Result<Option<Metadata>> {
+    match find_plain(rt, path)? {
+        Some(found) if in_partial && !is_private_file(standing_of(&found), user()) => Ok(None),
+        found => Ok(found),
+    }
+}
+
+/// The length of a file, `None` where there is none to be used.
+pub fn length(rt: &impl Files, path: &str, in_partial: bool) -> io::Result<Option<u64>> {
+    match find_file(rt, path, in_partial)? {
         Some(found) => Ok(Some(plain_length(&found)?)),
         None => Ok(None),
     }
@@ -106,44 +155,71 @@ pub fn read_some(file: &File, at: u64, out: &mut [u8]) -> io::Result<usize>
     Err(io::Error::from(ErrorKind::Interrupted))
 }
 
-/// Moves a file to another path, in place of what is there, and answers whether there is one to move.
-pub fn rename(rt: &impl Files, from: &str, to: &str) -> io::Result<bool> {
+/// Moves a file to another path, in place of what is there, a link too, and answers whether there is one to move.
+pub fn rename(rt: &impl Files, from: &str, from_partial: bool, to: &str) -> io::Result<bool> {
     find_plain(rt, to)?;
-    let found = find_plain(rt, from)?;
+    let found = find_file(rt, from, from_partial)?;
     if found.is_some() {
         fs::rename(rt, from, to)?;
     }
     Ok(found.is_some())
 }
 
-/// Removes a file, and answers whether there was one.
+/// Removes a file or a link, and answers whether there was one. A folder there is an error, and so is all else.
 pub fn remove(rt: &impl Files, path: &str) -> io::Result<bool> {
-    let found = find_plain(rt, path)?;
-    if found.is_some() {
-        fs::remove_file(rt, path)?;
+    let Some(found) = find(rt, path)? else {
+        return Ok(false);
+    };
+    if !found.is_symlink() {
+        plain_length(&found)?;
     }
-    Ok(found.is_some())
+    fs::remove_file(rt, path)?;
+    Ok(true)
 }
 
-/// Opens the file at a path to write, an absent one being made first.
-fn open_or_make(rt: &impl Files<File = File>, path: &str) -> io::Result<File> {
-    if let Some(made) = unless(ErrorKind::AlreadyExists, File::create_new(rt, path))? {
+/// Puts a new, empty file in place of what stands at a path, a link too. It is made at the path `fresh`, so that at no
+/// moment the path leads to nothing.
+pub fn replace(rt: &impl Files<File = File>, fresh: &str, path: &str) -> io::Result<()> {
+    remove(rt, fresh)?;
+    find_plain(rt, path)?;
+    File::create_new(rt, fresh)?;
+    fs::rename(rt, fresh, path)
+}
+
+/// Opens the file at a path that is to be locked, an absent one being made first.
+fn open_lock(rt: &impl Files<File = File>, path: &str) -> io::Result<File> {
+    let mut how = OpenOptions::new();
+    how.read(true);
+    how.write(true);
+    how.create_new(true);
+    how.mode(LOCK_FILE);
+    if let Some(made) = unless(ErrorKind::AlreadyExists, how.open(rt, path))? {
         return Ok(made);
     }
     match find_plain(rt, path)? {
         Some(found) => open_found(rt, path, node_of(&found), true),
-        None => Err(io::Error::from(ErrorKind::NotFound)),
+        None => Err(Error::from(ErrorKind::NotFound)),
     }
 }
 
-/// Locks the file at a path, which is made where it is missing, and answers it, or `None` where another opening of it is
-/// locked. The lock lasts as long as the file stays open.
+/// Locks the file at a path, which is made where it is missing, and answers it, or `None` where it is locked: by another
+/// opening of it, or by apt, whose lock is of this kind. The lock lasts as long as the file stays open.
 pub fn lock(rt: &impl Files<File = File>, path: &str) -> io::Result<Option<File>> {
-    let file = open_or_make(rt, path)?;
-    match file.try_lock() {
-        Ok(()) => Ok(Some(file)),
-        Err(TryLockError::WouldBlock) => Ok(None),
-        Err(TryLockError::Error(error)) => Err(error),
+    let file = open_lock(rt, path)?;
+    if file.metadata()?.mode() & EVERYBODY != 0 {
+        // Who may read it could keep it locked. Only its owner may mend that, who need not be this user.
+        let _mended = file.set_permissions(Permissions::from_mode(LOCK_FILE));
+    }
+    let locked = unless(ErrorKind::WouldBlock, lock_whole(&file))?;
+    Ok(locked.map(|_| file))
+}
+
+/// Takes the lock of a whole file for this opening of it.
+fn lock_whole(file: &File) -> io::Result<()> {
+    if os::try_lock_range(file.as_raw_fd(), RangeLock::Exclusive, 0, WHOLE_FILE) == 0 {
+        Ok(())
+    } else {
+        Err(Error::from_raw_os_error(os::errno()))
     }
 }
 
@@ -181,10 +257,10 @@ fn add_entries<R: Files<File = File> + AllocGlobal + Clone + Drop>(
     Ok(())
 }
 
-/// Whether an entry is a plain file. One that is gone meanwhile is none.
+/// Whether an entry is a plain file or a link. One that is gone meanwhile is none.
 fn is_plain(found: io::Result<Metadata>) -> io::Result<bool> {
     match unless(ErrorKind::NotFound, found)? {
-        Some(found) => Ok(found.is_file()),
+        Some(found) => Ok(found.is_file() || found.is_symlink()),
         None => Ok(false),
     }
 }

@@ -5,24 +5,25 @@
 //! rises just where a call answers a fault, that the disk takes no name that may lead out of its folder, and what is
 //! made of the values that the system answers: which entries are listed, which errors count, which moment a time is.
 //!
-//! Proved: no crash, a count that rises just where a call answers a fault; a name that leads out of the disk's
-//! folder is a fault that counts and is never listed, and the disk keeps the folder that it is given (`inside`,
-//! `folder`); names are sorted and each once (`sorted`), exactly the plain files whose names the calls take
-//! (`listing`, over the entries that the system gives); a file that stayed open is handed out only for the path
-//! that was noted with it (`path` of `serving`), what the disk opens for a name is noted with that name's path
-//! (`path` of `open`, `open_or_make`), and behind a call that moved, replaced or removed a file none that is noted
-//! with their paths is kept (`closed` of `move_one`, `remove_one`); what an error of the system means, seconds of a
-//! time and a line put on any output are functions with clauses of their own; an answer of the system is a fault
-//! just where it is an error (`ok` of `counted`); a read of an input takes from its reader, where that one's bytes
-//! are known, those that it gives and no other, and none where it fails (`bytes` of the input's `read`), and a count
-//! rises where it gives the end and nowhere else (`frame`); a file to be written is opened so
-//! that it is made or emptied at 0 alone, keeps the places that are named and may be there before (`makes`,
-//! `empties`, `in_place`, `takes_present` of `way_to_write`); objects begin with no fault, no end given and no moment
-//! given. Only tested: what calls do to a folder, links in each place among them, that each call works on what it
-//! opened for its own name, that written files have their bytes at the places that were named, that a second disk on
-//! one folder is `Held`, that a file is read as an input, and that the output takes a line. That the standard input
-//! is read is not tested, nor that what is synced lasts. A `partial` replaced by a link between two looks at it isn't
-//! seen, nor is what another process puts in place of a file that is open.
+//! Proved: no crash, a count that rises just where a call answers a fault; a name that leads out of the disk's folder
+//! is a fault that counts and is never listed, and the disk keeps the folder that it is given (`inside`, `folder`);
+//! names are sorted and each once (`sorted`), exactly the plain files and links whose names the calls take and have no
+//! control character (`listing`, over the entries that the system gives); which files are this user's alone is a
+//! function of what the system says of them (`is_private_file`); a file that stayed open is handed out only for the
+//! path that was noted with it (`path` of `serving`), what the disk opens for a name is noted with that name's path
+//! (`path` of `open`, `open_or_make`), and behind a call that moved, replaced or removed a file none that is noted with
+//! their paths is kept (`closed` of `move_one`, `remove_one`); what an error of the system means, seconds of a time and
+//! a line put on any output are functions with clauses of their own; an answer of the system is a fault just where it
+//! is an error (`ok` of `counted`); a read of an input takes from its reader, where that one's bytes are known, those
+//! that it gives and no other, and none where it fails (`bytes` of the input's `read`), and a count rises where it
+//! gives the end and nowhere else (`frame`); a file to be written is opened so that it is made or emptied at 0 alone,
+//! keeps the places that are named and may be there before (`makes`, `empties`, `in_place`, `takes_present` of
+//! `way_to_write`); objects begin with no fault, no end given and no moment given. Only tested: what calls do to a
+//! folder, links in each place among them, that each call works on what it opened for its own name, that written files
+//! have their bytes at the places that were named, that a second disk on one folder is `Held`, that `partial` is taken
+//! over and a file of another user in it isn't used, that a file is read as an input, and that the output takes a line.
+//! That the standard input is read is not tested, nor that what is synced lasts. A `partial` replaced by a link between
+//! two looks at it isn't seen, nor is what another process puts in place of a file that is open.
 #![tactic(auto)]
 
 pub use clock::RealClock;
@@ -43,6 +44,7 @@ mod folder;
 mod inlet;
 mod listing;
 mod opened;
+mod ownership;
 mod path;
 mod sink;
 mod tree;

@@ -7,7 +7,7 @@ ghost use Rattle.acq_outside.specs.Disk.{IsName};
 ghost use Rattle.acq_real.specs.Folder.{IsInside};
 ghost use Rattle.acq_real.specs.Listing.{Keeps, listed_name, plain_names};
 
-use crate::path::{PARTIAL, is_taken};
+use crate::path::{PARTIAL, is_listed};
 use acq_base::{NoMemory, Row, Text, TryCopy};
 use std::alloc::Global;
 
@@ -21,12 +21,12 @@ pub struct Entry {
     pub is_partial: bool,
     /// Its name in its folder.
     pub name: Text,
-    /// Whether it is a plain file: no folder, link, pipe, socket or device.
+    /// Whether it is a plain file or a link: no folder, pipe, socket or device.
     pub is_plain: bool,
 }
 
-/// The names of the plain files among these entries, as the disk's calls take them: each once, sorted by bytes. Where
-/// there are 2^31 or more it answers `NoMemory`.
+/// The names of the plain files and links among these entries, as the disk's calls take them: each once, sorted by bytes.
+/// One with a control character is passed over. Where there are 2^31 or more it answers `NoMemory`.
 pub fn list(alloc: Global, entries: &[Entry]) -> Result<Row<Text>, NoMemory>
     ensures listing { IfOk result (λ names. Keeps (plain_names entries.now) names) }
     ensures sorted { IfOk result (AllPairs (λ a b. slice_cmp nat_cmp a b ≡ Less)) }
@@ -44,7 +44,7 @@ pub fn list(alloc: Global, entries: &[Entry]) -> Result<Row<Text>, NoMemory>
     Ok(Row::from(names))
 }
 
-/// The names of the plain files.
+/// The names of the plain files and links.
 fn list_plain(alloc: Global, entries: &[Entry]) -> Result<Vec<Text>, NoMemory>
     ensures { IfOk result (λ names. names.items ≡ plain_names entries.now) }
 {
@@ -70,13 +70,13 @@ fn name_of(alloc: Global, entry: &Entry) -> Result<Text, NoMemory>
     }
 }
 
-/// Those of some names that the disk's calls take.
+/// Those of some names that are listed.
 fn keep_taken(alloc: Global, names: &[Text]) -> Result<Vec<Text>, NoMemory>
     ensures { IfOk result (λ kept. Keeps names.now kept.items) }
 {
     let mut kept = Vec::new(alloc);
     for name in names {
-        if is_taken(name.as_bytes()) {
+        if is_listed(name.as_bytes()) {
             kept.push(name.copy(alloc)?)?;
         }
     }

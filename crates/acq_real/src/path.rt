@@ -1,8 +1,8 @@
 //! Which names a real disk takes, and where their files lie. It touches nothing.
 ghost use Rattle.std.specs.Prelude.{◌≡◌, ◌⊎◌, ◌↔◌, [], codes, Contains, string_bytes, IfOk, IfErr, IsTrue, IsUtf8};
 ghost use Rattle.std.specs.IoError.{error_kind};
-ghost use Rattle.acq_outside.specs.Disk.{IsName};
 ghost use Rattle.acq_real.specs.Folder.{IsInside, IsSegment, IsPathInside};
+ghost use Rattle.acq_real.specs.Listing.{IsTaken, is_printable};
 
 use acq_outside::is_name;
 use std::alloc::Global;
@@ -28,11 +28,18 @@ pub fn path_of(alloc: Global, folder: &str, name: &[u8]) -> io::Result<String>
     }
 }
 
-/// Whether the calls of a real disk take a name.
-pub fn is_taken(name: &[u8]) -> bool
-    ensures { IsTrue result ↔ (IsName name.now × IsInside name.now) }
+/// Whether a real disk lists a file of this name: its calls take the name, and no control character stands in it.
+pub fn is_listed(name: &[u8]) -> bool
+    ensures { IsTrue result ↔ IsTaken name.now }
 {
-    is_name(name) && is_inside(name)
+    is_name(name) && is_inside(name) && is_printable(name)
+}
+
+/// Whether no control character of ASCII stands in a name.
+fn is_printable(name: &[u8]) -> bool
+    ensures { result ≡ is_printable name.now }
+{
+    name.iter().all(|byte| !byte.is_ascii_control())
 }
 
 /// Whether a name is one segment, or one behind `partial/`.

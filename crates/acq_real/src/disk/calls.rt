@@ -20,6 +20,9 @@ use std::rt::Files;
 /// The file whose lock holds the folder. It is made where it is missing, and never removed.
 const LOCK: &[u8] = b"lock";
 
+/// Where a file is made that takes the place of another. No list has this name.
+const FRESH: &[u8] = b"partial/.fresh";
+
 impl<R: Files<File = File> + AllocGlobal + Clone + Drop> RealDisk<R> {
     /// The path of a file, once the folders are made.
     fn path(&mut self, name: &[u8]) -> io::Result<String>
@@ -50,7 +53,7 @@ impl<R: Files<File = File> + AllocGlobal + Clone + Drop> RealDisk<R> {
         if let Some(open) = serving(kept, path.as_str(), to_write) {
             return Ok(Some(open));
         }
-        match folder::find_plain(&self.rt, path.as_str())? {
+        match folder::find_file(&self.rt, path.as_str(), is_partial(name))? {
             Some(found) => Ok(Some(open_file(&self.rt, path, node_of(&found), to_write)?)),
             None => {
                 self.check(name)?;
@@ -73,6 +76,29 @@ impl<R: Files<File = File> + AllocGlobal + Clone + Drop> RealDisk<R> {
         if let Some(made) = unless(ErrorKind::AlreadyExists, create(&self.rt, path))? {
             return Ok(made);
         }
+        match self.open(name, true)? {
+            Some(open) => Ok(open),
+            // A link, or in `partial` somebody else's file, is none.
+            None => self.make_anew(name),
+        }
+    }
+
+    /// Puts a new, empty file in place of what stands under a name, and opens it. Whoever has the former one open writes
+    /// into no file of this disk any more.
+    fn make_anew(&mut self, name: &[u8]) -> io::Result<OpenFile>
+        ensures same { IsSame self.old self.new }
+        ensures inside { OnOk result (IsInside name.now) }
+        ensures path { IfOk result (λ opened. IsPathInside (folder_of self.old) name.now (opened_by opened)) }
+    {
+        let absent = self.path(name)?;
+        self.kept.forget(absent.as_str());
+        if let Some(made) = unless(ErrorKind::AlreadyExists, create(&self.rt, absent))? {
+            return Ok(made);
+        }
+        let path = self.path(name)?;
+        let fresh = self.path(FRESH)?;
+        folder::replace(&self.rt, fresh.as_str(), path.as_str())?;
+        self.sync_all()?;
         match self.open(name, true)? {
             Some(open) => Ok(open),
             // Another process removed it.
@@ -116,7 +142,7 @@ impl<R: Files<File = File> + AllocGlobal + Clone + Drop> RealDisk<R> {
         ensures inside { OnOk result (IsInside name.now) }
     {
         let path = self.path(name)?;
-        let length = folder::length(&self.rt, path.as_str())?;
+        let length = folder::length(&self.rt, path.as_str(), is_partial(name))?;
         if length.is_none() {
             self.check(name)?;
         }
@@ -148,12 +174,16 @@ impl<R: Files<File = File> + AllocGlobal + Clone + Drop> RealDisk<R> {
         Ok(())
     }
 
-    /// An absent file is made first.
+    /// An absent file is made first. One that is to be empty is made anew, whoever made the former one.
     pub(super) fn shorten(&mut self, name: &[u8], len: u64) -> io::Result<()>
         ensures same { IsSame self.old self.new }
         ensures inside { OnOk result (IsInside name.now) }
     {
-        let open = self.open_or_make(name)?;
+        let open = if len == 0 {
+            self.make_anew(name)?
+        } else {
+            self.open_or_make(name)?
+        };
         open.file.set_len(len)?;
         self.kept.keep(is_partial(name), open);
         Ok(())
@@ -192,7 +222,13 @@ impl<R: Files<File = File> + AllocGlobal + Clone + Drop> RealDisk<R> {
         let to_path = self.path(to)?;
         self.kept.forget(from_path.as_str());
         self.kept.forget(to_path.as_str());
-        if !folder::rename(&self.rt, from_path.as_str(), to_path.as_str())? {
+        let moved = folder::rename(
+            &self.rt,
+            from_path.as_str(),
+            is_partial(from),
+            to_path.as_str(),
+        )?;
+        if !moved {
             self.check(from)?;
         }
         Ok(())
