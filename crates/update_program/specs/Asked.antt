@@ -46,6 +46,10 @@ abbrev pub RefusesConfiguration : Option EtcFiles → List (List ℕ) → ℕ �
 RefusesConfiguration told options status =
     IsSomeAnd told (λ files. (refusal : ConfigurationError) × (configured (folder_of files) options ≡ Err refusal)) ⊎ (status ≡ 106)
 
+-- this holds, where the configuration was refused with this status
+abbrev pub WhereRefused : Option EtcFiles → ℕ → Type 0 → Options → Type 0
+WhereRefused told status fact options = RefusesConfiguration told options.pairs status → fact
+
 abbrev pub run_for : Configured → ℤ → Bool → Run
 run_for it now together = run_of it.plan it.settings it.change now together
 

@@ -3,7 +3,7 @@
 ghost use Rattle.std.specs.Prelude.{◌≡◌, ◌≢◌, ◌≤◌, vec_len, IfNone, IsSome};
 ghost use Rattle.acq_outside.specs.Count.{Rose};
 ghost use Rattle.update_engine.specs.Run.{KeepsMethods, engine};
-ghost use Rattle.update_program.specs.Asked.{IfGenerate, IfNoUpdate, IfUpdate, RefusesConfiguration, asked};
+ghost use Rattle.update_program.specs.Asked.{IfGenerate, IfNoUpdate, IfUpdate, WhereRefused, asked};
 ghost use Rattle.update_program.specs.Ending.{EndsUpdate, LeavesDiskAndClock, MakesNoRun, RefusesWords};
 ghost use Rattle.update_program.specs.Generated.{IsGenerated};
 ghost use Rattle.update_program.specs.Headline.{Headline};
@@ -68,8 +68,7 @@ pub fn update_call<
     ensures no_run { IfNoUpdate (asked words.now) (MakesNoRun (span D.Disk M.Method S.Sink disk.old disk.new methods.old methods.new out.old out.new) result) }
     ensures untouched { IfNoUpdate (asked words.now) ((D.faults disk.new ≡ D.faults disk.old) × (D.held disk.new ≡ D.held disk.old)) }
     ensures unread { IfNoUpdate (asked words.now) ((E.faults etc.new ≡ E.faults etc.old) × (C.given clock.new ≡ C.given clock.old)) }
-    ensures unconfigured { IfUpdate (asked words.now) (λ options. RefusesConfiguration (E.files etc.old) options.pairs result.status.0
-        → LeavesDiskAndClock D.Disk C.Clock disk.old disk.new clock.old clock.new) }
+    ensures unconfigured { IfUpdate (asked words.now) (WhereRefused (E.files etc.old) result.status.0 (LeavesDiskAndClock D.Disk C.Clock disk.old disk.new clock.old clock.new)) }
     ensures generated { IfGenerate (asked words.now) (λ number. IsGenerated number (output S.Sink out.old) (output S.Sink out.new) result.status.0) }
     ensures ended { IfUpdate (asked words.now) (EndsUpdate (E.files etc.old) (C.last clock.new) (span D.Disk M.Method S.Sink disk.old disk.new methods.old methods.new out.old out.new) result) }
 
