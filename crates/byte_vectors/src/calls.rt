@@ -1,54 +1,65 @@
 //! Which call a line is.
 
 use crate::{command, control, frames, indexes, mirrors, queues, scripts, started, sums, texts};
-use case_words::{Refused, text, words_of};
+use acq_base::sum_of;
+use case_words::{Page, Refused, text, views_of, words_of};
 use std::alloc::Global;
 
 /// What the call of a line answers.
 pub fn answer(alloc: Global, line: &str) -> Result<Option<String>, Refused> {
+    let mut page = Page::new(alloc);
+    put_answer(alloc, &mut page, line)?;
+    Ok(Some(page.finish()?))
+}
+
+fn put_answer(alloc: Global, page: &mut Page, line: &str) -> Result<(), Refused> {
     let words = words_of(alloc, line.as_bytes())?;
-    let mut views: Vec<&[u8]> = Vec::new(alloc);
-    for word in &words {
-        views.push(word.as_bytes())?;
-    }
-    let Some((first, rest)) = views.as_slice().split_first() else {
-        return Err(Refused::NoCall);
-    };
-    Ok(Some(answered(alloc, text(first)?, rest)?))
-}
-
-fn answered(alloc: Global, name: &str, rest: &[&[u8]]) -> Result<String, Refused> {
-    match (name, rest) {
-        ("control", [text]) => control::counted(alloc, text),
-        ("control-field", [text, name]) => control::field(alloc, text, name),
-        ("control-again", [text]) => control::again(alloc, text),
-        ("control-writable", fields) => control::can_be_written(alloc, fields),
-        ("frame", [text]) => frames::within(alloc, text),
-        ("command", words) => command::asked(alloc, words),
-        ("start", words) => started::started(alloc, words),
-        ("place", words) => started::place(alloc, words),
-        ("without-memory", []) => started::without_memory(alloc),
-        _ => answered_below(alloc, name, rest),
+    let views = views_of(alloc, words.as_slice())?;
+    match views.as_slice() {
+        [name, rest @ ..] => put_called(alloc, page, text(name)?, rest),
+        [] => Err(Refused::NoCall),
     }
 }
 
-fn answered_below(alloc: Global, name: &str, rest: &[&[u8]]) -> Result<String, Refused> {
+fn put_called(alloc: Global, page: &mut Page, name: &str, rest: &[&[u8]]) -> Result<(), Refused> {
     match (name, rest) {
-        ("sum", [hash, size]) => texts::sum(alloc, hash, size),
-        ("digits", [text]) => texts::digits(alloc, text),
-        ("trim", [text]) => texts::trimmed(alloc, text),
-        ("split", [text]) => texts::split(alloc, text),
-        ("joined", parts) => texts::joined(alloc, parts),
-        ("sum-of", [text]) => sums::of_text(alloc, text),
-        ("verdict", [digest, size, file]) => sums::verdict(alloc, digest, size, file),
-        ("total", [file]) => sums::total(alloc, file),
-        ("queues", [lanes, calls @ ..]) => queues::answers(alloc, lanes, calls),
-        ("index", [text]) => indexes::read(alloc, text),
-        ("chain", words) => indexes::patches(alloc, words),
-        ("script", [text]) => scripts::read(alloc, text),
-        ("apply", [old, script]) => scripts::applied(alloc, old, script),
-        ("edit", [old, texts @ ..]) => scripts::edited(alloc, old, texts),
-        ("mirror", [n]) => mirrors::made(alloc, n),
-        _ => Err(Refused::NoCall),
+        ("control", [text]) => control::put_counted(alloc, page, text),
+        ("control-field", [text, name]) => control::put_found(alloc, page, text, name)?,
+        ("control-again", [text]) => control::put_again(alloc, page, text)?,
+        ("control-writable", fields) => control::put_writable(alloc, page, fields)?,
+        ("frame", [text]) => frames::put_within(alloc, page, text),
+        ("command", words) => command::put_asked(alloc, page, words)?,
+        ("start", words) => started::put_started(alloc, page, words)?,
+        ("place", words) => started::put_place(alloc, page, words)?,
+        ("without-memory", []) => started::put_without_memory(page),
+        ("index", [text]) => indexes::put_read(alloc, page, text),
+        ("chain", words) => indexes::put_chain(alloc, page, words)?,
+        _ => return put_called_below(alloc, page, name, rest),
     }
+    Ok(())
+}
+
+fn put_called_below(
+    alloc: Global,
+    page: &mut Page,
+    name: &str,
+    rest: &[&[u8]],
+) -> Result<(), Refused> {
+    match (name, rest) {
+        ("sum", [hash, size]) => texts::put_size(page, hash, size),
+        ("digits", [text]) => texts::put_digits(page, text),
+        ("trim", [text]) => texts::put_trimmed(page, text),
+        ("split", [text]) => texts::put_split(alloc, page, text)?,
+        ("joined", parts) => texts::put_joined(alloc, page, parts)?,
+        ("sum-of", [text]) => page.put_sum(&sum_of(text)),
+        ("verdict", [digest, size, file]) => sums::put_verdicts(page, digest, size, file)?,
+        ("total", [file]) => sums::put_total(page, file),
+        ("queues", [lanes, calls @ ..]) => queues::put_answers(alloc, page, lanes, calls)?,
+        ("script", [text]) => scripts::put_read(alloc, page, text),
+        ("apply", [old, script]) => scripts::put_applied(alloc, page, old, script)?,
+        ("edit", [old, texts @ ..]) => scripts::put_edited(alloc, page, old, texts)?,
+        ("mirror", [n]) => mirrors::put_made(alloc, page, n)?,
+        _ => return Err(Refused::NoCall),
+    }
+    Ok(())
 }

@@ -1,43 +1,53 @@
 //! The words of a command line.
 
-use case_words::{Refused, put_name, text};
+use case_words::{Page, Refused, text};
 use command_words::{Options, Request, Side, read_side, read_words};
 use std::alloc::Global;
-use std::fmt::Write;
 
-/// What words ask for: of `update` the pairs, each in brackets, and a `+` for `--together`; of `generate` the number; and
-/// of other commands their words as they were read.
-pub fn asked(alloc: Global, words: &[&[u8]]) -> Result<String, Refused> {
-    let mut given = Vec::new(alloc);
-    for word in words {
-        given.push(String::from_str(alloc, text(word)?)?)?;
-    }
-    let mut out = String::new(alloc);
-    match read_words(alloc, given.as_slice())? {
-        Some(Request::Update(options)) => put_options(alloc, &mut out, &options)?,
-        Some(Request::Generate(number)) => write!(out, "generate {number}")?,
-        None => put_side(alloc, &mut out, given.as_slice())?,
-    }
-    Ok(out)
+/// Appends what words ask for: of `update` the pairs, each in brackets, and a `+` for `--together`; of `generate` the number;
+/// and of other commands their words as they were read.
+pub fn put_asked(alloc: Global, page: &mut Page, words: &[&[u8]]) -> Result<(), Refused> {
+    let given = strings_of(alloc, words)?;
+    put_request(alloc, page, given.as_slice())
 }
 
-fn put_options(alloc: Global, out: &mut String, options: &Options) -> Result<(), Refused> {
-    out.push_str("update ")?;
-    for pair in options.pairs.as_slice() {
-        out.push('[')?;
-        put_name(alloc, out, pair.as_bytes())?;
-        out.push(']')?;
+fn strings_of(alloc: Global, words: &[&[u8]]) -> Result<Vec<String>, Refused> {
+    let mut strings = Vec::new(alloc);
+    for word in words {
+        strings.push(String::from_str(alloc, text(word)?)?)?;
     }
-    if options.together {
-        out.push('+')?;
+    Ok(strings)
+}
+
+fn put_request(alloc: Global, page: &mut Page, words: &[String]) -> Result<(), Refused> {
+    match read_words(alloc, words)? {
+        Some(Request::Update(options)) => put_options(page, &options),
+        Some(Request::Generate(number)) => page.show(format_args!("generate {number}")),
+        None => put_side(page, read_side(alloc, words)?),
     }
     Ok(())
 }
 
-fn put_side(alloc: Global, out: &mut String, words: &[String]) -> Result<(), Refused> {
-    match read_side(alloc, words)? {
-        Some(Side::Method { http: false }) => out.push_str("method file")?,
-        Some(Side::Method { http: true }) => out.push_str("method http")?,
+fn put_options(page: &mut Page, options: &Options) {
+    page.put("update ");
+    for pair in options.pairs.as_slice() {
+        put_bracketed(page, pair.as_bytes());
+    }
+    if options.together {
+        page.put("+");
+    }
+}
+
+fn put_bracketed(page: &mut Page, word: &[u8]) {
+    page.put("[");
+    page.put_name(word);
+    page.put("]");
+}
+
+fn put_side(page: &mut Page, side: Option<Side>) {
+    match side {
+        Some(Side::Method { http: false }) => page.put("method file"),
+        Some(Side::Method { http: true }) => page.put("method http"),
         Some(
             Side::Serve {
                 root,
@@ -45,18 +55,15 @@ fn put_side(alloc: Global, out: &mut String, words: &[String]) -> Result<(), Ref
                 connections,
             },
         ) => {
-            out.push_str("serve ")?;
-            put_name(alloc, out, root.as_bytes())?;
-            write!(out, " {port} {connections}")?;
+            page.put("serve ");
+            page.put_name(root.as_bytes());
+            page.show(format_args!(" {port} {connections}"));
         }
         Some(Side::Download { name, version }) => {
-            out.push_str("download [")?;
-            put_name(alloc, out, name.as_bytes())?;
-            out.push_str("][")?;
-            put_name(alloc, out, version.as_bytes())?;
-            out.push(']')?;
+            page.put("download ");
+            put_bracketed(page, name.as_bytes());
+            put_bracketed(page, version.as_bytes());
         }
-        None => out.push_str("refused")?,
+        None => page.put("refused"),
     }
-    Ok(())
 }

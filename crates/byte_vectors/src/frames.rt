@@ -1,16 +1,14 @@
 //! The frame of a text that is signed in clear.
 
-use case_words::{Refused, put_refusal, put_text};
+use case_words::Page;
 use clear_text::unframe;
 use std::alloc::Global;
 
-/// The text within a frame.
-pub fn within(alloc: Global, text: &[u8]) -> Result<String, Refused> {
-    let mut out = String::new(alloc);
+/// Appends the text within a frame.
+pub fn put_within(alloc: Global, page: &mut Page, text: &[u8]) {
     match unframe(alloc, text) {
-        Ok(Some(within)) => put_text(alloc, &mut out, within.as_slice())?,
-        Ok(None) => out.push_str("no frame")?,
-        Err(refusal) => put_refusal(&mut out, &refusal)?,
+        Ok(Some(within)) => page.put_text(within.as_slice()),
+        Ok(None) => page.put("no frame"),
+        Err(refusal) => page.put_refusal(&refusal),
     }
-    Ok(out)
 }

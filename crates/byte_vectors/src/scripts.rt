@@ -1,62 +1,63 @@
 //! Edit scripts: read, and applied to files.
 
 use acq_base::Refusal;
-use case_words::{Refused, put_refusal, put_text};
+use case_words::{Page, Refused, readable};
 use ed_apply::{Edit, Script, apply, read_script};
 use std::alloc::Global;
-use std::fmt::Write;
 
-/// The hunks of a script: the lines that give way, the text that stands there instead, and the line of the command.
-pub fn read(alloc: Global, text: &[u8]) -> Result<String, Refused> {
-    let mut out = String::new(alloc);
+/// Appends the hunks of a script: the lines that give way, the text that stands there instead, and the line of the command.
+pub fn put_read(alloc: Global, page: &mut Page, text: &[u8]) {
     match read_script(alloc, text) {
-        Ok(script) => put_script(alloc, &mut out, &script)?,
-        Err(refusal) => put_refusal(&mut out, &refusal)?,
+        Ok(script) => put_script(page, &script),
+        Err(refusal) => page.put_refusal(&refusal),
     }
-    Ok(out)
 }
 
-fn put_script(alloc: Global, out: &mut String, script: &Script) -> Result<(), Refused> {
+fn put_script(page: &mut Page, script: &Script) {
     if script.hunks.is_empty() {
-        out.push_str("no hunk")?;
+        page.put("no hunk");
     }
     for hunk in script.hunks.as_slice() {
-        let (from, to, at) = (hunk.from, hunk.to, hunk.at);
-        write!(out, "{from} to {to} at {at} ")?;
-        put_text(alloc, out, hunk.text.as_slice())?;
-        out.push(';')?;
+        page.show(format_args!("{} to {} at {} ", hunk.from, hunk.to, hunk.at));
+        page.put_text(hunk.text.as_slice());
+        page.put(";");
+    }
+}
+
+/// Appends the file that a script makes of an old one.
+pub fn put_applied(
+    alloc: Global,
+    page: &mut Page,
+    old: &[u8],
+    script: &[u8],
+) -> Result<(), Refused> {
+    let script = readable(read_script(alloc, script))?;
+    match apply(alloc, old, &script) {
+        Ok(new) => page.put_text(new.as_slice()),
+        Err(refusal) => page.put_refusal(&refusal),
     }
     Ok(())
 }
 
-/// The file that a script makes of an old one.
-pub fn applied(alloc: Global, old: &[u8], script: &[u8]) -> Result<String, Refused> {
-    let script = read_script(alloc, script).map_err(|_| Refused::Unread)?;
-    let mut out = String::new(alloc);
-    match apply(alloc, old, &script) {
-        Ok(new) => put_text(alloc, &mut out, new.as_slice())?,
-        Err(refusal) => put_refusal(&mut out, &refusal)?,
-    }
-    Ok(out)
-}
-
-/// The file that scripts make of an old one, one after another, its size, and why the last of them is refused.
-pub fn edited(alloc: Global, old: &[u8], scripts: &[&[u8]]) -> Result<String, Refused> {
+/// Appends the file that scripts make of an old one, one after another, its size, and why the last of them is refused.
+pub fn put_edited(
+    alloc: Global,
+    page: &mut Page,
+    old: &[u8],
+    scripts: &[&[u8]],
+) -> Result<(), Refused> {
     let mut edit = Edit::whole(alloc, old)?;
     let mut line = 0;
     for text in scripts {
-        let script = read_script(alloc, text).map_err(|_| Refused::Unread)?;
-        line = match edit.then(alloc, script) {
+        line = match edit.then(alloc, readable(read_script(alloc, text))?) {
             Ok(()) => 0,
             Err(refusal) => refusal.line(),
         };
     }
-    let mut out = String::new(alloc);
-    put_text(alloc, &mut out, edit.copy_out(alloc, old)?.as_slice())?;
-    let size = edit.size();
-    write!(out, " {size} bytes")?;
+    page.put_text(edit.copy_out(alloc, old)?.as_slice());
+    page.show(format_args!(" {} bytes", edit.size()));
     if line != 0 {
-        write!(out, ", the last refused at {line}")?;
+        page.show(format_args!(", the last refused at {line}"));
     }
-    Ok(out)
+    Ok(())
 }

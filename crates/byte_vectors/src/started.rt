@@ -2,11 +2,10 @@
 ghost use Rattle.std.specs.Io.{WritesAtMost};
 
 use acq_base::{NoMemory, Text};
-use case_words::{Refused, put_refusal};
+use case_words::{Page, Refused};
 use start_values::{RealEnvironment, Refused as Unstarted, Start, read_place, read_start};
 use std::alloc::Global;
 use std::env::FillError;
-use std::fmt::Write;
 use std::rt::Env;
 
 /// A process that was started with these words and variables.
@@ -51,72 +50,79 @@ fn fill(bytes: &[u8], buf: &mut [u8]) -> Result<usize, FillError>
 /// A process that was started with these words, and behind a `+` with pairs of variables and values.
 fn process_of(alloc: Global, words: &[&[u8]]) -> Result<Given, Refused> {
     let mut parts = words.split(|word| *word == b"+".as_slice());
-    let mut given = Given {
-        words: Vec::new(alloc),
-        variables: Vec::new(alloc),
+    let words = words_of(alloc, parts.next().unwrap_or(&[]))?;
+    let variables = variables_of(alloc, parts.next().unwrap_or(&[]))?;
+    Ok(Given { words, variables })
+}
+
+fn words_of(alloc: Global, words: &[&[u8]]) -> Result<Vec<Text>, Refused> {
+    let mut texts = Vec::new(alloc);
+    for word in words {
+        texts.push(Text::from_bytes(alloc, word)?)?;
+    }
+    Ok(texts)
+}
+
+fn variables_of(alloc: Global, words: &[&[u8]]) -> Result<Vec<(Text, Text)>, Refused> {
+    let mut variables = Vec::new(alloc);
+    for pair in words.chunks(2) {
+        variables.push(variable_of(alloc, pair)?)?;
+    }
+    Ok(variables)
+}
+
+fn variable_of(alloc: Global, pair: &[&[u8]]) -> Result<(Text, Text), Refused> {
+    let [name, value] = pair else {
+        return Err(Refused::NoCall);
     };
-    for word in parts.next().unwrap_or(&[]) {
-        given.words.push(Text::from_bytes(alloc, word)?)?;
-    }
-    for pair in parts.next().unwrap_or(&[]).chunks(2) {
-        let [name, value] = pair else {
-            return Err(Refused::NoCall);
-        };
-        let name = Text::from_bytes(alloc, name)?;
-        let value = Text::from_bytes(alloc, value)?;
-        given.variables.push((name, value))?;
-    }
-    Ok(given)
+    let name = Text::from_bytes(alloc, name)?;
+    let value = Text::from_bytes(alloc, value)?;
+    Ok((name, value))
 }
 
-/// What a program goes by that was started so.
-pub fn started(alloc: Global, words: &[&[u8]]) -> Result<String, Refused> {
+/// Appends what a program goes by that was started so.
+pub fn put_started(alloc: Global, page: &mut Page, words: &[&[u8]]) -> Result<(), Refused> {
     let environment = RealEnvironment::new((process_of(alloc, words)?, alloc));
-    let mut out = String::new(alloc);
     match read_start(alloc, &environment) {
-        Ok(start) => put_start(&mut out, &start)?,
-        Err(refused) => put_unstarted(&mut out, refused)?,
+        Ok(start) => put_start(page, &start),
+        Err(refused) => put_unstarted(page, refused),
     }
-    Ok(out)
+    Ok(())
 }
 
-/// The folder for package files of a program that was started so.
-pub fn place(alloc: Global, words: &[&[u8]]) -> Result<String, Refused> {
+/// Appends the folder for package files of a program that was started so.
+pub fn put_place(alloc: Global, page: &mut Page, words: &[&[u8]]) -> Result<(), Refused> {
     let environment = RealEnvironment::new((process_of(alloc, words)?, alloc));
     match read_place(alloc, &environment) {
-        Ok(place) => Ok(place),
-        Err(refused) => {
-            let mut out = String::new(alloc);
-            put_unstarted(&mut out, refused)?;
-            Ok(out)
-        }
+        Ok(place) => page.put(place.as_str()),
+        Err(refused) => put_unstarted(page, refused),
     }
+    Ok(())
 }
 
-fn put_start(out: &mut String, start: &Start) -> Result<(), Refused> {
+fn put_start(page: &mut Page, start: &Start) {
     for word in &start.words {
-        out.push_str(word.as_str())?;
-        out.push(' ')?;
+        page.put(word.as_str());
+        page.put(" ");
     }
     let etc = start.etc.as_str();
     let lists = start.lists.as_str();
     let lanes = start.lanes;
-    write!(out, "| {etc} {lists} {lanes}")?;
-    Ok(())
+    page.show(format_args!("| {etc} {lists} {lanes}"));
 }
 
-fn put_unstarted(out: &mut String, refused: Unstarted) -> Result<(), Refused> {
+fn put_unstarted(page: &mut Page, refused: Unstarted) {
     let status = refused.status();
     let line = refused.line().trim_end();
-    write!(out, "status {status}, {line}")?;
-    Ok(())
+    page.show(format_args!("status {status}, {line}"));
 }
 
-/// How want of memory is told: by a refusal's number and line and in words, and at the end of a program that can't start.
-pub fn without_memory(alloc: Global) -> Result<String, Refused> {
-    let mut out = String::new(alloc);
-    put_refusal(&mut out, &NoMemory)?;
-    write!(out, ": {}; ", NoMemory)?;
-    put_unstarted(&mut out, Unstarted::NoMemory)?;
-    Ok(out)
+/// Appends how want of memory is told: by a refusal's number and line and in words, and at the end of a program that can't
+/// start.
+pub fn put_without_memory(page: &mut Page) {
+    page.put_refusal(&NoMemory);
+    page.put(": ");
+    page.show(NoMemory);
+    page.put("; ");
+    put_unstarted(page, Unstarted::NoMemory);
 }

@@ -1,90 +1,84 @@
 //! Texts, rows and numbers of the shared types.
 
 use acq_base::{
-    Row, SumError, Text, is_blank, listed_words, read_digits, read_sum, trim_blanks,
-    trim_blanks_end, trim_blanks_start, words,
+    Bytes, Row, Text, is_blank, listed_words, read_digits, read_sum, trim_blanks, trim_blanks_end,
+    trim_blanks_start, words,
 };
-use case_words::{Refused, put_refusal, put_text, yes_or_no};
+use case_words::{Page, Refused, yes_or_no};
 use std::alloc::Global;
-use std::fmt::Write;
 
-/// The size that a hash and a size give.
-pub fn sum(alloc: Global, hash: &[u8], size: &[u8]) -> Result<String, Refused> {
-    let mut out = String::new(alloc);
+/// Appends the size that a hash and a size give.
+pub fn put_size(page: &mut Page, hash: &[u8], size: &[u8]) {
     match read_sum(hash, size) {
-        Ok(sum) => {
-            let size = sum.size;
-            write!(out, "size {size}")?;
+        Ok(sum) => page.show(format_args!("size {}", sum.size)),
+        Err(refusal) => {
+            page.put_refusal(&refusal);
+            page.put(": ");
+            page.show(refusal);
         }
-        Err(refusal) => put_named(&mut out, refusal)?,
     }
-    Ok(out)
 }
 
-fn put_named(out: &mut String, refusal: SumError) -> Result<(), Refused> {
-    put_refusal(out, &refusal)?;
-    write!(out, ": {refusal}")?;
-    Ok(())
-}
-
-/// The number that digits write.
-pub fn digits(alloc: Global, digits: &[u8]) -> Result<String, Refused> {
-    let mut out = String::new(alloc);
+/// Appends the number that digits write.
+pub fn put_digits(page: &mut Page, digits: &[u8]) {
     match read_digits(digits) {
-        Some(number) => write!(out, "{number}")?,
-        None => out.push_str("none")?,
+        Some(number) => page.show(number),
+        None => page.put("none"),
     }
-    Ok(out)
 }
 
-/// A text without the blanks at both ends, at its end and at its front, and whether it begins with a blank.
-pub fn trimmed(alloc: Global, text: &[u8]) -> Result<String, Refused> {
-    let mut out = String::new(alloc);
-    put_text(alloc, &mut out, trim_blanks(text))?;
-    out.push(' ')?;
-    put_text(alloc, &mut out, trim_blanks_end(text))?;
-    out.push(' ')?;
-    put_text(alloc, &mut out, trim_blanks_start(text))?;
-    if let Some(first) = text.first() {
-        write!(out, " {}", yes_or_no(is_blank(*first)))?;
+/// Appends a text without the blanks at both ends, at its end and at its front, and whether it begins with a blank.
+pub fn put_trimmed(page: &mut Page, text: &[u8]) {
+    page.put_text(trim_blanks(text));
+    page.put(" ");
+    page.put_text(trim_blanks_end(text));
+    page.put(" ");
+    page.put_text(trim_blanks_start(text));
+    if let [first, ..] = text {
+        page.put(" ");
+        page.put(yes_or_no(is_blank(*first)));
     }
-    Ok(out)
 }
 
-/// The words of a text between blanks, and between blanks and commas.
-pub fn split(alloc: Global, text: &[u8]) -> Result<String, Refused> {
-    let mut out = String::new(alloc);
-    put_texts(alloc, &mut out, &words(alloc, text)?)?;
-    out.push_str("; ")?;
-    put_texts(alloc, &mut out, &listed_words(alloc, text)?)?;
-    Ok(out)
-}
-
-fn put_texts(alloc: Global, out: &mut String, texts: &Row<Text>) -> Result<(), Refused> {
-    let count = texts.len();
-    write!(out, "{count}")?;
-    for text in texts.as_slice() {
-        out.push(' ')?;
-        put_text(alloc, out, text.as_bytes())?;
-    }
+/// Appends the words of a text between blanks, and between blanks and commas.
+pub fn put_split(alloc: Global, page: &mut Page, text: &[u8]) -> Result<(), Refused> {
+    put_texts(page, &words(alloc, text)?);
+    page.put("; ");
+    put_texts(page, &listed_words(alloc, text)?);
     Ok(())
 }
 
-/// Texts behind one another: all but the last by what a text does, and the last by what bytes do.
-pub fn joined(alloc: Global, texts: &[&[u8]]) -> Result<String, Refused> {
+fn put_texts(page: &mut Page, texts: &Row<Text>) {
+    page.show(texts.len());
+    for text in texts.as_slice() {
+        page.put(" ");
+        page.put_text(text.as_bytes());
+    }
+}
+
+/// Appends texts behind one another: all but the last by what a text does, and the last by what bytes do.
+pub fn put_joined(alloc: Global, page: &mut Page, texts: &[&[u8]]) -> Result<(), Refused> {
     let [first, middle @ .., last] = texts else {
         return Err(Refused::NoCall);
     };
+    let text = joined(alloc, first, middle)?;
+    let length = text.len();
+    let mut bytes = text.into_bytes();
+    bytes.append(last)?;
+    put_bytes(page, bytes, length);
+    Ok(())
+}
+
+fn joined(alloc: Global, first: &[u8], middle: &[&[u8]]) -> Result<Text, Refused> {
     let mut text = Text::from(Vec::from_slice(alloc, first)?);
     for more in middle {
         text.append(more)?;
     }
-    let length = text.len();
-    let mut bytes = text.into_bytes();
-    bytes.append(last)?;
-    let empty = bytes.is_empty();
-    let mut out = String::new(alloc);
-    put_text(alloc, &mut out, bytes.into_vec().as_slice())?;
-    write!(out, ", {length} of a text; empty {}", yes_or_no(empty))?;
-    Ok(out)
+    Ok(text)
+}
+
+fn put_bytes(page: &mut Page, bytes: Bytes, length: usize) {
+    let empty = yes_or_no(bytes.is_empty());
+    page.put_text(bytes.into_vec().as_slice());
+    page.show(format_args!(", {length} of a text; empty {empty}"));
 }

@@ -1,12 +1,12 @@
 //! What the words of a call stand for.
 
-use crate::Refused;
+use crate::{Refused, called};
 use acq_base::read_digits;
 use std::str;
 
 /// A word as text.
 pub fn text(word: &[u8]) -> Result<&str, Refused> {
-    str::from_utf8(word).map_err(|_| Refused::NoCall)
+    called(str::from_utf8(word))
 }
 
 /// A word as a number.
@@ -16,12 +16,12 @@ pub fn number(word: &[u8]) -> Result<u64, Refused> {
 
 /// A word as a number of 32 bits.
 pub fn small(word: &[u8]) -> Result<u32, Refused> {
-    u32::try_from(number(word)?).map_err(|_| Refused::NoCall)
+    called(u32::try_from(number(word)?))
 }
 
 /// A word as a number with a sign.
 pub fn signed(word: &[u8]) -> Result<i64, Refused> {
-    text(word)?.parse::<i64>().map_err(|_| Refused::NoCall)
+    called(text(word)?.parse::<i64>())
 }
 
 /// A word as a moment, `-` for none.

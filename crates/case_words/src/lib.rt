@@ -5,12 +5,12 @@
 
 pub use arguments::{has, moment, number, signed, small, text};
 pub use lines::tell;
-pub use refused::Refused;
-pub use telling::{put_list, put_name, put_refusal, put_sum, put_text, yes_or_no};
-pub use words::words_of;
+pub use page::{Page, yes_or_no};
+pub use refused::{Refused, called, readable};
+pub use words::{views_of, words_of};
 
 mod arguments;
 mod lines;
+mod page;
 mod refused;
-mod telling;
 mod words;

@@ -1,4 +1,5 @@
 //! Why a line has no answer.
+ghost use Rattle.std.specs.Prelude.{◌≡◌, IfOk, Ok};
 
 use acq_base::NoMemory;
 use std::alloc::{AllocError, AllocFailed};
@@ -29,5 +30,25 @@ impl From<AllocError> for Refused {
 impl<T: Drop> From<AllocFailed<T>> for Refused {
     fn from(_error: AllocFailed<T>) -> Refused {
         Refused::NoMemory
+    }
+}
+
+/// A text that a call stands on, where its reader takes it.
+pub fn readable<T, E: Drop>(read: Result<T, E>) -> Result<T, Refused>
+    ensures { IfOk result (λ value. read ≡ Ok value) }
+{
+    match read {
+        Ok(value) => Ok(value),
+        Err(_) => Err(Refused::Unread),
+    }
+}
+
+/// A word's value, where the word has one.
+pub fn called<T, E: Drop>(read: Result<T, E>) -> Result<T, Refused>
+    ensures { IfOk result (λ value. read ≡ Ok value) }
+{
+    match read {
+        Ok(value) => Ok(value),
+        Err(_) => Err(Refused::NoCall),
     }
 }

@@ -55,6 +55,15 @@ pub fn words_of(alloc: Global, line: &[u8]) -> Result<Vec<Text>, Refused> {
     }
 }
 
+/// The bytes of each word.
+pub fn views_of(alloc: Global, words: &[Text]) -> Result<Vec<&[u8]>, Refused> {
+    let mut views: Vec<&[u8]> = Vec::new(alloc);
+    for word in words {
+        views.push(word.as_bytes())?;
+    }
+    Ok(views)
+}
+
 impl Reading {
     fn take(&mut self, alloc: Global, byte: u8) -> Result<(), Refused> {
         self.at = match self.at {

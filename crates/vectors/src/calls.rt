@@ -2,73 +2,94 @@
 
 use crate::folder::{self, Folder};
 use crate::{copies, lists, places, plans, releases, reports, settings, uris};
-use case_words::{Refused, text, words_of};
+use case_words::{Page, Refused, text, views_of, words_of};
 use std::alloc::Global;
-use std::mem;
+use uri_names::{read_base, read_uri};
 
 /// What the call of a line answers. A line that puts something into the folder answers nothing.
 pub fn answer(alloc: Global, folder: &mut Folder, line: &str) -> Result<Option<String>, Refused> {
-    let words = words_of(alloc, line.as_bytes())?;
-    let mut views: Vec<&[u8]> = Vec::new(alloc);
-    for word in &words {
-        views.push(word.as_bytes())?;
-    }
-    let Some((first, rest)) = views.as_slice().split_first() else {
-        return Err(Refused::NoCall);
-    };
-    let name = text(first)?;
-    match (name, rest) {
-        ("file", [path, text]) => folder.put(alloc, path, text)?,
-        ("option", [option]) => folder.option(alloc, option)?,
-        ("fails", [call]) => folder.fails(call)?,
-        ("configure", [part]) => return Ok(Some(configured(alloc, folder, part)?)),
-        _ => return Ok(Some(answered(alloc, name, rest)?)),
+    let mut page = Page::new(alloc);
+    if put_answer(alloc, folder, &mut page, line)? {
+        return Ok(Some(page.finish()?));
     }
     Ok(None)
 }
 
-/// What the folder gives, which is empty then.
-fn configured(alloc: Global, folder: &mut Folder, part: &[u8]) -> Result<String, Refused> {
-    let whole = mem::replace(folder, Folder::new(alloc));
-    match part {
-        b"faults" => whole.each_fails(alloc),
-        _ => whole.told(alloc, part),
+/// Appends what a line answers, and says whether it answers anything.
+fn put_answer(
+    alloc: Global,
+    folder: &mut Folder,
+    page: &mut Page,
+    line: &str,
+) -> Result<bool, Refused> {
+    let words = words_of(alloc, line.as_bytes())?;
+    let views = views_of(alloc, words.as_slice())?;
+    let [first, rest @ ..] = views.as_slice() else {
+        return Err(Refused::NoCall);
+    };
+    let name = text(first)?;
+    if folder.takes(alloc, name, rest)? {
+        return Ok(false);
+    }
+    put_called(alloc, folder, page, name, rest)?;
+    Ok(true)
+}
+
+fn put_called(
+    alloc: Global,
+    folder: &mut Folder,
+    page: &mut Page,
+    name: &str,
+    rest: &[&[u8]],
+) -> Result<(), Refused> {
+    match (name, rest) {
+        ("configure", [part]) => folder.put_configured(alloc, page, part),
+        ("vanishing", names) => folder::put_vanished(alloc, page, names),
+        ("settings", steps) => settings::put_steps(alloc, page, steps),
+        ("report", [sources, parts @ ..]) => reports::put_told(alloc, page, sources, parts),
+        ("fault", words) => reports::put_fault(alloc, page, words),
+        ("package", words) => reports::put_package(alloc, page, words),
+        _ => put_listed(alloc, page, name, rest),
     }
 }
 
-fn answered(alloc: Global, name: &str, rest: &[&[u8]]) -> Result<String, Refused> {
+fn put_listed(alloc: Global, page: &mut Page, name: &str, rest: &[&[u8]]) -> Result<(), Refused> {
     match (name, rest) {
-        ("vanishing", names) => folder::vanished(alloc, names),
-        ("release", [text]) => releases::read(alloc, text),
-        ("release-file", [text, path]) => releases::listed(alloc, text, path),
-        ("release-date", [date]) => releases::date(alloc, date),
-        ("release-judged", words) => releases::judged(alloc, words),
-        ("release-follows", [flags, old, new]) => releases::follows(alloc, flags, old, new),
-        ("settings", steps) => settings::steps(alloc, steps),
-        ("entries", [form, text]) => lists::entries(alloc, form, text),
-        ("entries-copied", [form, text]) => lists::copied(alloc, form, text),
-        ("form", [name]) => lists::form(alloc, name),
-        ("plan", [form, text]) => plans::told(alloc, form, text),
-        ("plan-size", [form, text]) => plans::size(alloc, form, text),
-        ("picked", [flags, text]) => plans::picked(alloc, flags, text),
-        ("report", [sources, parts @ ..]) => reports::told(alloc, sources, parts),
-        ("fault", words) => reports::fault(alloc, words),
-        ("package", words) => reports::package(alloc, words),
-        _ => answered_below(alloc, name, rest),
+        ("entries", [form, text]) => lists::put_entries(alloc, page, form, text),
+        ("entries-copied", [form, text]) => lists::put_copied(alloc, page, form, text),
+        ("form", [name]) => lists::put_form(alloc, page, name),
+        ("plan", [form, text]) => plans::put_told(alloc, page, form, text),
+        ("plan-size", [form, text]) => plans::put_size(alloc, page, form, text),
+        ("picked", [flags, text]) => plans::put_picked(alloc, page, flags, text),
+        ("copies", [list, text, uri]) => copies::put_copies(alloc, page, list, text, uri),
+        ("by-hash", [source, said, list]) => places::put_asked(alloc, page, source, said, list),
+        ("beside", [path, name]) => places::put_sibling(alloc, page, path, name),
+        _ => put_released(alloc, page, name, rest),
     }
 }
 
-fn answered_below(alloc: Global, name: &str, rest: &[&[u8]]) -> Result<String, Refused> {
+fn put_released(alloc: Global, page: &mut Page, name: &str, rest: &[&[u8]]) -> Result<(), Refused> {
     match (name, rest) {
-        ("without-memory", []) => settings::without_memory(alloc),
-        ("uri", [text]) => uris::uri(alloc, text),
-        ("base", [text]) => uris::base(alloc, text),
-        ("redirect", [from, place]) => uris::redirect(alloc, from, place),
-        ("names", [text]) => uris::names(alloc, text),
-        ("below", [base, path]) => uris::path_below(alloc, base, path),
-        ("copies", [list, text, uri]) => copies::copies(alloc, list, text, uri),
-        ("by-hash", [source, said, list]) => places::asked(alloc, source, said, list),
-        ("beside", [path, name]) => places::sibling(alloc, path, name),
-        _ => Err(Refused::NoCall),
+        ("release", [text]) => Ok(releases::put_read(alloc, page, text)),
+        ("release-file", [text, path]) => releases::put_listed(alloc, page, text, path),
+        ("release-date", [date]) => releases::put_date(alloc, page, date),
+        ("release-judged", words) => releases::put_judged(alloc, page, words),
+        ("release-follows", [flags, old, new]) => {
+            releases::put_follows(alloc, page, flags, old, new)
+        }
+        _ => put_named(alloc, page, name, rest),
     }
+}
+
+fn put_named(alloc: Global, page: &mut Page, name: &str, rest: &[&[u8]]) -> Result<(), Refused> {
+    match (name, rest) {
+        ("without-memory", []) => settings::put_without_memory(page),
+        ("uri", [text]) => uris::put_read(alloc, page, read_uri(alloc, text)),
+        ("base", [text]) => uris::put_read(alloc, page, read_base(alloc, text)),
+        ("redirect", [from, place]) => uris::put_redirect(alloc, page, from, place)?,
+        ("names", [text]) => uris::put_names(alloc, page, text)?,
+        ("below", [base, path]) => uris::put_below(alloc, page, base, path)?,
+        _ => return Err(Refused::NoCall),
+    }
+    Ok(())
 }

@@ -1,18 +1,18 @@
 //! The configuration of a folder in memory.
 
 use crate::plans;
-use crate::reports::put_fault;
+use crate::reports::put_line;
 use crate::settings::put_settings;
 use crate::vanishing::Vanishing;
-use acq_base::{Bytes, Plan, Row, Text, TryCopy};
+use acq_base::{Bytes, Row, Source, Text, TryCopy};
 use acq_memory::MemEtc;
 use acq_outside::Place;
-use case_words::{Refused, number, yes_or_no};
-use configuration::{ConfigurationError, Configured, configure};
+use case_words::{Page, Refused, number, yes_or_no};
+use configuration::{Configured, configure};
 use release_file::Change;
 use report_text::FaultLine;
 use std::alloc::Global;
-use std::fmt::Write;
+use std::mem;
 
 /// A file: where it lies, its name there and its text.
 #[derive(Drop)]
@@ -40,86 +40,108 @@ impl Folder {
         }
     }
 
-    /// Puts a file into the folder. Its path is sources.list, apt.conf or the path of a part.
-    pub fn put(&mut self, alloc: Global, path: &[u8], text: &[u8]) -> Result<(), Refused> {
-        let (place, name) = place_of(path)?;
-        self.files.push(File {
-            place,
-            name: Text::from_bytes(alloc, name)?,
-            text: Text::from_bytes(alloc, text)?,
-        })?;
-        Ok(())
+    /// Whether a call puts something into the folder: a file by its path, an option, or the number of a call of the folder that
+    /// is to fail.
+    pub fn takes(&mut self, alloc: Global, name: &str, rest: &[&[u8]]) -> Result<bool, Refused> {
+        match (name, rest) {
+            ("file", [path, text]) => self.files.push(file_of(alloc, path, text)?)?,
+            ("option", [option]) => self.options.push(Text::from_bytes(alloc, option)?)?,
+            ("fails", [call]) => self.failing.push(number(call)?)?,
+            _ => return Ok(false),
+        }
+        Ok(true)
     }
 
-    /// Adds an option.
-    pub fn option(&mut self, alloc: Global, option: &[u8]) -> Result<(), Refused> {
-        self.options.push(Text::from_bytes(alloc, option)?)?;
-        Ok(())
-    }
-
-    /// Lets a call of the folder fail.
-    pub fn fails(&mut self, call: &[u8]) -> Result<(), Refused> {
-        self.failing.push(number(call)?)?;
-        Ok(())
+    /// Appends what the folder gives, which is empty then.
+    pub fn put_configured(
+        &mut self,
+        alloc: Global,
+        page: &mut Page,
+        part: &[u8],
+    ) -> Result<(), Refused> {
+        let whole = mem::replace(self, Folder::new(alloc));
+        match part {
+            b"faults" => whole.put_each_fails(alloc, page),
+            _ => whole.put_told(alloc, page, part),
+        }
     }
 
     fn etc(&self, alloc: Global, failing: Row<u64>) -> Result<MemEtc, Refused> {
-        let mut rows = Row::new(alloc);
-        for file in &self.files {
-            let text = Bytes::from(Vec::from_slice(alloc, file.text.as_bytes())?);
-            rows.push((file.place, file.name.copy(alloc)?, text))?;
-        }
+        let rows = rows_of(alloc, self.files.as_slice())?;
         if !MemEtc::takes(&rows) {
             return Err(Refused::NoCall);
         }
         Ok(MemEtc::new(rows, failing))
     }
 
-    fn configured(
-        &self,
-        alloc: Global,
-        failing: Row<u64>,
-    ) -> Result<Result<Configured, ConfigurationError>, Refused> {
-        let mut etc = self.etc(alloc, failing)?;
-        Ok(configure(alloc, &mut etc, &self.options))
-    }
-
-    /// What the folder gives: its settings, its change or its plan, or the line that tells why it is refused.
-    pub fn told(&self, alloc: Global, part: &[u8]) -> Result<String, Refused> {
-        let mut out = String::new(alloc);
-        match self.configured(alloc, self.failing.copy(alloc)?)? {
-            Ok(configured) => put_part(alloc, &mut out, &configured, part)?,
-            Err(refusal) => put_fault(alloc, &mut out, &FaultLine::from(refusal))?,
+    /// Appends what the folder gives: its settings, its change or its plan, or the line that tells why it is refused.
+    fn put_told(&self, alloc: Global, page: &mut Page, part: &[u8]) -> Result<(), Refused> {
+        let mut etc = self.etc(alloc, self.failing.copy(alloc)?)?;
+        match configure(alloc, &mut etc, &self.options) {
+            Ok(configured) => put_part(page, &configured, part),
+            Err(refusal) => put_line(alloc, page, &FaultLine::from(refusal)),
         }
-        Ok(out)
     }
 
-    /// What comes where one call of the folder fails: the first, the second, and so on to the first that is never made.
-    pub fn each_fails(&self, alloc: Global) -> Result<String, Refused> {
-        let mut out = String::new(alloc);
+    /// Appends what comes where one call of the folder fails: the first, the second, and so on to the first that is never made.
+    fn put_each_fails(&self, alloc: Global, page: &mut Page) -> Result<(), Refused> {
         for call in 1..100u64 {
-            let failing = Row::from(Vec::from_slice(alloc, &[call])?);
-            match self.configured(alloc, failing)? {
-                Ok(_) => {
-                    write!(out, "call {call} isn't made")?;
-                    break;
-                }
-                Err(refusal) => write!(out, "{refusal}; ")?,
+            if !self.put_failed(alloc, page, call)? {
+                break;
             }
         }
-        Ok(out)
+        Ok(())
+    }
+
+    /// Appends what comes where this call of the folder fails, and says whether it is made.
+    fn put_failed(&self, alloc: Global, page: &mut Page, call: u64) -> Result<bool, Refused> {
+        let failing = Row::from(Vec::from_slice(alloc, &[call])?);
+        let mut etc = self.etc(alloc, failing)?;
+        match configure(alloc, &mut etc, &self.options) {
+            Ok(_) => {
+                page.show(format_args!("call {call} isn't made"));
+                Ok(false)
+            }
+            Err(refusal) => {
+                page.show(format_args!("{refusal}; "));
+                Ok(true)
+            }
+        }
     }
 }
 
-/// The plan of a folder whose files are gone when they are asked for.
-pub fn vanished(alloc: Global, names: &[&[u8]]) -> Result<String, Refused> {
-    let mut etc = Vanishing::new(alloc, names)?;
-    let mut out = String::new(alloc);
-    match configure(alloc, &mut etc, &Row::new(alloc)) {
-        Ok(configured) => put_plan(alloc, &mut out, &configured.plan)?,
-        Err(refusal) => put_fault(alloc, &mut out, &FaultLine::from(refusal))?,
+/// A file whose path is sources.list, apt.conf or the path of a part.
+fn file_of(alloc: Global, path: &[u8], text: &[u8]) -> Result<File, Refused> {
+    let (place, name) = place_of(path)?;
+    let name = Text::from_bytes(alloc, name)?;
+    let text = Text::from_bytes(alloc, text)?;
+    Ok(File { place, name, text })
+}
+
+fn rows_of(alloc: Global, files: &[File]) -> Result<Row<(Place, Text, Bytes)>, Refused> {
+    let mut rows = Row::new(alloc);
+    for file in files {
+        rows.push(row_of(alloc, file)?)?;
     }
-    Ok(out)
+    Ok(rows)
+}
+
+fn row_of(alloc: Global, file: &File) -> Result<(Place, Text, Bytes), Refused> {
+    let name = file.name.copy(alloc)?;
+    let text = Vec::from_slice(alloc, file.text.as_bytes())?;
+    Ok((file.place, name, Bytes::from(text)))
+}
+
+/// Appends the plan of a folder whose files are gone when they are asked for.
+pub fn put_vanished(alloc: Global, page: &mut Page, names: &[&[u8]]) -> Result<(), Refused> {
+    let mut etc = Vanishing::new(alloc, names)?;
+    match configure(alloc, &mut etc, &Row::new(alloc)) {
+        Ok(configured) => {
+            put_sources(page, configured.plan.sources.as_slice());
+            Ok(())
+        }
+        Err(refusal) => put_line(alloc, page, &FaultLine::from(refusal)),
+    }
 }
 
 /// The place of a path, and the name there.
@@ -142,40 +164,36 @@ fn part_of(path: &[u8]) -> Result<(Place, &[u8]), Refused> {
     }
 }
 
-fn put_part(
-    alloc: Global,
-    out: &mut String,
-    configured: &Configured,
-    part: &[u8],
-) -> Result<(), Refused> {
+fn put_part(page: &mut Page, configured: &Configured, part: &[u8]) -> Result<(), Refused> {
     match part {
-        b"settings" => put_settings(alloc, out, &configured.settings),
-        b"change" => put_change(out, configured.change),
-        b"plan" => put_plan(alloc, out, &configured.plan),
-        _ => Err(Refused::NoCall),
+        b"settings" => put_settings(page, &configured.settings),
+        b"change" => put_change(page, configured.change),
+        b"plan" => put_sources(page, configured.plan.sources.as_slice()),
+        _ => return Err(Refused::NoCall),
     }
+    Ok(())
 }
 
-fn put_change(out: &mut String, change: Change) -> Result<(), Refused> {
-    let origin = yes_or_no(change.origin);
-    let label = yes_or_no(change.label);
-    write!(out, "Origin {origin}, Label {label}")?;
-    let suite = yes_or_no(change.suite);
-    let codename = yes_or_no(change.codename);
-    write!(out, ", Suite {suite}, Codename {codename}")?;
-    Ok(())
+fn put_change(page: &mut Page, change: Change) {
+    page.put("Origin ");
+    page.put(yes_or_no(change.origin));
+    page.put(", Label ");
+    page.put(yes_or_no(change.label));
+    page.put(", Suite ");
+    page.put(yes_or_no(change.suite));
+    page.put(", Codename ");
+    page.put(yes_or_no(change.codename));
 }
 
 /// Appends a line for each source: its base's host and path, its suite, and the paths of its lists.
-fn put_plan(alloc: Global, out: &mut String, plan: &Plan) -> Result<(), Refused> {
-    for source in plan.sources.as_slice() {
-        if !out.is_empty() {
-            out.push('\n')?;
+fn put_sources(page: &mut Page, sources: &[Source]) {
+    for source in sources {
+        if !page.is_empty() {
+            page.put("\n");
         }
-        plans::put_paths(alloc, out, source)?;
+        plans::put_paths(page, source);
     }
-    if out.is_empty() {
-        out.push_str("no source")?;
+    if page.is_empty() {
+        page.put("no source");
     }
-    Ok(())
 }

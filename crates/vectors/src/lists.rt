@@ -2,10 +2,9 @@
 
 use crate::uris::put_uri;
 use acq_base::{Row, Text, TryCopy};
-use case_words::{Refused, put_list, put_name, put_refusal, yes_or_no};
+use case_words::{Page, Refused, readable, yes_or_no};
 use source_lists::{Entry, Form, ListError, counts, read_list, read_sources};
 use std::alloc::Global;
-use std::fmt::Write;
 
 /// The form that a word names.
 pub fn form_of(word: &[u8]) -> Result<Form, Refused> {
@@ -25,76 +24,86 @@ pub fn read(alloc: Global, form: Form, text: &[u8], arch: &Text) -> Result<Row<E
     }
 }
 
-/// The entries of a text, each ended by `;`: its line, types, URI, suite, components and options.
-pub fn entries(alloc: Global, form: &[u8], text: &[u8]) -> Result<String, Refused> {
+fn read_on_amd64(alloc: Global, form: Form, text: &[u8]) -> Result<Row<Entry>, ListError> {
     let arch = Text::from_bytes(alloc, b"amd64")?;
-    let mut out = String::new(alloc);
-    match read(alloc, form_of(form)?, text, &arch) {
-        Ok(entries) if entries.is_empty() => out.push_str("no entry")?,
-        Ok(entries) => put_entries(alloc, &mut out, entries.as_slice())?,
-        Err(refusal) => put_refusal(&mut out, &refusal)?,
-    }
-    Ok(out)
+    read(alloc, form, text, &arch)
 }
 
-fn put_entries(alloc: Global, out: &mut String, entries: &[Entry]) -> Result<(), Refused> {
-    for entry in entries {
-        put_entry(alloc, out, entry)?;
-        put_options(alloc, out, entry)?;
-        out.push(';')?;
+/// Appends the entries of a text, each ended by `;`: its line, types, URI, suite, components and options.
+pub fn put_entries(
+    alloc: Global,
+    page: &mut Page,
+    form: &[u8],
+    text: &[u8],
+) -> Result<(), Refused> {
+    match read_on_amd64(alloc, form_of(form)?, text) {
+        Ok(entries) => put_all(alloc, page, entries.as_slice()),
+        Err(refusal) => page.put_refusal(&refusal),
     }
     Ok(())
 }
 
-fn put_entry(alloc: Global, out: &mut String, entry: &Entry) -> Result<(), Refused> {
-    let line = entry.line;
+fn put_all(alloc: Global, page: &mut Page, entries: &[Entry]) {
+    if entries.is_empty() {
+        page.put("no entry");
+    }
+    for entry in entries {
+        put_entry(alloc, page, entry);
+        put_options(page, entry);
+        page.put(";");
+    }
+}
+
+fn put_entry(alloc: Global, page: &mut Page, entry: &Entry) {
     let binary = if entry.binary { "b" } else { "" };
     let source = if entry.source { "s" } else { "" };
-    write!(out, "{line} {binary}{source} ")?;
-    put_uri(alloc, out, &entry.uri)?;
-    out.push(' ')?;
-    put_name(alloc, out, entry.suite.as_bytes())?;
-    out.push(' ')?;
-    put_list(alloc, out, &entry.components)
+    page.show(format_args!("{} {binary}{source} ", entry.line));
+    put_uri(alloc, page, &entry.uri);
+    page.put(" ");
+    page.put_name(entry.suite.as_bytes());
+    page.put(" ");
+    page.put_list(&entry.components);
 }
 
-fn put_options(alloc: Global, out: &mut String, entry: &Entry) -> Result<(), Refused> {
+fn put_options(page: &mut Page, entry: &Entry) {
     if let Some(archs) = &entry.archs {
-        out.push_str(" arch=")?;
-        put_list(alloc, out, archs)?;
+        page.put(" arch=");
+        page.put_list(archs);
     }
     if let Some(by_hash) = entry.by_hash {
-        write!(out, " by-hash={by_hash:?}")?;
+        page.show(format_args!(" by-hash={by_hash:?}"));
     }
     if let Some(pdiffs) = entry.pdiffs {
-        write!(out, " pdiffs={}", yes_or_no(pdiffs))?;
+        page.put(" pdiffs=");
+        page.put(yes_or_no(pdiffs));
     }
+}
+
+/// Appends the files under which copies of a text's entries were read, where they are the same entries.
+pub fn put_copied(alloc: Global, page: &mut Page, form: &[u8], text: &[u8]) -> Result<(), Refused> {
+    let entries = readable(read_on_amd64(alloc, form_of(form)?, text))?;
+    let again = entries.copy(alloc)?;
+    if again != entries {
+        page.put("others ");
+    }
+    put_files(page, again.as_slice());
     Ok(())
 }
 
-/// The files under which copies of a text's entries were read, where they are the same entries.
-pub fn copied(alloc: Global, form: &[u8], text: &[u8]) -> Result<String, Refused> {
-    let arch = Text::from_bytes(alloc, b"amd64")?;
-    let entries = read(alloc, form_of(form)?, text, &arch).map_err(|_| Refused::Unread)?;
-    let again = entries.copy(alloc)?;
-    let mut out = String::new(alloc);
-    if again != entries {
-        out.push_str("others ")?;
+fn put_files(page: &mut Page, entries: &[Entry]) {
+    for entry in entries {
+        page.put_name(entry.file.as_bytes());
+        page.put(";");
     }
-    for entry in again.as_slice() {
-        put_name(alloc, &mut out, entry.file.as_bytes())?;
-        out.push(';')?;
-    }
-    Ok(out)
 }
 
-/// The form of a file of sources.list.d with this name.
-pub fn form(alloc: Global, name: &[u8]) -> Result<String, Refused> {
+/// Appends the form of a file of sources.list.d with this name.
+pub fn put_form(alloc: Global, page: &mut Page, name: &[u8]) -> Result<(), Refused> {
     let name = Text::from_bytes(alloc, name)?;
-    let form = match counts(&name) {
+    page.put(match counts(&name) {
         Some(Form::List) => "lines",
         Some(Form::Sources) => "stanzas",
         None => "passed over",
-    };
-    Ok(String::from_str(alloc, form)?)
+    });
+    Ok(())
 }

@@ -4,12 +4,11 @@ ghost use Rattle.kept_hooks.specs.Picking.{is_picked};
 
 use crate::lists::{self, form_of};
 use acq_base::{Kind, Pick, Plan, Row, Settings, Source, Target};
-use apt_conf::{Conf, new, settings};
-use case_words::{Refused, has, put_name, put_refusal, yes_or_no};
+use apt_conf::{new, settings};
+use case_words::{Page, Refused, has, readable, yes_or_no};
 use kept_hooks::Picker;
 use source_lists::Entry;
 use std::alloc::Global;
-use std::fmt::Write;
 use target_plan::{PlanError, plan};
 
 fn is_wanted(pick: &Pick, target: &Target) -> bool
@@ -24,9 +23,7 @@ fn is_wanted(pick: &Pick, target: &Target) -> bool
 
 /// What a picker whose closure looks at the kind answers on a list.
 fn picks(alloc: Global, pick: Pick, target: &Target) -> Result<bool, Refused> {
-    let test = Box::new(alloc, move |target: &Target| is_wanted(&pick, target)).map_err(
-        |_| Refused::NoMemory,
-    )?;
+    let test = Box::new(alloc, move |target: &Target| is_wanted(&pick, target))?;
     let picker = Picker::new(test, pick);
     Ok(picker.pick(target))
 }
@@ -38,145 +35,130 @@ fn plan_entries(
     settings: &Settings,
 ) -> Result<Result<Plan, PlanError>, Refused> {
     let pick = settings.pick;
-    let test = Box::new(alloc, move |target: &Target| is_wanted(&pick, target)).map_err(
-        |_| Refused::NoMemory,
-    )?;
+    let test = Box::new(alloc, move |target: &Target| is_wanted(&pick, target))?;
     let picker = Picker::new(test, pick);
     Ok(plan(alloc, entries, settings, &picker))
 }
 
 /// The settings that a configuration without a file gives.
 pub fn usual(alloc: Global) -> Result<Settings, Refused> {
-    let conf: Conf = new(alloc);
-    settings(alloc, &conf).map_err(|_| Refused::Unread)
+    readable(settings(alloc, &new(alloc)))
 }
 
 /// The plan of a text, or the refusal of the plan.
-pub fn planned(
-    alloc: Global,
-    form: &[u8],
-    text: &[u8],
-) -> Result<Result<Plan, PlanError>, Refused> {
+fn planned(alloc: Global, form: &[u8], text: &[u8]) -> Result<Result<Plan, PlanError>, Refused> {
+    let form = form_of(form)?;
     let settings = usual(alloc)?;
-    let entries = match lists::read(alloc, form_of(form)?, text, &settings.arch) {
-        Ok(entries) => entries,
-        Err(_) => return Err(Refused::Unread),
-    };
+    let entries = readable(lists::read(alloc, form, text, &settings.arch))?;
     plan_entries(alloc, &entries, &settings)
 }
 
 /// The plan of a text in the one-line form.
 pub fn plan_of(alloc: Global, text: &[u8]) -> Result<Plan, Refused> {
-    match planned(alloc, b"lines", text)? {
-        Ok(plan) => Ok(plan),
-        Err(_) => Err(Refused::Unread),
-    }
+    readable(planned(alloc, b"lines", text)?)
 }
 
-/// The names of a plan's files, a line for each source, or why there is none.
-pub fn told(alloc: Global, form: &[u8], text: &[u8]) -> Result<String, Refused> {
-    let mut out = String::new(alloc);
+/// Appends the names of a plan's files, a line for each source, or why there is none.
+pub fn put_told(alloc: Global, page: &mut Page, form: &[u8], text: &[u8]) -> Result<(), Refused> {
     match planned(alloc, form, text)? {
-        Ok(plan) => put_names(alloc, &mut out, plan.sources.as_slice())?,
-        Err(refusal) => put_refused(alloc, &mut out, &refusal)?,
+        Ok(plan) => put_sources(page, plan.sources.as_slice()),
+        Err(refusal) => put_refused(page, &refusal),
     }
-    Ok(out)
+    Ok(())
 }
 
-fn put_names(alloc: Global, out: &mut String, sources: &[Source]) -> Result<(), Refused> {
+fn put_sources(page: &mut Page, sources: &[Source]) {
     for source in sources {
-        if !out.is_empty() {
-            out.push('\n')?;
+        if !page.is_empty() {
+            page.put("\n");
         }
-        put_source(alloc, out, source)?;
+        put_source(page, source);
     }
-    if out.is_empty() {
-        out.push_str("no source")?;
+    if page.is_empty() {
+        page.put("no source");
     }
-    Ok(())
 }
 
-fn put_source(alloc: Global, out: &mut String, source: &Source) -> Result<(), Refused> {
-    put_name(alloc, out, source.release_name.0.as_bytes())?;
+fn put_source(page: &mut Page, source: &Source) {
+    page.put_name(source.release_name.0.as_bytes());
     for target in source.targets.as_slice() {
-        out.push(' ')?;
-        put_name(alloc, out, target.name.0.as_bytes())?;
+        page.put(" ");
+        page.put_name(target.name.0.as_bytes());
     }
-    Ok(())
 }
 
 /// Appends a source's base, its suite, and the paths of its lists.
-pub fn put_paths(alloc: Global, out: &mut String, source: &Source) -> Result<(), Refused> {
-    put_name(alloc, out, source.base.host.as_bytes())?;
-    put_name(alloc, out, source.base.path.as_bytes())?;
-    out.push(' ')?;
-    put_name(alloc, out, source.suite.as_bytes())?;
+pub fn put_paths(page: &mut Page, source: &Source) {
+    page.put_name(source.base.host.as_bytes());
+    page.put_name(source.base.path.as_bytes());
+    page.put(" ");
+    page.put_name(source.suite.as_bytes());
     for target in source.targets.as_slice() {
-        out.push(' ')?;
-        put_name(alloc, out, target.path.as_bytes())?;
+        page.put(" ");
+        page.put_name(target.path.as_bytes());
     }
-    Ok(())
 }
 
-fn put_refused(alloc: Global, out: &mut String, refusal: &PlanError) -> Result<(), Refused> {
-    put_refusal(out, refusal)?;
+fn put_refused(page: &mut Page, refusal: &PlanError) {
+    page.put_refusal(refusal);
     match refusal {
         PlanError::LongName(name) => {
-            let length = name.0.len();
-            write!(out, ": {length} bytes, ")?;
-            put_name(alloc, out, name.0.as_bytes())?;
+            page.show(format_args!(": {} bytes, ", name.0.len()));
+            page.put_name(name.0.as_bytes());
         }
         PlanError::Clash { first, second } => {
-            let (one, other) = (first.line, second.line);
-            write!(out, ": entries at {one} and {other}")?;
+            page.show(format_args!(": entries at {} and {}", first.line, second.line));
         }
         PlanError::TooMany | PlanError::NoMemory => {}
     }
+}
+
+/// Appends how many sources and lists a plan has.
+pub fn put_size(alloc: Global, page: &mut Page, form: &[u8], text: &[u8]) -> Result<(), Refused> {
+    match planned(alloc, form, text)? {
+        Ok(plan) => put_counts(page, plan.sources.as_slice()),
+        Err(refusal) => put_refused(page, &refusal),
+    }
     Ok(())
 }
 
-/// How many sources and lists a plan has.
-pub fn size(alloc: Global, form: &[u8], text: &[u8]) -> Result<String, Refused> {
-    let mut out = String::new(alloc);
-    match planned(alloc, form, text)? {
-        Ok(plan) => {
-            let mut lists: u64 = 0;
-            for source in plan.sources.as_slice() {
-                lists = lists.saturating_add(source.targets.len() as u64);
-            }
-            let sources = plan.sources.len();
-            write!(out, "sources {sources}, lists {lists}")?;
-        }
-        Err(refusal) => put_refused(alloc, &mut out, &refusal)?,
+fn put_counts(page: &mut Page, sources: &[Source]) {
+    let mut lists: u64 = 0;
+    for source in sources {
+        lists = lists.saturating_add(source.targets.len() as u64);
     }
-    Ok(out)
+    page.show(format_args!("sources {}, lists {lists}", sources.len()));
 }
 
-/// What a picker with these kinds answers on each list of a plan.
-pub fn picked(alloc: Global, flags: &[u8], text: &[u8]) -> Result<String, Refused> {
+/// Appends what a picker with these kinds answers on each list of a plan.
+pub fn put_picked(
+    alloc: Global,
+    page: &mut Page,
+    flags: &[u8],
+    text: &[u8],
+) -> Result<(), Refused> {
     let pick = Pick {
         packages: has(flags, b"packages"),
         sources: has(flags, b"sources"),
         translations: has(flags, b"translations"),
     };
     let plan = plan_of(alloc, text)?;
-    let mut out = String::new(alloc);
     for source in plan.sources.as_slice() {
-        for target in source.targets.as_slice() {
-            let picked = picks(alloc, pick, target)?;
-            put_picked(alloc, &mut out, target, picked)?;
-        }
+        put_picks(alloc, page, pick, source.targets.as_slice())?;
     }
-    Ok(out)
+    Ok(())
 }
 
-fn put_picked(
+fn put_picks(
     alloc: Global,
-    out: &mut String,
-    target: &Target,
-    picked: bool,
+    page: &mut Page,
+    pick: Pick,
+    targets: &[Target],
 ) -> Result<(), Refused> {
-    put_name(alloc, out, target.path.as_bytes())?;
-    write!(out, " {};", yes_or_no(picked))?;
+    for target in targets {
+        let picked = yes_or_no(picks(alloc, pick, target)?);
+        page.put_name(target.path.as_bytes());
+        page.show(format_args!(" {picked};"));
+    }
     Ok(())
 }
