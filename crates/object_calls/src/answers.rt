@@ -1,63 +1,91 @@
 //! What calls answer, as text.
 
-use crate::words::Refused;
-use acq_base::Text;
-use acq_outside::Fault;
-use std::alloc::Global;
+use crate::page::Page;
+use acq_base::{Bytes, Row, Text};
+use acq_outside::{Fault, HoldError, OutError};
 
-/// Done, or a fault.
-pub fn done(alloc: Global, answer: Result<(), Fault>) -> Result<String, Refused> {
-    let word = match answer {
-        Ok(()) => "done",
-        Err(Fault) => "fault",
-    };
-    Ok(String::from_str(alloc, word)?)
-}
-
-/// A length in bytes, `absent` where there is no file, or a fault.
-pub fn length(alloc: Global, answer: Result<Option<u64>, Fault>) -> Result<String, Refused> {
-    Ok(match answer {
-        Ok(Some(bytes)) => format!(in alloc; "{bytes}")?,
-        Ok(None) => String::from_str(alloc, "absent")?,
-        Err(Fault) => String::from_str(alloc, "fault")?,
-    })
-}
-
-/// How many bytes came, and the buffer that they came into, or a fault.
-pub fn piece(alloc: Global, answer: Result<usize, Fault>, out: &[u8]) -> Result<String, Refused> {
-    match answer {
-        Ok(bytes) => {
-            let out = shown(alloc, out)?;
-            Ok(format!(in alloc; "{bytes} {out}")?)
-        }
-        Err(Fault) => Ok(String::from_str(alloc, "fault")?),
+impl Page {
+    /// Done, or a fault.
+    pub fn put_done(&mut self, done: Result<(), Fault>) {
+        self.put(match done {
+            Ok(()) => "done",
+            Err(Fault) => "fault",
+        });
     }
-}
 
-/// The bytes as a text, in which a backslash and a byte that isn't printed stand as `\x` and two digits.
-pub fn shown(alloc: Global, bytes: &[u8]) -> Result<String, Refused> {
-    let mut text = String::new(alloc);
-    for byte in bytes {
-        match byte {
-            b'\\' => text.push_str("\\x5c")?,
-            b' '..=b'~' => text.push(char::from(*byte))?,
-            _ => text.push_str(format!(in alloc; "\\x{byte:02x}")?.as_str())?,
+    /// Who holds a disk, or a fault.
+    pub fn put_held(&mut self, held: Result<(), HoldError>) {
+        self.put(match held {
+            Ok(()) => "held by this one",
+            Err(HoldError::Held) => "held by another",
+            Err(HoldError::Fault) => "fault",
+        });
+    }
+
+    /// A length in bytes, `absent` where there is no file, or a fault.
+    pub fn put_length(&mut self, length: Result<Option<u64>, Fault>) {
+        match length {
+            Ok(Some(bytes)) => self.put_number(bytes),
+            Ok(None) => self.put("absent"),
+            Err(Fault) => self.put("fault"),
         }
     }
-    Ok(text)
-}
 
-/// The names with a blank between two, or `no names`.
-pub fn listed(alloc: Global, names: &[Text]) -> Result<String, Refused> {
-    if names.is_empty() {
-        return Ok(String::from_str(alloc, "no names")?);
-    }
-    let mut line = Text::new(alloc);
-    for name in names {
-        if !line.is_empty() {
-            line.push(b' ')?;
+    /// How many bytes came, and the buffer that they came into, or a fault.
+    pub fn put_piece(&mut self, came: Result<usize, Fault>, out: &[u8]) {
+        match came {
+            Ok(bytes) => {
+                self.put_number(bytes as u64);
+                self.put(" ");
+                self.put_bytes(out);
+            }
+            Err(Fault) => self.put("fault"),
         }
-        line.append(name.as_bytes())?;
     }
-    shown(alloc, line.as_bytes())
+
+    /// A file's content, `absent` where there is none, or a fault.
+    pub fn put_content(&mut self, content: Result<Option<Bytes>, OutError>) {
+        match content {
+            Ok(Some(content)) => self.put_bytes(content.as_slice()),
+            Ok(None) => self.put("absent"),
+            Err(error) => self.put_error(error),
+        }
+    }
+
+    /// The length of a file's content, `absent` where there is none, or a fault.
+    pub fn put_content_length(&mut self, content: Result<Option<Bytes>, OutError>) {
+        match content {
+            Ok(Some(content)) => self.put_number(content.len() as u64),
+            Ok(None) => self.put("absent"),
+            Err(error) => self.put_error(error),
+        }
+    }
+
+    /// The names, or a fault.
+    pub fn put_names(&mut self, names: Result<Row<Text>, OutError>) {
+        match names {
+            Ok(names) => self.put_listed(names.as_slice()),
+            Err(error) => self.put_error(error),
+        }
+    }
+
+    /// The names with a blank between two, or `no names`.
+    fn put_listed(&mut self, names: &[Text]) {
+        if names.is_empty() {
+            self.put("no names");
+        }
+        for (at, name) in names.iter().enumerate() {
+            if at > 0 {
+                self.put(" ");
+            }
+            self.put_bytes(name.as_bytes());
+        }
+    }
+
+    fn put_error(&mut self, error: OutError) {
+        match error {
+            OutError::Fault => self.put("fault"),
+            OutError::NoMemory => self.fall_short(),
+        }
+    }
 }

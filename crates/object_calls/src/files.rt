@@ -1,63 +1,91 @@
 //! What is put, taken away and looked at without the objects, by the system's own calls.
 
-use crate::answers::shown;
-use crate::words::{Refused, bytes, number};
-use std::alloc::Global;
-use std::fs;
+use crate::page::Page;
+use crate::words::{Refused, number, path};
+use acq_base::Text;
 use std::os::unix::fs::symlink;
+use std::{fs, str};
 
-/// What a call answers. Paths are below the folder `own`; what a link leads to is taken as it stands.
-pub fn answer(rt: &HostRuntime, own: &str, call: &[&str]) -> Result<String, Refused> {
-    let alloc = rt.alloc();
-    match call {
-        ["folder", path] => fs::create_dir(rt, below(alloc, own, path)?.as_str())?,
-        ["file", path, content] => put(rt, below(alloc, own, path)?.as_str(), content)?,
-        ["long", path, len] => put_long(rt, below(alloc, own, path)?.as_str(), number(len)?)?,
-        ["link", path, target] => symlink(rt, *target, below(alloc, own, path)?.as_str())?,
-        ["move", from, to] => {
-            let from = below(alloc, own, from)?;
-            fs::rename(rt, from.as_str(), below(alloc, own, to)?.as_str())?
+/// Puts what a call answers. Paths are below the folder `own`; what a link leads to is taken as it stands.
+pub fn answer(
+    rt: HostRuntime,
+    page: &mut Page,
+    own: &str,
+    call: &str,
+    words: &[Text],
+) -> Result<(), Refused> {
+    let [first, rest @ ..] = words else {
+        return Err(Refused::NoCall);
+    };
+    let first = path(rt.alloc(), own, first)?;
+    match rest {
+        [] => one(rt, page, call, first.as_str()),
+        [second] if call == "move" => {
+            let second = path(rt.alloc(), own, second)?;
+            fs::rename(&rt, first.as_str(), second.as_str())?;
+            page.put("done");
+            Ok(())
         }
-        ["remove", path] => fs::remove_file(rt, below(alloc, own, path)?.as_str())?,
-        ["remove-folder", path] => fs::remove_dir(rt, below(alloc, own, path)?.as_str())?,
-        ["remove-all", path] => fs::remove_dir_all(rt, below(alloc, own, path)?.as_str())?,
-        _ => return look(rt, own, call),
-    }
-    Ok(String::from_str(alloc, "done")?)
-}
-
-/// What a call that changes nothing answers.
-fn look(rt: &HostRuntime, own: &str, call: &[&str]) -> Result<String, Refused> {
-    let alloc = rt.alloc();
-    match call {
-        ["content", path] => {
-            let content = fs::read(rt, below(alloc, own, path)?.as_str())?;
-            shown(alloc, content.as_slice())
-        }
-        ["count", path] => {
-            let entries = fs::read_dir(rt, below(alloc, own, path)?.as_str())?;
-            Ok(format!(in alloc; "{}", entries.count())?)
-        }
+        [second] => make(rt, page, call, first.as_str(), second),
         _ => Err(Refused::NoCall),
     }
 }
 
-/// A path below a folder.
-fn below(alloc: Global, own: &str, path: &str) -> Result<String, Refused> {
-    Ok(format!(in alloc; "{own}/{path}")?)
-}
-
-/// Writes a file.
-fn put(rt: &HostRuntime, path: &str, content: &str) -> Result<(), Refused> {
-    let content = bytes(rt.alloc(), content)?;
-    fs::write(rt, path, content.as_bytes())?;
+/// Puts what a call of one path answers.
+fn one(rt: HostRuntime, page: &mut Page, call: &str, path: &str) -> Result<(), Refused> {
+    match call {
+        "folder" => fs::create_dir(&rt, path)?,
+        "remove" => fs::remove_file(&rt, path)?,
+        "remove-folder" => fs::remove_dir(&rt, path)?,
+        "remove-all" => fs::remove_dir_all(&rt, path)?,
+        "content" => return content(rt, page, path),
+        "count" => return count(rt, page, path),
+        _ => return Err(Refused::NoCall),
+    }
+    page.put("done");
     Ok(())
 }
 
-/// Writes a file of number signs.
-fn put_long(rt: &HostRuntime, path: &str, len: u64) -> Result<(), Refused> {
-    let alloc = rt.alloc();
-    let content = vec![in alloc; b'#'; len as usize]?;
-    fs::write(rt, path, content.as_slice())?;
+fn content(rt: HostRuntime, page: &mut Page, path: &str) -> Result<(), Refused> {
+    let content = fs::read(&rt, path)?;
+    page.put_bytes(content.as_slice());
     Ok(())
+}
+
+/// Puts how many entries a folder has.
+fn count(rt: HostRuntime, page: &mut Page, path: &str) -> Result<(), Refused> {
+    let entries = fs::read_dir(&rt, path)?;
+    page.put_number(entries.count() as u64);
+    Ok(())
+}
+
+/// Makes a file of a content or of so many number signs, or a link.
+fn make(
+    rt: HostRuntime,
+    page: &mut Page,
+    call: &str,
+    path: &str,
+    word: &Text,
+) -> Result<(), Refused> {
+    match call {
+        "file" => fs::write(&rt, path, word.as_bytes())?,
+        "long" => make_long(rt, path, number(word)?)?,
+        "link" => link(rt, path, word)?,
+        _ => return Err(Refused::NoCall),
+    }
+    page.put("done");
+    Ok(())
+}
+
+fn make_long(rt: HostRuntime, path: &str, len: u64) -> Result<(), Refused> {
+    let content = vec![in rt.alloc(); b'#'; len as usize]?;
+    fs::write(&rt, path, content.as_slice())?;
+    Ok(())
+}
+
+fn link(rt: HostRuntime, path: &str, target: &Text) -> Result<(), Refused> {
+    match str::from_utf8(target.as_bytes()) {
+        Ok(target) => Ok(symlink(&rt, target, path)?),
+        Err(_) => Err(Refused::NoCall),
+    }
 }

@@ -2,216 +2,167 @@
 
 ghost use Rattle.acq_outside.specs.Disk.{IsName};
 
-use crate::answers::{done, length, listed, piece, shown};
-use crate::words::{Refused, bytes, number, short};
-use acq_base::{ListName, read_sum};
-use acq_memory::MemDisk;
-use acq_outside::{Disk, Fault, HoldError, OutError, is_name, read_whole, write_whole};
+use crate::page::Page;
+use crate::words::{Refused, number, short};
+use acq_base::{ListName, Text, TryCopy, read_sum};
+use acq_outside::{Disk, Fault, is_name, read_whole, write_whole};
 use commit_journal::{JournalError, open_journal};
 use lists_dir::verify;
 use std::alloc::Global;
 
-/// What a call answers.
-pub fn answer(alloc: Global, disk: &mut MemDisk, call: &[&str]) -> Result<String, Refused> {
-    match call {
-        ["names"] => names(alloc, disk),
-        ["hold"] => hold(alloc, disk),
-        ["sync-names"] => done(alloc, disk.sync_names()),
-        ["open"] => opened(alloc, disk),
-        ["faults"] => Ok(format!(in alloc; "{}", disk.faults())?),
-        ["dry"] => Ok(format!(in alloc; "{}", disk.dry())?),
-        ["rename", from, to] => {
-            let from = bytes(alloc, from)?;
-            let to = bytes(alloc, to)?;
-            renamed(alloc, disk, from.as_bytes(), to.as_bytes())
+/// Puts what a call answers.
+pub fn answer<D: Disk>(
+    alloc: Global,
+    page: &mut Page,
+    disk: &mut D,
+    call: &str,
+    words: &[Text],
+) -> Result<(), Refused> {
+    match (call, words) {
+        ("names", []) => page.put_names(disk.names(alloc)),
+        ("hold", []) => page.put_held(disk.hold()),
+        ("sync-names", []) => page.put_done(disk.sync_names()),
+        ("open", []) => open(alloc, page, disk),
+        ("rename", [from, to]) => rename(page, disk, from.as_bytes(), to.as_bytes())?,
+        ("verify", [name, digest, size]) => verified(alloc, page, disk, name, digest, size)?,
+        (_, [name, rest @ ..]) if is_name(name.as_bytes()) => {
+            named(alloc, page, disk, call, name.as_bytes(), rest)?
         }
-        ["verify", name, digest, size] => verified(alloc, disk, name, digest, size),
-        [word, name, rest @ ..] => {
-            let name = bytes(alloc, name)?;
-            if !is_name(name.as_bytes()) {
-                return Err(Refused::NoCall);
-            }
-            named(alloc, disk, word, name.as_bytes(), rest)
-        }
-        _ => Err(Refused::NoCall),
+        _ => return Err(Refused::NoCall),
     }
+    Ok(())
 }
 
-/// What a call about one file answers.
+/// Puts what a call about one file answers.
 fn named<D: Disk>(
     alloc: Global,
+    page: &mut Page,
     disk: &mut D,
-    word: &str,
+    call: &str,
     name: &[u8],
-    rest: &[&str],
-) -> Result<String, Refused>
+    words: &[Text],
+) -> Result<(), Refused>
     requires { IsName name.now }
 {
-    match (word, rest) {
-        ("size", []) => length(alloc, disk.size(name)),
-        ("content", []) => content(alloc, disk, name),
-        ("sync", []) => done(alloc, disk.sync(name)),
-        ("remove", []) => done(alloc, disk.remove(name)),
-        ("read", [at, most]) => read(alloc, disk, name, number(at)?, short(most)?),
-        ("write", [at, text]) => {
-            let text = bytes(alloc, text)?;
-            write(alloc, disk, name, number(at)?, text.as_bytes())
-        }
-        ("cut", [len]) => cut(alloc, disk, name, number(len)?),
-        ("whole", [text]) => {
-            let text = bytes(alloc, text)?;
-            done(alloc, write_whole(disk, name, text.as_bytes()))
-        }
-        ("length", []) => read_length(alloc, disk, name),
-        _ => Err(Refused::NoCall),
+    match (call, words) {
+        ("size", []) => page.put_length(disk.size(name)),
+        ("content", []) => page.put_content(read_whole(alloc, disk, name)),
+        ("length", []) => page.put_content_length(read_whole(alloc, disk, name)),
+        ("sync", []) => page.put_done(disk.sync(name)),
+        ("remove", []) => page.put_done(disk.remove(name)),
+        ("whole", [text]) => page.put_done(write_whole(disk, name, text.as_bytes())),
+        ("read", [at, most]) => read(alloc, page, disk, name, number(at)?, short(most)?)?,
+        ("write", [at, text]) => write(page, disk, name, number(at)?, text.as_bytes())?,
+        ("cut", [len]) => cut(page, disk, name, number(len)?)?,
+        _ => return Err(Refused::NoCall),
     }
-}
-
-fn names<D: Disk>(alloc: Global, disk: &mut D) -> Result<String, Refused> {
-    match disk.names(alloc) {
-        Ok(names) => listed(alloc, names.as_slice()),
-        Err(OutError::Fault) => Ok(String::from_str(alloc, "fault")?),
-        Err(OutError::NoMemory) => Err(Refused::NoMemory),
-    }
-}
-
-fn hold<D: Disk>(alloc: Global, disk: &mut D) -> Result<String, Refused> {
-    let word = match disk.hold() {
-        Ok(()) => "held by this one",
-        Err(HoldError::Held) => "held by another",
-        Err(HoldError::Fault) => "fault",
-    };
-    Ok(String::from_str(alloc, word)?)
+    Ok(())
 }
 
 /// Reads into a buffer of stars.
 fn read<D: Disk>(
     alloc: Global,
+    page: &mut Page,
     disk: &mut D,
     name: &[u8],
     at: u64,
     most: u16,
-) -> Result<String, Refused>
+) -> Result<(), Refused>
     requires { IsName name.now }
 {
     let mut out = vec![in alloc; b'*'; usize::from(most)]?;
     let read = disk.read_at(name, at, out.as_mut_slice());
-    piece(alloc, read, out.as_slice())
+    page.put_piece(read, out.as_slice());
+    Ok(())
 }
 
-/// A file's whole content.
-fn content<D: Disk>(alloc: Global, disk: &mut D, name: &[u8]) -> Result<String, Refused> {
-    if !is_name(name) {
-        return Err(Refused::NoCall);
-    }
-    match read_whole(alloc, disk, name) {
-        Ok(Some(content)) => shown(alloc, content.as_slice()),
-        Ok(None) => Ok(String::from_str(alloc, "absent")?),
-        Err(OutError::Fault) => Ok(String::from_str(alloc, "fault")?),
-        Err(OutError::NoMemory) => Err(Refused::NoMemory),
-    }
-}
-
-/// The length of a file that is read whole.
-fn read_length<D: Disk>(alloc: Global, disk: &mut D, name: &[u8]) -> Result<String, Refused>
-    requires { IsName name.now }
-{
-    match read_whole(alloc, disk, name) {
-        Ok(Some(content)) => Ok(format!(in alloc; "{}", content.len())?),
-        Ok(None) => Ok(String::from_str(alloc, "absent")?),
-        Err(OutError::Fault) => Ok(String::from_str(alloc, "fault")?),
-        Err(OutError::NoMemory) => Err(Refused::NoMemory),
-    }
-}
-
-/// The first eight bytes of a file.
-pub fn front<D: Disk>(alloc: Global, disk: &mut D, name: &[u8]) -> Result<String, Refused> {
+/// Puts the first eight bytes of a file.
+pub fn put_front<D: Disk>(page: &mut Page, disk: &mut D, name: &[u8]) -> Result<(), Refused> {
     if !is_name(name) {
         return Err(Refused::NoCall);
     }
     let mut out = [0u8; 8];
     match disk.read_at(name, 0, &mut out) {
-        Ok(bytes) => shown(alloc, &out[..bytes.min(8)]),
-        Err(Fault) => Ok(String::from_str(alloc, "fault")?),
+        Ok(bytes) => page.put_bytes(&out[..bytes.min(8)]),
+        Err(Fault) => page.put("fault"),
     }
+    Ok(())
 }
 
-fn renamed<D: Disk>(
-    alloc: Global,
-    disk: &mut D,
-    from: &[u8],
-    to: &[u8],
-) -> Result<String, Refused> {
+fn rename<D: Disk>(page: &mut Page, disk: &mut D, from: &[u8], to: &[u8]) -> Result<(), Refused> {
     if !is_name(from) || !is_name(to) {
         return Err(Refused::NoCall);
     }
-    done(alloc, disk.rename(from, to))
+    page.put_done(disk.rename(from, to));
+    Ok(())
 }
 
 /// Writes within the file or at its end.
 #[tactic(auto, using(acq_outside::proofs::FileMaps::sized_within))]
 fn write<D: Disk>(
-    alloc: Global,
+    page: &mut Page,
     disk: &mut D,
     name: &[u8],
     at: u64,
     content: &[u8],
-) -> Result<String, Refused> {
-    if !is_name(name) {
-        return Err(Refused::NoCall);
-    }
-    let written = match disk.size(name) {
-        Ok(Some(len)) if at <= len => disk.write_at(name, at, content),
+) -> Result<(), Refused>
+    requires { IsName name.now }
+{
+    match disk.size(name) {
+        Ok(Some(len)) if at <= len => page.put_done(disk.write_at(name, at, content)),
         Ok(_) => return Err(Refused::NoCall),
-        Err(Fault) => Err(Fault),
-    };
-    done(alloc, written)
+        Err(Fault) => page.put("fault"),
+    }
+    Ok(())
 }
 
 /// Cuts within the file.
 #[tactic(auto, using(acq_outside::proofs::FileMaps::cut_within))]
-fn cut<D: Disk>(alloc: Global, disk: &mut D, name: &[u8], len: u64) -> Result<String, Refused> {
-    if !is_name(name) {
-        return Err(Refused::NoCall);
-    }
-    let cut = match disk.size(name) {
-        Ok(Some(size)) if len <= size => disk.cut(name, len),
-        Ok(None) if len == 0 => disk.cut(name, 0),
+fn cut<D: Disk>(page: &mut Page, disk: &mut D, name: &[u8], len: u64) -> Result<(), Refused>
+    requires { IsName name.now }
+{
+    match disk.size(name) {
+        Ok(Some(size)) if len <= size => page.put_done(disk.cut(name, len)),
+        Ok(None) if len == 0 => page.put_done(disk.cut(name, 0)),
         Ok(_) => return Err(Refused::NoCall),
-        Err(Fault) => Err(Fault),
-    };
-    done(alloc, cut)
+        Err(Fault) => page.put("fault"),
+    }
+    Ok(())
 }
 
-/// Opens the journal, and tells the place of its damage, if it has any.
-fn opened(alloc: Global, disk: &mut MemDisk) -> Result<String, Refused> {
+/// Opens the journal, and puts the place of its damage, if it has any.
+fn open<D: Disk>(alloc: Global, page: &mut Page, disk: &mut D) {
     match open_journal(alloc, disk) {
-        Ok(_) => Ok(String::from_str(alloc, "opened")?),
-        Err(JournalError::BadJournal(at)) => Ok(format!(in alloc; "damaged at {at}")?),
-        Err(JournalError::DiskFault) => Ok(String::from_str(alloc, "fault")?),
-        Err(JournalError::NoMemory) => Err(Refused::NoMemory),
+        Ok(_) => page.put("opened"),
+        Err(JournalError::BadJournal(at)) => {
+            page.put("damaged at ");
+            page.put_number(at);
+        }
+        Err(JournalError::DiskFault) => page.put("fault"),
+        Err(JournalError::NoMemory) => page.fall_short(),
     }
 }
 
-/// Whether the list of this name is the one of this digest and size.
-fn verified(
+/// Puts whether the list of this name is the one of this digest and size.
+fn verified<D: Disk>(
     alloc: Global,
-    disk: &mut MemDisk,
-    name: &str,
-    digest: &str,
-    size: &str,
-) -> Result<String, Refused> {
-    let name = ListName(bytes(alloc, name)?);
-    let sum = read_sum(digest.as_bytes(), size.as_bytes()).map_err(|_| Refused::NoCall)?;
+    page: &mut Page,
+    disk: &mut D,
+    name: &Text,
+    digest: &Text,
+    size: &Text,
+) -> Result<(), Refused> {
+    let Ok(sum) = read_sum(digest.as_bytes(), size.as_bytes()) else {
+        return Err(Refused::NoCall);
+    };
+    let name = ListName(name.copy(alloc)?);
     if !is_name(name.0.as_bytes()) {
         return Err(Refused::NoCall);
     }
-    Ok(String::from_str(
-        alloc,
-        match verify(disk, &name, &sum) {
-            Ok(true) => "fits",
-            Ok(false) => "differs",
-            Err(Fault) => "fault",
-        },
-    )?)
+    page.put(match verify(disk, &name, &sum) {
+        Ok(true) => "fits",
+        Ok(false) => "differs",
+        Err(Fault) => "fault",
+    });
+    Ok(())
 }

@@ -11,6 +11,7 @@
 #![tactic(auto)]
 
 use objects::Objects;
+use page::Page;
 use std::{env, fs, io, process};
 
 mod answers;
@@ -19,10 +20,13 @@ mod etc;
 mod files;
 mod folder;
 mod input;
-mod link;
 mod memory;
+mod network;
 mod objects;
+mod page;
+mod peer;
 mod port;
+mod system;
 mod tree;
 mod words;
 mod written;
@@ -57,8 +61,10 @@ fn answer(rt: HostRuntime, objects: &mut Objects, line: &str) -> io::Result<()> 
     if line.is_empty() || line.starts_with('#') {
         return println!(rt; "{line}");
     }
-    match objects.answer(line) {
-        Ok(text) => println!(rt; "{line} -> {text}"),
-        Err(refused) => println!(rt; "{line} -> {refused}"),
+    let mut page = Page::new(rt.alloc());
+    let answered = objects.answer(&mut page, line);
+    match (answered, page.text()) {
+        (Ok(()), Ok(text)) => println!(rt; "{line} -> {text}"),
+        (Err(refused), _) | (_, Err(refused)) => println!(rt; "{line} -> {refused}"),
     }
 }

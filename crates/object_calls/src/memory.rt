@@ -1,8 +1,8 @@
 //! A lists folder in memory: its calls, what a crash leaves of it, and what it gives when its journal is opened.
 
-use crate::answers::shown;
 use crate::folder;
-use crate::words::{Refused, bytes, number};
+use crate::page::Page;
+use crate::words::{Refused, number};
 use acq_base::{Bytes, Row, Text, TryCopy};
 use acq_memory::MemDisk;
 use acq_outside::Disk;
@@ -37,6 +37,50 @@ impl Start {
         }
     }
 
+    /// Notes what a call says of the beginning.
+    fn note(&mut self, page: &mut Page, call: &str, words: &[Text]) -> Result<(), Refused> {
+        match (call, words) {
+            ("held", []) => {
+                self.held = true;
+                page.put("held");
+                return Ok(());
+            }
+            ("fails", numbers) => self.fail(numbers)?,
+            ("fuse", [calls]) => self.fuse = Some(number(calls)?),
+            _ => return Err(Refused::NoCall),
+        }
+        page.put("noted");
+        Ok(())
+    }
+
+    fn fail(&mut self, numbers: &[Text]) -> Result<(), Refused> {
+        for word in numbers {
+            self.failing.push(number(word)?)?;
+        }
+        Ok(())
+    }
+
+    /// Adds files, a name and a content each.
+    fn add(&mut self, alloc: Global, files: &[Text]) -> Result<(), Refused> {
+        for file in files.chunks(2) {
+            let [name, content] = file else {
+                return Err(Refused::NoCall);
+            };
+            let name = name.copy(alloc)?;
+            let content = content.copy(alloc)?.into_bytes();
+            self.files.push((name, content))?;
+        }
+        Ok(())
+    }
+
+    /// Adds a file of so many letters `x`.
+    fn add_long(&mut self, alloc: Global, name: &Text, size: u64) -> Result<(), Refused> {
+        let name = name.copy(alloc)?;
+        let content = vec![in alloc; b'x'; size as usize]?;
+        self.files.push((name, Bytes::from(content)))?;
+        Ok(())
+    }
+
     /// A folder that begins so.
     fn disk(&self, alloc: Global) -> Result<MemDisk, Refused> {
         let files = self.files.copy(alloc)?;
@@ -61,99 +105,92 @@ impl Memory {
         }
     }
 
-    /// What a call answers.
-    pub fn answer(&mut self, call: &[&str]) -> Result<String, Refused> {
+    /// Puts what a call answers.
+    pub fn answer(&mut self, page: &mut Page, call: &str, words: &[Text]) -> Result<(), Refused> {
         match call {
-            ["begin", files @ ..] => self.begin(files),
-            ["begin-long", name, size] => self.begin_long(name, number(size)?),
-            ["held"] => {
-                self.start.held = true;
-                self.word("held")
-            }
-            ["fails", numbers @ ..] => {
-                for word in numbers {
-                    self.start.failing.push(number(word)?)?;
-                }
-                self.word("noted")
-            }
-            ["fuse", calls] => {
-                self.start.fuse = Some(number(calls)?);
-                self.word("noted")
-            }
-            ["crash", choice @ ..] => self.crash(choice),
-            _ => self.called(call),
+            "begin" | "begin-long" => self.begin(page, call, words),
+            "held" | "fails" | "fuse" => self.start.note(page, call, words),
+            "crash" => crash(self.alloc, page, &mut self.disk, words),
+            _ => self.called(page, call, words),
         }
     }
 
-    /// A folder of these files, a name and a content each, begins with the next call.
-    fn begin(&mut self, files: &[&str]) -> Result<String, Refused> {
-        self.start = Start::new(self.alloc);
-        for file in files.chunks(2) {
-            let [name, content] = file else {
-                return Err(Refused::NoCall);
-            };
-            let name = bytes(self.alloc, name)?;
-            let content = bytes(self.alloc, content)?.into_bytes();
-            self.start.files.push((name, content))?;
-        }
+    /// A folder of these files, or of one file of so many letters, begins with the next call.
+    fn begin(&mut self, page: &mut Page, call: &str, words: &[Text]) -> Result<(), Refused> {
         self.disk = None;
-        self.word("begun")
+        self.start = Start::new(self.alloc);
+        match (call, words) {
+            ("begin", files) => self.start.add(self.alloc, files)?,
+            (_, [name, size]) => self.start.add_long(self.alloc, name, number(size)?)?,
+            _ => return Err(Refused::NoCall),
+        }
+        page.put("begun");
+        Ok(())
     }
 
-    /// A folder of one file of so many letters `x` begins with the next call.
-    fn begin_long(&mut self, name: &str, size: u64) -> Result<String, Refused> {
-        let begun = self.begin(&[])?;
-        let name = bytes(self.alloc, name)?;
-        let content = vec![in self.alloc; b'x'; size as usize]?;
-        self.start.files.push((name, Bytes::from(content)))?;
-        Ok(begun)
-    }
-
-    fn word(&self, word: &str) -> Result<String, Refused> {
-        Ok(String::from_str(self.alloc, word)?)
-    }
-
-    /// What a call of the folder answers, once it has begun.
-    fn called(&mut self, call: &[&str]) -> Result<String, Refused> {
+    /// Puts what a call of the folder answers, once it has begun.
+    fn called(&mut self, page: &mut Page, call: &str, words: &[Text]) -> Result<(), Refused> {
         if self.disk.is_none() {
             self.disk = Some(self.start.disk(self.alloc)?);
         }
-        match &mut self.disk {
-            Some(disk) => folder::answer(self.alloc, disk, call),
-            None => Err(Refused::NoCall),
+        match (&mut self.disk, call) {
+            (Some(disk), "faults") => page.put_number(disk.faults()),
+            (Some(disk), "dry") => page.put_number(disk.dry()),
+            (Some(disk), _) => folder::answer(self.alloc, page, disk, call, words)?,
+            (None, _) => return Err(Refused::NoCall),
         }
-    }
-
-    /// A crash leaves what this choice says, and the folder is that from now on.
-    fn crash(&mut self, choice: &[&str]) -> Result<String, Refused> {
-        let mut row = Row::new(self.alloc);
-        for word in choice {
-            row.push(word.parse::<u8>().map_err(|_| Refused::NoCall)?)?;
-        }
-        let Some(disk) = self.disk.take() else {
-            return Err(Refused::NoCall);
-        };
-        let mut left = disk.crashed(&row)?;
-        let text = image(self.alloc, &mut left)?;
-        self.disk = Some(left);
-        Ok(text)
+        Ok(())
     }
 }
 
-/// The files of a folder, `NAME=CONTENT` each, or `nothing`.
-fn image(alloc: Global, disk: &mut MemDisk) -> Result<String, Refused> {
-    let mut line = String::new(alloc);
-    let names = disk.names(alloc).map_err(|_| Refused::NoCall)?;
-    for name in names.as_slice() {
-        if !line.is_empty() {
-            line.push(' ')?;
+/// A crash leaves what this choice says, and the folder is that from now on.
+fn crash(
+    alloc: Global,
+    page: &mut Page,
+    disk: &mut Option<MemDisk>,
+    choice: &[Text],
+) -> Result<(), Refused> {
+    let choice = bytes(alloc, choice)?;
+    let Some(crashed) = disk.take() else {
+        return Err(Refused::NoCall);
+    };
+    let mut left = crashed.crashed(&choice)?;
+    let put = put_image(alloc, page, &mut left);
+    *disk = Some(left);
+    put
+}
+
+/// The numbers below 256 that words are.
+fn bytes(alloc: Global, words: &[Text]) -> Result<Row<u8>, Refused> {
+    let mut bytes = Row::new(alloc);
+    for word in words {
+        let Ok(byte) = u8::try_from(number(word)?) else {
+            return Err(Refused::NoCall);
+        };
+        bytes.push(byte)?;
+    }
+    Ok(bytes)
+}
+
+/// Puts the files of a folder, `NAME=CONTENT` each, or `nothing`.
+fn put_image<D: Disk>(alloc: Global, page: &mut Page, disk: &mut D) -> Result<(), Refused> {
+    match disk.names(alloc) {
+        Ok(names) => put_files(page, disk, names.as_slice()),
+        Err(_) => Err(Refused::NoCall),
+    }
+}
+
+fn put_files<D: Disk>(page: &mut Page, disk: &mut D, names: &[Text]) -> Result<(), Refused> {
+    if names.is_empty() {
+        page.put("nothing");
+    }
+    for (at, name) in names.iter().enumerate() {
+        if at > 0 {
+            page.put(" ");
         }
-        line.push_str(shown(alloc, name.as_bytes())?.as_str())?;
-        line.push('=')?;
-        line.push_str(folder::front(alloc, disk, name.as_bytes())?.as_str())?;
+        page.put_bytes(name.as_bytes());
+        page.put("=");
+        folder::put_front(page, disk, name.as_bytes())?;
     }
-    if line.is_empty() {
-        line.push_str("nothing")?;
-    }
-    Ok(line)
+    Ok(())
 }

@@ -1,8 +1,8 @@
 //! Calls of the files that are served.
 
-use crate::answers::{length, piece};
-use crate::words::{Refused, bytes, number};
-use acq_base::Text;
+use crate::page::Page;
+use crate::words::{Refused, number};
+use acq_base::{NoMemory, Text};
 use acq_outside::Tree;
 use acq_real::RealTree;
 use std::alloc::Global;
@@ -10,27 +10,40 @@ use std::alloc::Global;
 /// The files of the operating system.
 type Real = RealTree<HostRuntime>;
 
-/// What a call answers. Paths are below the folder `own`.
-pub fn answer(alloc: Global, tree: &mut Real, own: &str, call: &[&str]) -> Result<String, Refused> {
-    match call {
-        ["size", path] => length(alloc, tree.size(&below(alloc, own, path)?)),
-        ["read", path, at] => read(alloc, tree, &below(alloc, own, path)?, number(at)?),
-        ["faults"] => Ok(format!(in alloc; "{}", tree.faults())?),
-        _ => Err(Refused::NoCall),
+/// Puts what a call answers. Paths are below the folder `own`.
+pub fn answer(
+    rt: HostRuntime,
+    page: &mut Page,
+    tree: &mut Real,
+    own: &str,
+    call: &str,
+    words: &[Text],
+) -> Result<(), Refused> {
+    let alloc = rt.alloc();
+    match (call, words) {
+        ("open", []) => {
+            *tree = RealTree::new(rt);
+            page.put("opened");
+        }
+        ("size", [path]) => page.put_length(tree.size(&below(alloc, own, path)?)),
+        ("read", [path, at]) => read(page, tree, &below(alloc, own, path)?, number(at)?),
+        ("faults", []) => page.put_number(tree.faults()),
+        _ => return Err(Refused::NoCall),
     }
+    Ok(())
 }
 
 /// A path below a folder.
-pub fn below(alloc: Global, own: &str, path: &str) -> Result<Text, Refused> {
+pub fn below(alloc: Global, own: &str, path: &Text) -> Result<Text, NoMemory> {
     let mut whole = Text::from_bytes(alloc, own.as_bytes())?;
     whole.push(b'/')?;
-    whole.append(bytes(alloc, path)?.as_bytes())?;
+    whole.append(path.as_bytes())?;
     Ok(whole)
 }
 
 /// Reads into a buffer of four stars.
-fn read(alloc: Global, tree: &mut Real, path: &Text, at: u64) -> Result<String, Refused> {
+fn read(page: &mut Page, tree: &mut Real, path: &Text, at: u64) {
     let mut out = *b"****";
     let read = tree.read_at(path, at, &mut out);
-    piece(alloc, read, &out)
+    page.put_piece(read, &out);
 }

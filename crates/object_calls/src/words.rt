@@ -1,8 +1,8 @@
 //! The words of a line.
 
-use acq_base::{NoMemory, Text};
+use acq_base::{NoMemory, Row, Text, read_digits};
 use std::alloc::{AllocError, Global};
-use std::{fmt, io};
+use std::{fmt, io, str};
 
 /// Why a line has no answer.
 #[derive(Clone, Copy, PartialEq, Eq)]
@@ -44,27 +44,52 @@ impl From<io::Error> for Refused {
 }
 
 /// The number that a word is.
-pub fn number(word: &str) -> Result<u64, Refused> {
-    word.parse::<u64>().map_err(|_| Refused::NoCall)
+pub fn number(word: &Text) -> Result<u64, Refused> {
+    read_digits(word.as_bytes()).ok_or(Refused::NoCall)
 }
 
 /// The number below 65536 that a word is.
-pub fn short(word: &str) -> Result<u16, Refused> {
-    word.parse::<u16>().map_err(|_| Refused::NoCall)
+pub fn short(word: &Text) -> Result<u16, Refused> {
+    match u16::try_from(number(word)?) {
+        Ok(number) => Ok(number),
+        Err(_) => Err(Refused::NoCall),
+    }
+}
+
+/// The path of a word, below a folder.
+pub fn path(alloc: Global, folder: &str, word: &Text) -> Result<String, Refused> {
+    match str::from_utf8(word.as_bytes()) {
+        Ok(word) => Ok(format!(in alloc; "{folder}/{word}")?),
+        Err(_) => Err(Refused::NoCall),
+    }
+}
+
+/// What each of the words stands for.
+pub fn texts(alloc: Global, words: &[&str]) -> Result<Row<Text>, Refused> {
+    let mut texts = Row::new(alloc);
+    for word in words {
+        texts.push(text(alloc, word)?)?;
+    }
+    Ok(texts)
 }
 
 /// The bytes that a word stands for.
-pub fn bytes(alloc: Global, word: &str) -> Result<Text, Refused> {
+fn text(alloc: Global, word: &str) -> Result<Text, Refused> {
     let mut text = Text::new(alloc);
-    if word == "\"\"" {
-        return Ok(text);
+    if word != "\"\"" {
+        append(&mut text, word)?;
     }
+    Ok(text)
+}
+
+/// Appends the bytes that a word with escapes stands for.
+fn append(text: &mut Text, word: &str) -> Result<(), Refused> {
     let mut pieces = word.split('\\');
     text.append(pieces.next().unwrap_or("").as_bytes())?;
     for piece in pieces {
-        append_escaped(&mut text, piece.as_bytes())?;
+        append_escaped(text, piece.as_bytes())?;
     }
-    Ok(text)
+    Ok(())
 }
 
 /// Appends what a backslash and the text behind it stand for.
