@@ -4,8 +4,8 @@ ghost use Rattle.acq_base.specs.Uri.{IsSound};
 ghost use Rattle.acq_outside.specs.Word.{CanBegin};
 
 use crate::cases::{Argument, Refused, Step};
-use crate::shown::{append_bytes, append_not_served, append_reply};
-use acq_base::Job;
+use crate::page::Page;
+use acq_base::{Job, Text};
 use acq_outside::{Method, Word};
 use std::alloc::Global;
 use uri_names::read_uri;
@@ -16,31 +16,18 @@ const MOST_WORDS: u8 = 40;
 /// The longest piece that is shown as it is, in bytes.
 const MOST_SHOWN: usize = 20;
 
-/// Carries the steps out that ask a method: `fetch` tells each word, `whole` the reply to a fetch of the whole, and
-/// `faults` how often it failed. Steps with one of the words `made` were for its making.
-pub fn append_all<M: Method>(
+/// Carries the steps out that ask a method. Steps with one of the words `made` were for its making.
+pub fn put_all<M: Method>(
     alloc: Global,
+    page: &mut Page,
     method: &mut M,
     steps: &[Step],
     made: &[&str],
-    line: &mut String,
 ) -> Result<(), Refused> {
     for step in steps {
-        match (step.name.as_str(), step.arguments.as_slice()) {
-            (
-                "fetch",
-                [
-                    Argument::Text(uri),
-                    Argument::Number(max),
-                    Argument::Number(from),
-                ],
-            ) => { append_fetch(alloc, method, uri.as_bytes(), *max, *from, line)? }
-            ("whole", [Argument::Text(uri), Argument::Number(max)]) => {
-                append_whole(alloc, method, uri.as_bytes(), *max, line)?
-            }
-            ("faults", []) => write!(line, " faults {}", method.faults())?,
-            (name, _) if is_one_of(name, made) => {}
-            _ => return Err(Refused::NoCase),
+        let name = step.name.as_str();
+        if !is_one_of(name, made) {
+            ask(alloc, page, method, name, step.arguments.as_slice())?;
         }
     }
     Ok(())
@@ -50,110 +37,127 @@ fn is_one_of(name: &str, words: &[&str]) -> bool {
     words.iter().any(|word| *word == name)
 }
 
-/// Appends the words of a fetch of at most `max` bytes from the byte `from` on.
-fn append_fetch<M: Method>(
+/// Asks a method: `fetch` puts each word of a fetch, `whole` the reply to a fetch of the whole, and `faults` how often it
+/// failed.
+fn ask<M: Method>(
     alloc: Global,
+    page: &mut Page,
     method: &mut M,
-    uri: &[u8],
+    name: &str,
+    arguments: &[Argument],
+) -> Result<(), Refused> {
+    match (name, arguments) {
+        (
+            "fetch",
+            [
+                Argument::Text(uri),
+                Argument::Number(max),
+                Argument::Number(from),
+            ],
+        ) => { fetch(alloc, page, method, uri, *max, *from) }
+        ("whole", [Argument::Text(uri), Argument::Number(max)]) => {
+            fetch_whole(alloc, page, method, uri, *max)
+        }
+        ("faults", []) => {
+            page.put_number(" faults ", method.faults());
+            Ok(())
+        }
+        _ => Err(Refused::NoCase),
+    }
+}
+
+/// Puts the words of a fetch of at most `max` bytes from the byte `from` on.
+fn fetch<M: Method>(
+    alloc: Global,
+    page: &mut Page,
+    method: &mut M,
+    uri: &Text,
     max: u64,
     from: u64,
-    line: &mut String,
 ) -> Result<(), Refused> {
     if from >= max {
         return Err(Refused::NoCase);
     }
-    let uri = read_uri(alloc, uri)?;
+    let uri = read_uri(alloc, uri.as_bytes())?;
     let job = Job {
         no: 0,
         uri,
         max,
         from,
     };
-    append_words(alloc, method, &job, line)?;
-    line.push(';')?;
+    put_words(alloc, page, method, &job);
+    page.put(";");
     Ok(())
 }
 
-/// Appends the words of a fetch.
+/// Puts the words of a fetch.
 #[tactic(auto, using(crate::proofs::Going::goes_on_first))]
-fn append_words<M: Method>(
-    alloc: Global,
-    method: &mut M,
-    job: &Job,
-    line: &mut String,
-) -> Result<(), Refused>
+fn put_words<M: Method>(alloc: Global, page: &mut Page, method: &mut M, job: &Job)
     requires sound { IsSound job.now.uri }
     requires from { CanBegin job.now }
 {
     let word = method.begin(alloc, job);
-    append_word(line, &word)?;
-    match word {
-        Word::Piece { at: _, bytes: _ } => go_on(alloc, method, line, MOST_WORDS),
-        Word::Done { size: _ } | Word::Not(_) | Word::NoMemory => Ok(()),
+    put_word(page, &word);
+    if let Word::Piece { at: _, bytes: _ } = word {
+        go_on(alloc, page, method, MOST_WORDS);
     }
 }
 
-/// Appends the words behind a piece.
+/// Puts the words behind a piece.
 #[tactic(auto, using(crate::proofs::Going::goes_on))]
-fn go_on<M: Method>(
-    alloc: Global,
-    method: &mut M,
-    line: &mut String,
-    most: u8,
-) -> Result<(), Refused>
+fn go_on<M: Method>(alloc: Global, page: &mut Page, method: &mut M, most: u8)
     requires { IsSome (M.under method.old) }
 {
     if most == 0 {
-        return Ok(());
+        return;
     }
     let word = method.more(alloc);
-    append_word(line, &word)?;
-    match word {
-        Word::Piece { at: _, bytes: _ } => go_on(alloc, method, line, most - 1),
-        Word::Done { size: _ } | Word::Not(_) | Word::NoMemory => Ok(()),
+    put_word(page, &word);
+    if let Word::Piece { at: _, bytes: _ } = word {
+        go_on(alloc, page, method, most - 1);
     }
 }
 
-/// Appends the reply to a fetch of the whole.
-fn append_whole<M: Method>(
+/// Puts the reply to a fetch of the whole.
+fn fetch_whole<M: Method>(
     alloc: Global,
+    page: &mut Page,
     method: &mut M,
-    uri: &[u8],
+    uri: &Text,
     max: u64,
-    line: &mut String,
 ) -> Result<(), Refused> {
-    let uri = read_uri(alloc, uri)?;
+    let uri = read_uri(alloc, uri.as_bytes())?;
     let job = Job {
         no: 0,
         uri,
         max,
         from: 0,
     };
-    append_reply(line, &method.fetch(alloc, &job))?;
-    line.push(';')?;
+    page.put_reply(&method.fetch(alloc, &job));
+    page.put(";");
     Ok(())
 }
 
-fn append_word(line: &mut String, word: &Word) -> Result<(), Refused> {
+fn put_word(page: &mut Page, word: &Word) {
     match word {
-        Word::Piece { at, bytes } => append_piece(line, *at, bytes.as_slice()),
-        Word::Done { size } => Ok(write!(line, " ={size}")?),
-        Word::Not(end) => append_not_served(line, end),
-        Word::NoMemory => Err(Refused::NoMemory),
+        Word::Piece { at, bytes } => put_piece(page, *at, bytes.as_slice()),
+        Word::Done { size } => page.put_number(" =", *size),
+        Word::Not(end) => page.put_not_served(end),
+        Word::NoMemory => page.fall_short(),
     }
 }
 
-/// Appends where a piece begins, and its bytes; of a long one how many they are, and whether they are the pattern's.
-fn append_piece(line: &mut String, at: u64, bytes: &[u8]) -> Result<(), Refused> {
-    write!(line, " {at}+")?;
+/// Puts where a piece begins, and its bytes; of a long one how many they are, and whether they are the pattern's.
+fn put_piece(page: &mut Page, at: u64, bytes: &[u8]) {
+    page.put_number(" ", at);
     if bytes.len() <= MOST_SHOWN {
-        append_bytes(line, bytes)?;
-    } else if is_pattern(at, bytes) {
-        write!(line, "{}", bytes.len())?;
-    } else {
-        write!(line, "{} other bytes", bytes.len())?;
+        page.put_bytes("+", bytes);
+        return;
     }
-    Ok(())
+    page.put_number("+", bytes.len() as u64);
+    if !is_pattern(at, bytes) {
+        page.put(" other bytes");
+    }
 }
 
 /// What the pattern has at a place: no two of its pieces are alike.

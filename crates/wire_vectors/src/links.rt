@@ -1,7 +1,7 @@
 //! Connections in memory whose peers follow a script.
 
 use crate::cases::{Argument, Refused, Step, numbers_of, texts};
-use crate::shown::{append_bytes, append_named};
+use crate::page::Page;
 use acq_base::{Row, Text};
 use acq_net::{Link, ScriptLink};
 use acq_outside::Fault;
@@ -19,57 +19,63 @@ pub fn link_of(alloc: Global, steps: &[Step]) -> Result<ScriptLink, Refused> {
     Ok(ScriptLink::new(alloc, connections, failing))
 }
 
-/// What a link answers to steps, one after another.
-pub fn answer(alloc: Global, steps: &[Step]) -> Result<String, Refused> {
+/// Puts what a link answers to steps, one after another.
+pub fn answer(alloc: Global, page: &mut Page, steps: &[Step]) -> Result<(), Refused> {
     let mut link = link_of(alloc, steps)?;
-    let mut line = String::new(alloc);
+    let host = Text::from_bytes(alloc, b"h")?;
+    go_all(page, &mut link, &host, steps)
+}
+
+/// Takes the steps, of which `connect` leads to a host.
+fn go_all(
+    page: &mut Page,
+    link: &mut ScriptLink,
+    host: &Text,
+    steps: &[Step],
+) -> Result<(), Refused> {
     for step in steps {
         match (step.name.as_str(), step.arguments.as_slice()) {
             ("peer" | "fail", _) => {}
-            ("send", [Argument::Text(text)]) => append_done(&mut line, link.send(text.as_bytes()))?,
-            (name, []) => go(alloc, &mut link, name, &mut line)?,
+            ("connect", []) => put_done(page, link.connect(host, 80)),
+            ("send", [Argument::Text(text)]) => put_done(page, link.send(text.as_bytes())),
+            (name, []) => go(page, link, name)?,
             _ => return Err(Refused::NoCase),
         }
     }
-    Ok(line)
+    Ok(())
 }
 
 /// Takes a step that has no argument.
-fn go(alloc: Global, link: &mut ScriptLink, name: &str, line: &mut String) -> Result<(), Refused> {
+fn go(page: &mut Page, link: &mut ScriptLink, name: &str) -> Result<(), Refused> {
     match name {
-        "connect" => append_done(line, link.connect(&Text::from_bytes(alloc, b"h")?, 80))?,
-        "receive" => receive(link, line)?,
-        "sent" => append_named(line, " sent ", link.sent().as_slice())?,
+        "receive" => receive(page, link),
+        "sent" => page.put_bytes(" sent ", link.sent().as_slice()),
         "close" => link.close(),
-        "connections" => write!(line, " connections {}", link.made())?,
-        "faults" => write!(
-            line,
-            " faults {}, for want of memory {}",
-            link.faults(),
-            link.dry()
-        )?,
+        "connections" => page.put_number(" connections ", link.made()),
+        "faults" => {
+            page.put_number(" faults ", link.faults());
+            page.put_number(", for want of memory ", link.dry());
+        }
         _ => return Err(Refused::NoCase),
     }
     Ok(())
 }
 
-fn append_done(line: &mut String, done: Result<(), Fault>) -> Result<(), Refused> {
-    line.push_str(match done {
+fn put_done(page: &mut Page, done: Result<(), Fault>) {
+    page.put(match done {
         Ok(()) => " done",
         Err(Fault) => " fault",
-    })?;
-    Ok(())
+    });
 }
 
 /// Receives bytes, at most four.
-fn receive(link: &mut ScriptLink, line: &mut String) -> Result<(), Refused> {
+fn receive(page: &mut Page, link: &mut ScriptLink) {
     let mut out = *b"****";
     match link.receive(&mut out) {
         Ok(n) => {
-            write!(line, " {n} ")?;
-            append_bytes(line, &out[..n])?;
+            page.put_number(" ", n as u64);
+            page.put_bytes(" ", &out[..n]);
         }
-        Err(Fault) => line.push_str(" fault")?,
+        Err(Fault) => page.put(" fault"),
     }
-    Ok(())
 }

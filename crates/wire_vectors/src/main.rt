@@ -6,7 +6,8 @@
 //! printed again.
 #![tactic(auto)]
 
-use cases::{Case, Refused, read_case};
+use cases::{Case, Refused, Step, read_case};
+use page::Page;
 use std::alloc::Global;
 use std::io;
 
@@ -16,7 +17,7 @@ mod fetches;
 mod links;
 mod messages;
 mod methods;
-mod shown;
+mod page;
 mod streams;
 mod trees;
 
@@ -43,29 +44,38 @@ fn answer(rt: &HostRuntime, text: &str) -> io::Result<()> {
         return println!(rt; "{text}");
     }
     match read_case(rt.alloc(), text) {
-        Ok(case) => match answered(rt.alloc(), &case) {
-            Ok(line) => println!(rt; "{}:{line}", case.name.as_str()),
-            Err(refused) => println!(rt; "{}: {refused}", case.name.as_str()),
-        },
+        Ok(case) => tell(rt, &case),
         Err(refused) => println!(rt; "{text}: {refused}"),
     }
 }
 
-/// What a case comes to, each part behind a blank. Its first step says of what it is one.
-fn answered(alloc: Global, case: &Case) -> Result<String, Refused> {
-    let Some((first, rest)) = case.steps.as_slice().split_first() else {
+/// Prints the name of a case and what it comes to.
+fn tell(rt: &HostRuntime, case: &Case) -> io::Result<()> {
+    let name = case.name.as_str();
+    let mut page = Page::new(rt.alloc());
+    let answered = answered(rt.alloc(), &mut page, case.steps.as_slice());
+    match (answered, page.text()) {
+        (Ok(()), Ok(text)) => println!(rt; "{name}:{text}"),
+        (Err(refused), _) | (_, Err(refused)) => println!(rt; "{name}: {refused}"),
+    }
+}
+
+/// Puts what a case comes to, each part behind a blank. Its first step says of what it is one.
+fn answered(alloc: Global, page: &mut Page, steps: &[Step]) -> Result<(), Refused> {
+    let [first, steps @ ..] = steps else {
         return Err(Refused::NoCase);
     };
+    let name = first.name.as_str();
     let arguments = first.arguments.as_slice();
-    match first.name.as_str() {
-        "heard" | "state" | "request" => streams::answer(alloc, first.name.as_str(), arguments),
-        "wire" => streams::answer_steps(alloc, arguments, rest),
+    match name {
+        "heard" | "state" | "request" => streams::answer(alloc, page, name, arguments),
+        "wire" => streams::answer_steps(alloc, page, arguments, steps),
         "written" | "refused" | "counted" | "again" | "drawn" => {
-            messages::answer(alloc, first.name.as_str(), arguments)
+            messages::answer(alloc, page, name, arguments)
         }
-        "reader" => messages::answer_steps(alloc, rest),
-        "link" => links::answer(alloc, rest),
-        "files" => trees::answer(alloc, rest),
-        _ => methods::answer(alloc, first, rest),
+        "reader" => messages::answer_steps(alloc, page, steps),
+        "link" => links::answer(alloc, page, steps),
+        "files" => trees::answer(alloc, page, steps),
+        _ => methods::answer(alloc, page, name, arguments, steps),
     }
 }

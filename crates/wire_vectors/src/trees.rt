@@ -1,32 +1,33 @@
 //! Files in memory.
 
 use crate::cases::{Argument, Refused, Step, numbers_of};
-use crate::shown::append_bytes;
+use crate::page::Page;
 use acq_base::{Bytes, Row, Text, TryCopy};
 use acq_memory::MemTree;
 use acq_outside::{Fault, Tree};
 use std::alloc::Global;
 
-/// What a tree answers to steps, one after another: it has the files that steps `file` name, and its calls fail that a
-/// step `fail` numbers.
-pub fn answer(alloc: Global, steps: &[Step]) -> Result<String, Refused> {
+/// Puts what a tree answers to steps, one after another: it has the files that steps `file` name, and its calls fail that
+/// a step `fail` numbers.
+pub fn answer(alloc: Global, page: &mut Page, steps: &[Step]) -> Result<(), Refused> {
     let files = files_of(alloc, steps)?;
     if !MemTree::takes(&files) {
         return Err(Refused::NoCase);
     }
     let mut tree = MemTree::new(files, numbers_of(alloc, steps, "fail")?);
-    let mut line = String::new(alloc);
+    go_all(page, &mut tree, steps)
+}
+
+fn go_all(page: &mut Page, tree: &mut MemTree, steps: &[Step]) -> Result<(), Refused> {
     for step in steps {
         match (step.name.as_str(), step.arguments.as_slice()) {
             ("file" | "fail", _) => {}
-            ("size", [Argument::Text(path)]) => append_size(&mut line, tree.size(path))?,
-            ("read", [Argument::Text(path), Argument::Number(at)]) => {
-                read(&mut tree, path, *at, &mut line)?
-            }
+            ("size", [Argument::Text(path)]) => put_size(page, tree.size(path)),
+            ("read", [Argument::Text(path), Argument::Number(at)]) => read(page, tree, path, *at),
             _ => return Err(Refused::NoCase),
         }
     }
-    Ok(line)
+    Ok(())
 }
 
 /// The files that steps name.
@@ -44,22 +45,20 @@ fn files_of(alloc: Global, steps: &[Step]) -> Result<Row<(Text, Bytes)>, Refused
     Ok(files)
 }
 
-fn append_size(line: &mut String, size: Result<Option<u64>, Fault>) -> Result<(), Refused> {
+fn put_size(page: &mut Page, size: Result<Option<u64>, Fault>) {
     match size {
-        Ok(Some(size)) => write!(line, " {size}")?,
-        Ok(None) => line.push_str(" absent")?,
-        Err(Fault) => line.push_str(" fault")?,
+        Ok(Some(size)) => page.put_number(" ", size),
+        Ok(None) => page.put(" absent"),
+        Err(Fault) => page.put(" fault"),
     }
-    Ok(())
 }
 
 /// Reads into a buffer of four stars.
-fn read(tree: &mut MemTree, path: &Text, at: u64, line: &mut String) -> Result<(), Refused> {
+fn read(page: &mut Page, tree: &mut MemTree, path: &Text, at: u64) {
     let mut out = *b"****";
     match tree.read_at(path, at, &mut out) {
-        Ok(n) => write!(line, " {n} ")?,
-        Err(Fault) => line.push_str(" fault ")?,
+        Ok(n) => page.put_number(" ", n as u64),
+        Err(Fault) => page.put(" fault"),
     }
-    append_bytes(line, &out)?;
-    Ok(())
+    page.put_bytes(" ", &out);
 }
