@@ -3,21 +3,19 @@ ghost use Rattle.std.specs.Prelude.{◌≤◌, length, IfOk};
 
 use crate::answer::{check_folder, plain_length, unless};
 use crate::listing::Entry;
-use crate::opened::{OpenFolders, node_of, open_folders, open_found, still};
+use crate::opened::{LIST_FILE, OpenFolders, make_file, node_of, open_folders, open_found, still};
 use crate::ownership::{is_private, is_private_file, standing_of, user};
 use acq_base::Text;
 use os::RangeLock;
 use std::alloc::Global;
-use std::fs::{DirBuilder, File, Metadata, OpenOptions, Permissions};
+use std::fs::{DirBuilder, File, Metadata, Permissions};
 use std::io::{Error, ErrorKind};
 use std::os::fd::AsRawFd;
-use std::os::unix::fs::{
-    DirBuilderExt, FileExt, MetadataExt, OpenOptionsExt, PermissionsExt, fchown,
-};
+use std::os::unix::fs::{DirBuilderExt, FileExt, MetadataExt, PermissionsExt, fchown};
 use std::rt::Files;
 use std::{fs, io};
 
-/// The permission bits of `partial`: its files are trusted where they were made, so nobody else may come in.
+/// The permission bits of `partial` where it is made or taken over: what is in it is installed, so nobody else may come in.
 const PRIVATE_FOLDER: u32 = 0o700;
 
 /// The permission bits of the file that is locked, as apt makes it: who may not write it may not hold the folder.
@@ -26,7 +24,7 @@ const LOCK_FILE: u32 = 0o640;
 /// The permission bits of everybody but a file's owner and group.
 const EVERYBODY: u32 = 0o007;
 
-/// A file's length at most, and so the end of a lock that covers it whole.
+/// How many bytes a lock covers that covers a file whole.
 const WHOLE_FILE: u64 = i64::MAX as u64;
 
 /// Makes a folder, and answers whether it was missing.
@@ -59,31 +57,56 @@ fn find_folder(rt: &impl Files, path: &str) -> io::Result<Metadata> {
     Ok(found)
 }
 
-/// The folder `partial`, this user's alone. Where it isn't, it is taken over, as apt does for its own user whenever it
-/// starts; where that isn't allowed it is an error.
-fn find_partial(rt: &impl Files<File = File>, path: &str) -> io::Result<Metadata> {
-    let found = find_folder(rt, path)?;
-    if !is_private(standing_of(&found), user()) {
-        let opened = open_found(rt, path, node_of(&found), false)?;
-        fchown(&opened, Some(user()), None)?;
-        opened.set_permissions(Permissions::from_mode(PRIVATE_FOLDER))?;
+/// Anything but a folder that is this user's alone is an error.
+fn check_private(found: &Metadata) -> io::Result<()> {
+    check_folder(found)?;
+    if is_private(standing_of(found), user()) {
+        Ok(())
+    } else {
+        Err(Error::from(ErrorKind::PermissionDenied))
     }
+}
+
+/// The folder `partial`, this user's alone. Where somebody else had it meanwhile it is an error.
+fn find_partial(rt: &impl Files, path: &str) -> io::Result<Metadata> {
+    let found = find_folder(rt, path)?;
+    check_private(&found)?;
     Ok(found)
 }
 
+/// Takes the folder `partial` over, where it isn't this user's alone, as apt does for its own user whenever it starts.
+/// Where that isn't allowed, or does nothing, it is an error.
+fn take_over(rt: &impl Files<File = File>, path: &str) -> io::Result<()> {
+    let found = find_folder(rt, path)?;
+    if is_private(standing_of(&found), user()) {
+        return Ok(());
+    }
+    let opened = open_found(rt, path, node_of(&found), false)?;
+    fchown(&opened, Some(user()), None)?;
+    opened.set_permissions(Permissions::from_mode(PRIVATE_FOLDER))?;
+    check_private(&opened.metadata()?)
+}
+
 /// Anything but a folder as `partial` is an error. A link to a folder leads out of the disk's own.
-pub fn check_partial(rt: &impl Files<File = File>, alloc: Global, folder: &str) -> io::Result<()> {
+pub fn check_partial(rt: &impl Files, alloc: Global, folder: &str) -> io::Result<()> {
     find_partial(rt, partial_path(alloc, folder)?.as_str())?;
     Ok(())
 }
 
-/// Makes the folder where its parent is there, and `partial` in it, which may be there but must be a folder.
-pub fn make_folders(rt: &impl Files<File = File>, alloc: Global, folder: &str) -> io::Result<()> {
+/// Makes the folder where its parent is there.
+pub fn make_own(rt: &impl Files<File = File>, alloc: Global, folder: &str) -> io::Result<()> {
     if make_folder(rt, folder)? {
         sync_folder(rt, format!(in alloc; "{folder}/..")?.as_str())?;
     }
-    make_partial(rt, partial_path(alloc, folder)?.as_str())?;
-    check_partial(rt, alloc, folder)
+    Ok(())
+}
+
+/// Makes the folder likewise, and `partial` in it, which may be there but must be a folder, and is taken over.
+pub fn make_folders(rt: &impl Files<File = File>, alloc: Global, folder: &str) -> io::Result<()> {
+    make_own(rt, alloc, folder)?;
+    let partial = partial_path(alloc, folder)?;
+    make_partial(rt, partial.as_str())?;
+    take_over(rt, partial.as_str())
 }
 
 /// Makes the changes of names in the folder and in `partial` lasting: the folder's first, so that a crash between the two
@@ -155,14 +178,18 @@ pub fn read_some(file: &File, at: u64, out: &mut [u8]) -> io::Result<usize>
     Err(io::Error::from(ErrorKind::Interrupted))
 }
 
-/// Moves a file to another path, in place of what is there, a link too, and answers whether there is one to move.
+/// Moves a file to another path, in place of what is there, a link too, and answers whether there is one to move. One in
+/// `partial` that somebody else can write is an error.
 pub fn rename(rt: &impl Files, from: &str, from_partial: bool, to: &str) -> io::Result<bool> {
     find_plain(rt, to)?;
-    let found = find_file(rt, from, from_partial)?;
-    if found.is_some() {
-        fs::rename(rt, from, to)?;
+    let Some(found) = find_plain(rt, from)? else {
+        return Ok(false);
+    };
+    if from_partial && !is_private(standing_of(&found), user()) {
+        return Err(Error::from(ErrorKind::PermissionDenied));
     }
-    Ok(found.is_some())
+    fs::rename(rt, from, to)?;
+    Ok(true)
 }
 
 /// Removes a file or a link, and answers whether there was one. A folder there is an error, and so is all else.
@@ -182,18 +209,13 @@ pub fn remove(rt: &impl Files, path: &str) -> io::Result<bool> {
 pub fn replace(rt: &impl Files<File = File>, fresh: &str, path: &str) -> io::Result<()> {
     remove(rt, fresh)?;
     find_plain(rt, path)?;
-    File::create_new(rt, fresh)?;
+    make_file(rt, fresh, LIST_FILE)?;
     fs::rename(rt, fresh, path)
 }
 
 /// Opens the file at a path that is to be locked, an absent one being made first.
 fn open_lock(rt: &impl Files<File = File>, path: &str) -> io::Result<File> {
-    let mut how = OpenOptions::new();
-    how.read(true);
-    how.write(true);
-    how.create_new(true);
-    how.mode(LOCK_FILE);
-    if let Some(made) = unless(ErrorKind::AlreadyExists, how.open(rt, path))? {
+    if let Some(made) = unless(ErrorKind::AlreadyExists, make_file(rt, path, LOCK_FILE))? {
         return Ok(made);
     }
     match find_plain(rt, path)? {
@@ -206,12 +228,15 @@ fn open_lock(rt: &impl Files<File = File>, path: &str) -> io::Result<File> {
 /// opening of it, or by apt, whose lock is of this kind. The lock lasts as long as the file stays open.
 pub fn lock(rt: &impl Files<File = File>, path: &str) -> io::Result<Option<File>> {
     let file = open_lock(rt, path)?;
-    if file.metadata()?.mode() & EVERYBODY != 0 {
-        // Who may read it could keep it locked. Only its owner may mend that, who need not be this user.
-        let _mended = file.set_permissions(Permissions::from_mode(LOCK_FILE));
+    if unless(ErrorKind::WouldBlock, lock_whole(&file))?.is_none() {
+        return Ok(None);
     }
-    let locked = unless(ErrorKind::WouldBlock, lock_whole(&file))?;
-    Ok(locked.map(|_| file))
+    let mode = file.metadata()?.mode();
+    if mode & EVERYBODY != 0 {
+        // Who may read it could keep it locked. Only its owner may mend that, who need not be this user.
+        let _mended = file.set_permissions(Permissions::from_mode(mode & !EVERYBODY));
+    }
+    Ok(Some(file))
 }
 
 /// Takes the lock of a whole file for this opening of it.

@@ -5,8 +5,11 @@ ghost use Rattle.acq_real.specs.Opened.{IsClosed, StaysClosed, opened_by};
 use std::fs::{File, Metadata, OpenOptions};
 use std::io;
 use std::io::ErrorKind;
-use std::os::unix::fs::MetadataExt;
+use std::os::unix::fs::{MetadataExt, OpenOptionsExt};
 use std::rt::Files;
+
+/// The permission bits of a list: everybody may read it, and its owner alone may write it, whatever the umask.
+pub const LIST_FILE: u32 = 0o644;
 
 /// Which file or folder of the system it is. As long as it is open, no other one has its number.
 #[derive(Clone, Copy, PartialEq)]
@@ -142,12 +145,22 @@ pub fn create(rt: &impl Files<File = File>, path: String) -> io::Result<OpenFile
     ensures path { IfOk result (λ opened. opened_by opened ≡ string_bytes path) }
     ensures to_write { IfOk result (λ opened. opened.is_to_write ≡ true) }
 {
-    let file = File::create_new(rt, path.as_str())?;
+    let file = make_file(rt, path.as_str(), LIST_FILE)?;
     Ok(OpenFile {
         file,
         path,
         is_to_write: true,
     })
+}
+
+/// Makes a file where nothing has the path, with these permission bits at most.
+pub fn make_file(rt: &impl Files<File = File>, path: &str, mode: u32) -> io::Result<File> {
+    let mut how = OpenOptions::new();
+    how.read(true);
+    how.write(true);
+    how.create_new(true);
+    how.mode(mode);
+    how.open(rt, path)
 }
 
 /// Opens a disk's folder, and `partial` that was found in it.

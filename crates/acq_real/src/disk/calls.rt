@@ -90,13 +90,15 @@ impl<R: Files<File = File> + AllocGlobal + Clone + Drop> RealDisk<R> {
         ensures inside { OnOk result (IsInside name.now) }
         ensures path { IfOk result (λ opened. IsPathInside (folder_of self.old) name.now (opened_by opened)) }
     {
-        let absent = self.path(name)?;
-        self.kept.forget(absent.as_str());
-        if let Some(made) = unless(ErrorKind::AlreadyExists, create(&self.rt, absent))? {
+        let new_path = self.path(name)?;
+        self.kept.forget(new_path.as_str());
+        if let Some(made) = unless(ErrorKind::AlreadyExists, create(&self.rt, new_path))? {
             return Ok(made);
         }
         let path = self.path(name)?;
         let fresh = self.path(FRESH)?;
+        // No change of names that is pending may be lost while this one is kept.
+        self.sync_all()?;
         folder::replace(&self.rt, fresh.as_str(), path.as_str())?;
         self.sync_all()?;
         match self.open(name, true)? {
@@ -125,7 +127,10 @@ impl<R: Files<File = File> + AllocGlobal + Clone + Drop> RealDisk<R> {
         if self.lock.is_some() {
             return Ok(true);
         }
-        let path = self.path(LOCK)?;
+        // Until the lock is taken, `partial` may be in use by who has it.
+        let (alloc, folder) = (self.rt.alloc(), self.folder.as_str());
+        folder::make_own(&self.rt, alloc, folder)?;
+        let path = path_of(alloc, folder, LOCK)?;
         self.lock = folder::lock(&self.rt, path.as_str())?;
         Ok(self.lock.is_some())
     }
