@@ -2,12 +2,13 @@
 ghost use Rattle.std.specs.Prelude.{◌≡◌, ◌+◌, ◌++◌, ◌<◌, ◌≤◌, ◌^◌, length, take, IfOk, OnOk};
 ghost use Rattle.acq_base.specs.Sum.{sum_of};
 ghost use Rattle.acq_outside.specs.Stays.{Stays};
-ghost use Rattle.acq_outside.specs.States.{IsTold};
+ghost use Rattle.acq_outside.specs.States.{IsTold, Since};
 ghost use Rattle.hash_gate.specs.Pieces.{HasSummed, size_so_far};
-ghost use Rattle.journal_model.specs.Names.{IsPutName};
-ghost use Rattle.journal_model.specs.Rest.{part_bytes};
+ghost use Rattle.journal_model.specs.Names.{IsPutName, partial};
+ghost use Rattle.journal_model.specs.Rest.{KeepsOtherFiles, KeptAtRestSince, part_bytes};
 ghost use Rattle.partial_store.specs.Refinement.{part_of};
 ghost use Rattle.job_fetch.specs.Fetched.{LastsAs, Staging};
+ghost use Rattle.job_fetch.specs.Others.{OthersLeftSince};
 ghost use Rattle.job_fetch.specs.Pieces.{IsFilling, SumsOn};
 
 use acq_base::{ListName, Sum};
@@ -108,7 +109,9 @@ pub fn add<D: Disk>(disk: &mut D, filling: &mut Filling, piece: &[u8]) -> Result
 pub fn finish_file<D: Disk>(disk: &mut D, filling: Filling) -> Result<Sum, Fault>
     requires { IsFilling (D.trace disk.old) filling }
     ensures frame { Stays D.Disk disk.old disk.new result }
-    ensures staging { Staging filling.part.name (D.trace disk.old) (D.trace disk.new) }
+    ensures moments { Since (D.trace disk.old) (D.trace disk.new) (KeptAtRestSince (D.trace disk.old)) }
+    ensures others { KeepsOtherFiles filling.part.name (D.trace disk.old) (D.trace disk.new) }
+    ensures only { Since (D.trace disk.old) (D.trace disk.new) (OthersLeftSince (partial filling.part.name) (D.trace disk.old)) }
     ensures lasts { IfOk result (λ sum. IsTold (D.trace disk.new) → LastsAs filling.part.name (D.trace disk.new) sum) }
     ensures sum { IfOk result (λ sum. IsTold (D.trace disk.old) → sum ≡ sum_of (part_bytes (D.trace disk.old) filling.part.name)) }
     ensures bytes { OnOk result (IsTold (D.trace disk.new)

@@ -35,6 +35,8 @@ pub enum Kind {
     Board,
     /// One item: that of the first list, or where no Release is installed that of the Release.
     Item,
+    /// The item of the first list as a single file that no Release names, of the sum in the Release that is installed.
+    Single,
 }
 
 /// A file of the configuration folder.

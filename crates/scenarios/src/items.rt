@@ -9,11 +9,19 @@ use crate::telling::append_place;
 use acq_base::{Job, ListName, Plan, Row, Settings, Source, Target, Text, TryCopy};
 use configuration::Configured;
 use item_graph::{Ask, End, Item};
-use release_file::{find_file, read_release};
+use release_file::{Release, find_file, read_release};
 use report_text::report;
 use std::alloc::Global;
 use std::fmt::Write;
 use update_model::{Cause, RunLog, Verdict2};
+
+/// The source's Release that is installed.
+fn installed_release(alloc: Global, given: &Given, source: &Source) -> Result<Release, Refused> {
+    let Some(bytes) = given.disk.get(&source.release_name.0) else {
+        return Err(Refused::Board);
+    };
+    read_release(alloc, bytes.as_slice()).map_err(|_| Refused::Board)
+}
 
 /// The item of the source's first list, by the Release that is installed.
 fn list_item(
@@ -23,12 +31,7 @@ fn list_item(
     target: &Target,
     settings: &Settings,
 ) -> Result<Item, Refused> {
-    let Some(bytes) = given.disk.get(&source.release_name.0) else {
-        return Err(Refused::Board);
-    };
-    let Ok(release) = read_release(alloc, bytes.as_slice()) else {
-        return Err(Refused::Board);
-    };
+    let release = installed_release(alloc, given, source)?;
     if find_file(&release, target.path.as_bytes()).is_none() {
         return Err(Refused::Board);
     }
@@ -126,6 +129,35 @@ fn append_cause(
     let report = str::from_utf8(report.as_slice()).map_err(|_| Refused::NotText)?;
     text.push_str(report.lines().next().unwrap_or(""))?;
     Ok(())
+}
+
+/// The item of a list as a single file, of the sum that the Release which is installed lists.
+fn single_item(
+    alloc: Global,
+    given: &Given,
+    source: &Source,
+    target: &Target,
+    settings: &Settings,
+) -> Result<Item, Refused> {
+    let release = installed_release(alloc, given, source)?;
+    let Some(sum) = find_file(&release, target.path.as_bytes()) else {
+        return Err(Refused::Board);
+    };
+    let (uri, path) = (target.uri.copy(alloc)?, target.path.copy(alloc)?);
+    Ok(Item::for_file(alloc, uri, path, *sum, settings)?)
+}
+
+/// Appends what the plan's first list, as a single file, asks and comes to.
+pub fn append_single(alloc: Global, text: &mut String, given: &Given) -> Result<(), Refused> {
+    let Configured { plan, settings, .. } = configured(alloc, given)?;
+    let Some(source) = plan.sources.as_slice().first() else {
+        return Err(Refused::Board);
+    };
+    let Some(target) = source.targets.as_slice().first() else {
+        return Err(Refused::Board);
+    };
+    let item = single_item(alloc, given, source, target, &settings)?;
+    walk(alloc, text, given, &plan, target, item)
 }
 
 /// Appends what the item of the plan's first list asks and comes to, or where no Release is installed that of its Release.

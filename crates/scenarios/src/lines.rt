@@ -18,6 +18,7 @@ pub fn take_line(alloc: Global, given: &mut Given, line: &str) -> Result<(), Ref
         "faulty" => given.faulty.push(read_faulty(alloc, rest)?)?,
         "board" if rest.is_empty() => given.kind = Kind::Board,
         "item" if rest.is_empty() => given.kind = Kind::Item,
+        "single" if rest.is_empty() => given.kind = Kind::Single,
         "tree" => {
             let (path, content) = read_named(alloc, rest)?;
             let path = Text::from_bytes(alloc, path.as_bytes())?;

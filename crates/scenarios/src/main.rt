@@ -28,6 +28,7 @@
 //! | `crash by C ..` | what it leaves by this choice, and further calls go on from there |
 //! | `board` | the board of all sources alone is run, under three orders of answers, in place of the top call |
 //! | `item` | one item alone: that of the first list, or where no Release is in the folder that of the Release |
+//! | `single` | the first list alone, as a single file of the sum that the Release in the folder lists |
 //! | `faulty URI N` | how often an ask of a board at this URI fails |
 //! | `mirror URI whole "B"`, `big`, `garbled N` | to a board: a file of which no rest is given, one too big for any ask, an answer that breaks the protocol there |
 //! | `made N` | how many bytes the mirrors of this number have, first and second day, without patches |

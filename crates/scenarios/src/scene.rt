@@ -6,7 +6,7 @@ use crate::ends::append_board;
 use crate::folder::files_of;
 use crate::generated::append_made;
 use crate::given::{Folder, Given, Kind, Stop};
-use crate::items::append_item;
+use crate::items::{append_item, append_single};
 use crate::lines::{read_choice, read_number, take_line};
 use crate::objects::disk_of;
 use crate::refused::Refused;
@@ -122,6 +122,7 @@ impl Scene {
             }
             Kind::Board => append_board(rt.alloc(), text, &self.given),
             Kind::Item => append_item(rt.alloc(), text, &self.given),
+            Kind::Single => append_single(rt.alloc(), text, &self.given),
         }
     }
 }

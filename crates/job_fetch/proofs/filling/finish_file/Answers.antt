@@ -11,8 +11,8 @@ returns-clause-lasts g c told =
     lasts_as (g.D.Disk.trace c.finish.new.disk) c.args.filling.part.name (part_bytes (g.D.Disk.trace c.args.disk.now) c.args.filling.part.name) _ told c.in_ok-_size.ensures.synced
     (sym (c.sum.ensures _ (c.requires.summed (told_before _ _ c.finish.ensures.moments told))))
 
-pub returns-in_err-_size-clause-staging : goal.returns-in_err-_size-clause-staging
-returns-in_err-_size-clause-staging g c = call_stages c.args.filling.part.name (Sync (partial c.args.filling.part.name)) (g.D.Disk.trace c.args.disk.now) (g.D.Disk.trace c.finish.new.disk) c.finish.result refl (g.met.D.Disk.sound c.args.disk.now) c.finish.ensures.step
+pub returns-in_err-_size-clause-only : goal.returns-in_err-_size-clause-only
+returns-in_err-_size-clause-only g c = (call_stages c.args.filling.part.name (Sync (partial c.args.filling.part.name)) (g.D.Disk.trace c.args.disk.now) (g.D.Disk.trace c.finish.new.disk) c.finish.result refl (g.met.D.Disk.sound c.args.disk.now) c.finish.ensures.step).only
 
-pub returns-clause-staging : goal.returns-clause-staging
-returns-clause-staging g c = call_stages c.args.filling.part.name (Sync (partial c.args.filling.part.name)) (g.D.Disk.trace c.args.disk.now) (g.D.Disk.trace c.finish.new.disk) c.finish.result refl (g.met.D.Disk.sound c.args.disk.now) c.finish.ensures.step
+pub returns-clause-only : goal.returns-clause-only
+returns-clause-only g c = (call_stages c.args.filling.part.name (Sync (partial c.args.filling.part.name)) (g.D.Disk.trace c.args.disk.now) (g.D.Disk.trace c.finish.new.disk) c.finish.result refl (g.met.D.Disk.sound c.args.disk.now) c.finish.ensures.step).only

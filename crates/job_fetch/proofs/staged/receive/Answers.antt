@@ -22,7 +22,7 @@ returns-in-Done-clause-answer g c =
     let named = ap (λ n. part_bytes (g.D.Disk.trace c.loop-word.disk) n) c.loop-word.invariant.name in
     all_staged (g.M.Method.world c.args.method.now) c.args.opened.part.name (g.D.Disk.trace c.args.disk.now) (g.D.Disk.trace c.loop-word.disk) (g.D.Disk.trace c.finish_file.new.disk) c.args.job.now
     c.loop-word.filling.part.len c.in-Done.size _
-    (told_before _ _ c.finish_file.ensures.staging.moments) (λ told. c.in_ok-sum-in-Done.ensures.sum told ∙ ap sum_of named)
+    (told_before _ _ c.finish_file.ensures.moments) (λ told. c.in_ok-sum-in-Done.ensures.sum told ∙ ap sum_of named)
     word.reached word.told c.loop-word.invariant.come
 
 pub loop-word-preserved : goal.loop-word-preserved
@@ -87,7 +87,7 @@ returns-in_err-sum-in-Done-clause-comes g c =
       method_dry = search rules;
       counted = search rules;
       sound = search rules;
-      staging = staging_more _ _ _ _ c.loop-word.invariant.staging (staging_named _ _ _ _ c.loop-word.invariant.name c.finish_file.ensures.staging);
+      staging = staging_more _ _ _ _ c.loop-word.invariant.staging (staging_named _ _ _ _ c.loop-word.invariant.name record { moments = c.finish_file.ensures.moments; others = c.finish_file.ensures.others; only = c.finish_file.ensures.only });
       front = search rules;
       staged = search rules;
     }
@@ -99,7 +99,7 @@ returns-in-Done-clause-comes g c =
       method_dry = search rules;
       counted = search rules;
       sound = search rules;
-      staging = staging_more _ _ _ _ c.loop-word.invariant.staging (staging_named _ _ _ _ c.loop-word.invariant.name c.finish_file.ensures.staging);
+      staging = staging_more _ _ _ _ c.loop-word.invariant.staging (staging_named _ _ _ _ c.loop-word.invariant.name record { moments = c.finish_file.ensures.moments; others = c.finish_file.ensures.others; only = c.finish_file.ensures.only });
       front = search rules;
       staged = search rules;
     }
