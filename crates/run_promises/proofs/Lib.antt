@@ -3,4 +3,5 @@ mod Claiming
 mod Serving
 mod Stopping
 mod Midst
+mod Memory
 pub mod Theorems

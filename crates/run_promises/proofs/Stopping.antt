@@ -21,9 +21,15 @@ use Rattle.update_model.specs.Outcomes.{AdmittedRelease}
 use Rattle.run_promises.proofs.Serving.{for_mirror}
 use Rattle.run_promises.specs.Promise.{HasNew, IsServed, StopLeavesWholeSets, MayBeInstalled, RunsStopAsServed, RunsStopWithSets, StopsOverMirror, StopsWith, StopKeepsSets}
 
-each_of : {A : Type 0} (P : A → Type 0) (xs : List A) → ((n : ℕ) (x : A) → slice_get xs n ≡ Some x → P x) → Each P xs
+pub each_of : {A : Type 0} (P : A → Type 0) (xs : List A) → ((n : ℕ) (x : A) → slice_get xs n ≡ Some x → P x) → Each P xs
 each_of P [] holds = tt
 each_of P (x ∷ xs) holds = (holds 0 x refl, each_of P xs (λ n y is. holds (suc n) y is))
+
+-- a set that a source came to is a new one, where it is one
+pub kept_or_new : (begun : RunInput) (heard : List Note) (lists : Files) (IsNew : Source → AdmittedRelease → Type 0) → ((n : ℕ) (source : Source) (set : AdmittedRelease) → HasOutcome begun heard n source (Ok set) → IsNew source set)
+    → (after : Files) (n : ℕ) (source : Source) → Keeps source lists after ⊎ HasNewSet begun heard n source after → Keeps source lists after ⊎ HasNew IsNew source after
+kept_or_new begun heard lists IsNew new after n source (inl keeps) = inl keeps
+kept_or_new begun heard lists IsNew new after n source (inr has) = inr (record { set = has.set; is_new = new n source has.set has.came; holds = has.holds })
 
 -- whole sets that sources came to are new sets, where each of them is one
 leaves_sets : (run : Run) (begun : RunInput) (heard : List Note) (lists : Files) (IsNew : Source → AdmittedRelease → Type 0) → begun.config.sources ≡ run.plan.sources
@@ -35,14 +41,10 @@ leaves_sets run begun heard lists IsNew same new s leaves image is =
       lists = whole.after;
       is = whole.is;
       sources = each_of (λ source. Keeps source lists whole.after ⊎ HasNew IsNew source whole.after) run.plan.sources
-          (λ n source there. by whole.after n source (whole.sources n source (rw same there)));
+          (λ n source there. kept_or_new begun heard lists IsNew new whole.after n source (whole.sources n source (rw same there)));
     }
-  where
-    by : (after : Files) (n : ℕ) (source : Source) → Keeps source lists after ⊎ HasNewSet begun heard n source after → Keeps source lists after ⊎ HasNew IsNew source after
-    by after n source (inl keeps) = inl keeps
-    by after n source (inr has) = inr (record { set = has.set; is_new = new n source has.set has.came; holds = has.holds })
 
-as_at : (entry now : List State) → Since entry now (From Recovers entry) → Since entry now (From ReopensAsAt entry)
+pub as_at : (entry now : List State) → Since entry now (From Recovers entry) → Since entry now (From ReopensAsAt entry)
 as_at entry now since = since_map (From Recovers entry) (From ReopensAsAt entry) entry now (images entry) since
   where
     images : (old : List State) (s : State) → From Recovers old s → From ReopensAsAt old s
@@ -69,18 +71,19 @@ later crashes run before after IsNew stop new =
           (leaves_sets run stop.begun stop.has.heard lists IsNew stop.of_run.sources new) whole.0;
     }
 
+-- the set that a source came to may be installed
+pub may_be_installed : NewSetsAreAdmissible → (run : Run) (before after : Engine) (stop : StopsAmongCommits run before.mirrors before.trace after.trace) (n : ℕ) (source : Source) (set : AdmittedRelease)
+    → HasOutcome stop.begun stop.has.heard n source (Ok set) → MayBeInstalled run (installed_now before.trace) source set
+may_be_installed admissible run before after stop n source set came =
+    let is = admissible stop.begun (installed_now before.trace) stop.has.heard n source set stop.read.begins came in
+    record { reads = is.0; admissible = rw (stop.of_run.settings, stop.of_run.change, stop.of_run.moment) at is.1 }
+
 pub stops_with_sets : CrashesLeaveWhole → NewSetsAreAdmissible → RunsStopWithSets
 stops_with_sets crashes admissible run before after safe settled = by (safe.stops settled)
   where
-    may_be_installed : (stop : StopsAmongCommits run before.mirrors before.trace after.trace) (n : ℕ) (source : Source) (set : AdmittedRelease) → HasOutcome stop.begun stop.has.heard n source (Ok set)
-        → MayBeInstalled run (installed_now before.trace) source set
-    may_be_installed stop n source set came =
-        let is = admissible stop.begun (installed_now before.trace) stop.has.heard n source set stop.read.begins came in
-        record { reads = is.0; admissible = rw (stop.of_run.settings, stop.of_run.change, stop.of_run.moment) at is.1 }
-
     by : StopsWithWholeCommits run before.mirrors before.trace after.trace → StopKeepsSets run before after
     by (inl never) = (after.trace, early run (MayBeInstalled run (installed_now before.trace)) before.trace after.trace never)
-    by (inr stop) = (stop.opened, later crashes run before after (MayBeInstalled run (installed_now before.trace)) stop (may_be_installed stop))
+    by (inr stop) = (stop.opened, later crashes run before after (MayBeInstalled run (installed_now before.trace)) stop (may_be_installed admissible run before after stop))
 
 pub stops_as_served : CrashesLeaveWhole → NewSetsAreMirrors → RunsStopAsServed
 stops_as_served crashes mirrors run before after safe settled = by (safe.stops settled)

@@ -7,7 +7,7 @@ use Rattle.acq_base.specs.declared.plan.Source.{Source}
 use Rattle.acq_base.specs.declared.plan.Target.{Target}
 use Rattle.acq_outside.specs.Crash.{State, IsImage, IsSound, after}
 use Rattle.acq_outside.specs.Disk.{Files}
-use Rattle.acq_outside.specs.States.{From, IsLeftWithin, Since}
+use Rattle.acq_outside.specs.States.{From, IsLeftWithin, Since, ToldAs}
 use Rattle.acq_outside.specs.declared.change.DiskCall.{DiskCall}
 use Rattle.board_bounds.specs.Sources.{asks_of, release_heard, trails_of}
 use Rattle.board_model.specs.CauseLaws.{IsLast, IsShown, ending_of}
@@ -18,12 +18,13 @@ use Rattle.board_model.specs.Runs.{Note}
 use Rattle.board_model.specs.Settling.{held_of}
 use Rattle.board_model.specs.Stands.{entries_of, history_of}
 use Rattle.commit_journal.specs.Opening.{damage_of}
-use Rattle.journal_model.specs.Reopen.{ReopensAsAt, installed_now}
+use Rattle.journal_model.specs.Reopen.{CrashLeaves, ReopensAsAt, installed_now}
 use Rattle.run_model.specs.Asked.{IsListed}
 use Rattle.run_model.specs.Begun.{RunInput}
-use Rattle.run_promises.specs.Promise.{HasSets, MayBeInstalled, NoneIsGivenUp, ReadsLists, StopLeavesWholeSets, WasSynced}
-use Rattle.update_engine.specs.Run.{Engine, ForMirror, IsConfiguredBy, LogIsTrue, Run, SurvivesCrash}
+use Rattle.run_promises.specs.Promise.{HasNew, HasSets, MayBeInstalled, NoneIsGivenUp, ReadsLists, StopLeavesWholeSets, WasSynced}
+use Rattle.update_engine.specs.Run.{Engine, ForMirror, IsConfiguredBy, LogIsTrue, Run, StopsForMemory, SurvivesCrash}
 use Rattle.update_model.specs.Laws.{IsFileOf}
+use Rattle.update_model.specs.Next.{Keeps}
 use Rattle.update_model.specs.Obtained.{reached_files}
 use Rattle.update_model.specs.Outcomes.{AdmittedRelease, PartFiles, new_set}
 use Rattle.update_model.specs.Releases.{obtain_release, release_end}
@@ -117,6 +118,19 @@ StopsUndamaged before after = (opened : List State) × Since before.trace opened
 -- so it is, whatever a run answers
 abbrev pub RunsStopUndamaged : Type 0
 RunsStopUndamaged = (run : Run) (before after : Engine) → SurvivesCrash run before after → WasSynced before → StopsUndamaged before after
+
+-- Whatever a crash leaves is opened again as the same lists, in which each source has what it had, or a new set, whole.
+pub record LeavesSameLists (run : Run) (former : Files) (s : State) : Type 0 where
+  pub lists : Files
+  pub leaves : CrashLeaves lists s
+  pub sources : Each (λ source. Keeps source former lists ⊎ HasNew (MayBeInstalled run former) source lists) run.plan.sources
+
+-- So it is once memory has run out; before the journal was open a crash leaves what it left at entry.
+abbrev pub StopsOnSameLists : Run → Engine → Engine → Type 0
+StopsOnSameLists run before after = Since before.trace after.trace (From ReopensAsAt before.trace) ⊎ ToldAs (LeavesSameLists run (installed_now before.trace)) after.trace
+
+abbrev pub RunsStopOnSameLists : Type 0
+RunsStopOnSameLists = (run : Run) (before after : Engine) → StopsForMemory run before.mirrors before.trace after.trace → WasSynced before → StopsOnSameLists run before after
 
 -- a stop in the midst of a call of the disk leaves each source a whole set, where one before the call and one behind it do
 abbrev pub StopsWithinCalls : Type 0

@@ -10,13 +10,15 @@
 //! (`lists_match_mirror`). The log is what items of the plan heard, and shows of each source the routes of its items,
 //! in order, its verdict by their ends, and that little was asked (`logs_show_runs`); and a source that the mirror
 //! serves whole, an admissible Release with bytes that fit for each list that it names, has a set in it
-//! (`runs_tell_served`). Once the journal was open a stop leaves none that is damaged (`runs_stop_undamaged`), and one in
-//! the midst of a call leaves whole sets where those before it and behind it do (`stops_within_calls`).
+//! (`runs_tell_served`). Once the journal was open a stop leaves none that is damaged (`runs_stop_undamaged`); one for
+//! want of memory leaves the same lists whatever a crash leaves (`runs_stop_on_same_lists`); and one in the midst of a call
+//! leaves whole sets where those before it and behind it do (`stops_within_calls`).
 #![tactic(auto)]
 
 pub use promises::{
-    lists_match_log, lists_match_mirror, logs_show_runs, runs_stop_as_served, runs_stop_undamaged,
-    runs_stop_with_sets, runs_tell_served, stops_within_calls,
+    lists_match_log, lists_match_mirror, logs_show_runs, runs_stop_as_served,
+    runs_stop_on_same_lists, runs_stop_undamaged, runs_stop_with_sets, runs_tell_served,
+    stops_within_calls,
 };
 
 mod promises;

@@ -42,6 +42,12 @@ pub fn runs_stop_undamaged()
     ensures { claim.RunsStopUndamaged }
 {}
 
+/// A run that memory stopped leaves the same lists whatever a crash leaves, in which each source has its former set or a new
+/// one, whole; or, before its journal was open, what a crash left at entry.
+pub fn runs_stop_on_same_lists()
+    ensures { claim.RunsStopOnSameLists }
+{}
+
 /// A stop in the midst of a call of the disk leaves each source a whole set, where one before the call and one behind it do.
 pub fn stops_within_calls()
     ensures { claim.StopsWithinCalls }

@@ -1,6 +1,6 @@
 -- The set of one source is committed.
 use Rattle.std.proofs.Common.{◌≡◌, ◌≢◌, ◌⊎◌, ◌∙◌, ◌≤◌, inl, inr, refl, sym, ap, subst, ℕ, suc, Bool, true, false, List, [], ◌∷◌, ◌++◌, length, AllPairs, Contains, Some, None, Result, Ok, Err}
-use Rattle.std.specs.Prelude.{OnErr, if◌then◌else◌, slice_get}
+use Rattle.std.specs.Prelude.{IfErr, if◌then◌else◌, slice_get}
 use Rattle.std.specs.List.{AllByRecursion as Each}
 use Rattle.std.proofs.lemmas.List.{append-nil}
 use Rattle.acq_base.specs.Plan.{IsPlanned, names_of}
@@ -27,6 +27,8 @@ use Rattle.list_commits.specs.RecordLaws.{AreGathered, IsSyncedPart}
 use Rattle.list_commits.specs.SetLaws.{HasSum, HaveSums}
 use Rattle.run_jobs.specs.Coupling.{HasWantedPart, HasWantedParts}
 use Rattle.run_jobs.specs.Running.{RunStart, RunHasHeard, IsSoundBegun, IsUnderWay}
+use Rattle.run_jobs.specs.declared.error.RunError.{RunError}
+use Rattle.run_jobs.specs.declared.error.RunError.TheVariants.{BadJournal, DiskFault, NoMemory}
 use Rattle.run_model.specs.Begun.{RunInput}
 use Rattle.run_model.specs.Groups.{Group, SetOf, AreGroups, AreCommitGroups, IsNewSet, all_groups, commit_of, commits_of, removed_in, sources_in}
 use Rattle.run_model.specs.Runs.{MayBeStopped, is_installed}
@@ -47,6 +49,7 @@ use Rattle.run_model.proofs.Names.{in_plan}
 use Rattle.run_model.proofs.Finishing.{is_held}
 use Rattle.run_jobs.proofs.Keeping.{stays_holds, told_back}
 use Rattle.update_engine.proofs.Known.{CommittingLaws}
+use Rattle.update_engine.proofs.Lists.{told_on}
 use Rattle.update_engine.specs.Session.{KeepsRunGoing, HasCommittedSets, HasProgress, CommitsOneSource, MayCommit, StopsBetweenAsks, begun_of, installed_in}
 use Rattle.update_engine.proofs.Naming.{release_free, which_name}
 use Rattle.update_engine.proofs.OnBoards.{as_open, heard_settled, is_of, owns, told_more, under_settled, uses_settled}
@@ -275,26 +278,31 @@ has_begun start notes count b now lists commits heard each groups order = record
   shape = have_shape commits each;
 }
 
+-- where nothing was done, no commit was begun
+pub nothing_begun : (old now : List State) → now ≡ old → NoCommitBegun old now
+nothing_begun old now same = record { lists = no_time old now _ same; rest = no_time old now _ same }
+
 -- where no commit was begun
-pub stops_unbegun : CommittingLaws → (start : RunStart) (notes : List Note) (count : ℕ) (lists : Files) (opened : List State) (b : Board) (old now : List State) → RunHasHeard start notes count b old → NoCommitBegun old now → (IsNow IsSynced old → IsNow IsSynced now)
-    → HasCommittedSets (begun_of start) notes opened old b → HasProgress start false lists opened now
+pub stops_unbegun : CommittingLaws → (error : RunError) (start : RunStart) (notes : List Note) (count : ℕ) (lists : Files) (opened : List State) (b : Board) (old now : List State) → RunHasHeard start notes count b old → NoCommitBegun old now → (IsNow IsSynced old → IsNow IsSynced now)
+    → HasCommittedSets (begun_of start) notes opened old b → HasProgress error start false lists opened now
 unfolding has_begun
-stops_unbegun laws start notes count lists opened b old now heard unbegun settled sets = record {
+stops_unbegun laws error start notes count lists opened b old now heard unbegun settled sets = record {
   commits = sets.commits;
   acknowledged = length (commits_of sets.commits);
   started = length (commits_of sets.commits);
   progress = laws.unbegun (commits_of sets.commits) opened old now sets.made unbegun;
+  whole = λ dry. refl;
   has = has_begun start notes count b old lists sets.commits heard sets.each sets.groups sets.order;
   agrees = λ told. heard.answers sets.told;
   synced = λ rest. settled (settled_made laws (commits_of sets.commits) lists opened old sets.made rest);
 }
 
 -- where the next was
-pub stops_begun : CommittingLaws → (start : RunStart) (notes : List Note) (count : ℕ) (lists : Files) (opened : List State) (b : Board) (n : ℕ) (settled : Settled) (old now : List State) (held : Held) → IsSettling start notes count b n settled old
-    → (c : IsChanging start b n settled) → settled.verdict ≡ Installed held → CommitHasBegun (filled_all (part_bytes old) (changes_for c.source settled ∷ [])) old now → (IsNow IsSynced old → IsNow IsSynced now)
-    → HasCommittedSets (begun_of start) notes opened old b → HasProgress start false lists opened now
+pub stops_begun : CommittingLaws → (error : RunError) (start : RunStart) (notes : List Note) (count : ℕ) (lists : Files) (opened : List State) (b : Board) (n : ℕ) (settled : Settled) (old now : List State) (held : Held) → IsSettling start notes count b n settled old
+    → (c : IsChanging start b n settled) → settled.verdict ≡ Installed held → CommitHasBegun (filled_all (part_bytes old) (changes_for c.source settled ∷ [])) old now → error ≢ NoMemory → (IsNow IsSynced old → IsNow IsSynced now)
+    → HasCommittedSets (begun_of start) notes opened old b → HasProgress error start false lists opened now
 unfolding has_begun
-stops_begun laws start notes count lists opened b n settled old now held s c installs begun is_settled sets =
+stops_begun laws error start notes count lists opened b n settled old now held s c installs begun moist is_settled sets =
     let changes = filled (part_bytes old) (changes_for c.source settled) in
     let group = SetOf n changes ∷ [] in
     let heard = heard_settled laws.settling start notes count b n settled old s.ready s.comes s.under.heard in
@@ -304,6 +312,7 @@ stops_begun laws start notes count lists opened b n settled old now held s c ins
       started = suc (length (commits_of sets.commits));
       progress = subst (λ (cs : List Commit). CommitProgress cs (length (commits_of sets.commits)) (suc (length (commits_of sets.commits))) opened now) (sym (commits_last sets.commits group))
           (laws.begun (commits_of sets.commits) (commit_of group) opened old now sets.made (subst (λ (x : Commit). CommitHasBegun x old now) (one_group (part_bytes old) n (changes_for c.source settled)) begun));
+      whole = λ dry. absurd (moist dry);
       has = has_begun start notes count (settled_as b n settled.verdict) old lists (sets.commits ++ group ∷ []) heard (each_last sets.commits n changes sets.each)
           (groups_last (begun_of start) notes sets.commits n changes sets.each sets.groups (new_set laws start notes count b n settled old held sets.told s c installs))
           (sources_last sets.commits n changes sets.each ∙ ap (λ (ns : List ℕ). ns ++ n ∷ []) sets.order ∙ sym (told_new laws start notes count b n settled old held s c installs));
@@ -311,21 +320,15 @@ stops_begun laws start notes count lists opened b n settled old now held s c ins
       synced = λ rest. is_settled (settled_made laws (commits_of sets.commits) lists opened old sets.made rest);
     }
 
-pub stops_committing : CommittingLaws → (start : RunStart) (notes : List Note) (count : ℕ) (lists : Files) (opened : List State) (b : Board) (n : ℕ) (settled : Settled) (old now : List State) (held : Held) → IsSettling start notes count b n settled old
-    → (c : IsChanging start b n settled) → settled.verdict ≡ Installed held → IsCommitStopped (filled_all (part_bytes old) (changes_for c.source settled ∷ [])) old now → (IsNow IsSynced old → IsNow IsSynced now)
-    → HasCommittedSets (begun_of start) notes opened old b → HasProgress start false lists opened now
-stops_committing laws start notes count lists opened b n settled old now held s c installs (inl unbegun) is_settled sets = stops_unbegun laws start notes count lists opened b old now s.under.heard unbegun is_settled sets
-stops_committing laws start notes count lists opened b n settled old now held s c installs (inr begun) is_settled sets = stops_begun laws start notes count lists opened b n settled old now held s c installs begun is_settled sets
+pub stops_committing : CommittingLaws → (error : RunError) (start : RunStart) (notes : List Note) (count : ℕ) (lists : Files) (opened : List State) (b : Board) (n : ℕ) (settled : Settled) (old now : List State) (held : Held) → IsSettling start notes count b n settled old
+    → (c : IsChanging start b n settled) → settled.verdict ≡ Installed held → IsCommitStopped (filled_all (part_bytes old) (changes_for c.source settled ∷ [])) old now → (error ≡ NoMemory → now ≡ old) → (IsNow IsSynced old → IsNow IsSynced now)
+    → HasCommittedSets (begun_of start) notes opened old b → HasProgress error start false lists opened now
+stops_committing laws error start notes count lists opened b n settled old now held s c installs (inl unbegun) dry is_settled sets = stops_unbegun laws error start notes count lists opened b old now s.under.heard unbegun is_settled sets
+stops_committing laws NoMemory start notes count lists opened b n settled old now held s c installs (inr begun) dry is_settled sets = stops_unbegun laws NoMemory start notes count lists opened b old now s.under.heard (nothing_begun old now (dry refl)) is_settled sets
+stops_committing laws DiskFault start notes count lists opened b n settled old now held s c installs (inr begun) dry is_settled sets = stops_begun laws DiskFault start notes count lists opened b n settled old now held s c installs begun (λ is. absurd (cc)) is_settled sets
+stops_committing laws (BadJournal at) start notes count lists opened b n settled old now held s c installs (inr begun) dry is_settled sets = stops_begun laws (BadJournal at) start notes count lists opened b n settled old now held s c installs begun (λ is. absurd (cc)) is_settled sets
 
 -- ---- what the settling of a source comes to
-
-pub told_on : (P : State → Type 0) (old now : List State) → Since old now P → IsTold old → IsTold now
-told_on P [] now since told = absurd told
-told_on P (s ∷ past) now since told = by since.states since.joined
-  where
-    by : (states : List State) → now ≡ states ++ s ∷ past → IsTold now
-    by [] joined = rw joined tt
-    by (t ∷ states) joined = rw joined tt
 
 -- no new set was there
 pub goes_settled : CommittingLaws → (b c : Board) (n : ℕ) (settled : Settled) (now : List State) → first_ready b.slots ≡ Some n → settled_of b n ≡ Some settled → c ≡ settled_as b n settled.verdict → is_installed settled.verdict ≡ false
@@ -392,25 +395,25 @@ goes_committed laws b c n settled groups old now ready comes same new_one are ke
 -- ---- where it stops
 
 -- nothing was done to the disk
-pub stops_here : CommittingLaws → (b : Board) (now : List State) → StopsBetweenAsks b now now
-stops_here laws b now = λ start notes count lists opened sound under sets.
-    stops_unbegun laws start notes count lists opened b now now under.heard (record { lists = no_time now now _ refl; rest = no_time now now _ refl }) (λ is. is) sets
+pub stops_here : CommittingLaws → (error : RunError) (b : Board) (now : List State) → StopsBetweenAsks error b now now
+stops_here laws error b now = λ start notes count lists opened sound under sets.
+    stops_unbegun laws error start notes count lists opened b now now under.heard (nothing_begun now now refl) (λ is. is) sets
 
 -- the commit was not made
-pub stops_in_commit : CommittingLaws → (b : Board) (n : ℕ) (settled : Settled) (groups : List (List Change)) (old now : List State) → first_ready b.slots ≡ Some n → settled_of b n ≡ Some settled → is_installed settled.verdict ≡ true
-    → AreGroupsOf b n settled groups → IsCommitStopped (filled_all (part_bytes old) groups) old now → (IsNow IsSynced old → IsNow IsSynced now) → StopsBetweenAsks b old now
-stops_in_commit laws b n settled groups old now ready comes new_one are stopped is_settled = λ start notes count lists opened sound under sets.
+pub stops_in_commit : CommittingLaws → (error : RunError) (b : Board) (n : ℕ) (settled : Settled) (groups : List (List Change)) (old now : List State) → first_ready b.slots ≡ Some n → settled_of b n ≡ Some settled → is_installed settled.verdict ≡ true
+    → AreGroupsOf b n settled groups → IsCommitStopped (filled_all (part_bytes old) groups) old now → (error ≡ NoMemory → now ≡ old) → (IsNow IsSynced old → IsNow IsSynced now) → StopsBetweenAsks error b old now
+stops_in_commit laws error b n settled groups old now ready comes new_one are stopped dry is_settled = λ start notes count lists opened sound under sets.
     let s : IsSettling start notes count b n settled old = record { sound = sound; under = under; ready = ready; comes = comes } in
     let d = changing laws start notes count b n settled old s in
     let held = is_held settled.verdict new_one in
-    stops_committing laws start notes count lists opened b n settled old now held.0 s d held.1
-    (subst (λ (gs : List (List Change)). IsCommitStopped (filled_all (part_bytes old) gs) old now) (are d.source d.here_is) stopped) is_settled sets
+    stops_committing laws error start notes count lists opened b n settled old now held.0 s d held.1
+    (subst (λ (gs : List (List Change)). IsCommitStopped (filled_all (part_bytes old) gs) old now) (are d.source d.here_is) stopped) dry is_settled sets
 
 pub groups_of : (b c : Board) (n : ℕ) (settled : Settled) (changes : List Change) (groups : List (List Change)) → c ≡ settled_as b n settled.verdict
     → ((source : Source) → slice_get c.config.sources n ≡ Some source → changes ≡ changes_for source settled) → groups ≡ changes ∷ [] → AreGroupsOf b n settled groups
 groups_of b c n settled changes groups same made e = λ source is.
     e ∙ ap (λ (x : List Change). x ∷ []) (made source (subst (λ (x : Board). slice_get x.config.sources n ≡ Some source) (sym same) is))
 
-pub on_err : {A E : Type 0} (r : Result A E) (P : Type 0) → P → OnErr r P
+pub on_err : {A E : Type 0} (r : Result A E) (P : E → Type 0) → ((error : E) → P error) → IfErr r P
 on_err (Ok x) P p = tt
-on_err (Err e) P p = p
+on_err (Err e) P p = p e

@@ -20,6 +20,8 @@ use Rattle.list_commits.specs.Changes.{changes_for, drops_for}
 use Rattle.list_commits.specs.Loose.{AreLooseNames, IsLoose, kept_of, removed_names}
 use Rattle.list_commits.specs.Made.{IsCommitStopped, CommitsMade, NoCommitBegun, after_all, makes}
 use Rattle.list_commits.specs.RecordLaws.{group_of, names_of_group}
+use Rattle.run_jobs.specs.declared.error.RunError.{RunError}
+use Rattle.run_jobs.specs.declared.error.RunError.TheVariants.{BadJournal, DiskFault, NoMemory}
 use Rattle.run_jobs.specs.Running.{RunStart, RunHasHeard, IsUnderWay}
 use Rattle.run_model.specs.Begun.{RunInput, ReadsPlanned}
 use Rattle.run_model.specs.Groups.{Group, CleanUp, SetOf, AreGroups, AreRemovable, AreCommitGroups, all_groups, changes_in, commit_of, commits_of, removed_in, sources_in}
@@ -33,7 +35,7 @@ use Rattle.run_model.proofs.Stopping.{sources_of_both}
 use Rattle.run_jobs.proofs.Telling.{each_last}
 use Rattle.update_engine.proofs.Known.{CommittingLaws}
 use Rattle.update_engine.specs.Session.{HasCommittedAllBut, RunsOverLists, HasCommittedAll, HasUncommitted, CommitsAll, HasProgress, CommitsOneSource, IsNewSource, LeavesUncommitted, NewSource, StopsBetweenAsks, StopsWhileEnding, begun_of, cleans, groups_for, names_to_remove, numbers_of, some_names, with_removed}
-use Rattle.update_engine.proofs.Committing.{commits_last, have_shape, none_removed, settled_made}
+use Rattle.update_engine.proofs.Committing.{commits_last, have_shape, none_removed, nothing_begun, settled_made}
 use Rattle.update_engine.proofs.LastCommit.{all_committed}
 
 -- ---- where nothing more is begun
@@ -63,14 +65,15 @@ has_so_far together start notes count opened now lists b picks heard e = record 
   shape = shape_so_far together e.commits e.each e.first;
 }
 
-pub stops_before : CommittingLaws → (together : Bool) (start : RunStart) (notes : List Note) (count : ℕ) (lists : Files) (opened mid now : List State) (b : Board) (picks : List NewSource) → RunHasHeard start notes count b mid
-    → HasCommittedAllBut together start notes opened mid b picks → NoCommitBegun mid now → (IsNow IsSynced mid → IsNow IsSynced now) → HasProgress start together lists opened now
+pub stops_before : CommittingLaws → (error : RunError) (together : Bool) (start : RunStart) (notes : List Note) (count : ℕ) (lists : Files) (opened mid now : List State) (b : Board) (picks : List NewSource) → RunHasHeard start notes count b mid
+    → HasCommittedAllBut together start notes opened mid b picks → NoCommitBegun mid now → (IsNow IsSynced mid → IsNow IsSynced now) → HasProgress error start together lists opened now
 unfolding has_so_far
-stops_before laws together start notes count lists opened mid now b picks heard e unbegun settled = record {
+stops_before laws error together start notes count lists opened mid now b picks heard e unbegun settled = record {
   commits = e.commits;
   acknowledged = length (commits_of e.commits);
   started = length (commits_of e.commits);
   progress = laws.unbegun (commits_of e.commits) opened mid now e.made unbegun;
+  whole = λ dry. refl;
   has = has_so_far together start notes count opened mid lists b picks heard e;
   agrees = λ told. heard.answers e.told;
   synced = λ rest. settled (settled_made laws (commits_of e.commits) lists opened mid e.made rest);
@@ -328,13 +331,12 @@ moment_with laws commits (g ∷ gs) later opened mid now made is some begun =
     subst (λ (cs : List Commit). CommitProgress cs (length (commits_of commits)) (suc (length (commits_of commits))) opened now) (sym (commits_last commits (g ∷ gs)))
     (laws.begun (commits_of commits) (commit_of (g ∷ gs)) opened mid now made (subst (λ (x : Commit). CommitHasBegun x mid now) is begun))
 
-pub stops_within : CommittingLaws → (together cleanup : Bool) (start : RunStart) (notes : List Note) (count : ℕ) (lists files : Files) (opened mid now : List State) (c : Board) (picks : List NewSource) (loose : List (List ℕ)) (tells : Bool)
+-- within the last commit
+stops_in_last : CommittingLaws → (error : RunError) (together cleanup : Bool) (start : RunStart) (notes : List Note) (count : ℕ) (lists files : Files) (opened mid now : List State) (c : Board) (picks : List NewSource) (loose : List (List ℕ)) (tells : Bool)
     (later : List (List Change)) → IsShown tells files mid → AtLast together cleanup start notes count lists files opened mid c picks loose → AreLater cleanup c picks loose later → later ≢ []
-    → IsCommitStopped (filled_all (part_bytes mid) later) mid now → (IsNow IsSynced mid → IsNow IsSynced now) → HasProgress start together lists opened now
+    → CommitHasBegun (filled_all (part_bytes mid) later) mid now → error ≢ NoMemory → (IsNow IsSynced mid → IsNow IsSynced now) → HasProgress error start together lists opened now
 unfolding has_last
-stops_within laws together cleanup start notes count lists files opened mid now c picks loose tells later shown a is some (inl unbegun) settled =
-    stops_before laws together start notes count lists opened mid now c picks a.under.heard a.but unbegun settled
-stops_within laws together cleanup start notes count lists files opened mid now c picks loose tells later shown a is some (inr begun) settled =
+stops_in_last laws error together cleanup start notes count lists files opened mid now c picks loose tells later shown a is some begun moist settled =
     let e = a.but in
     let all = all_of_run laws together cleanup start notes count lists files opened mid c picks loose tells shown a in
     record {
@@ -342,30 +344,43 @@ stops_within laws together cleanup start notes count lists files opened mid now 
       acknowledged = length (commits_of e.commits);
       started = suc (length (commits_of e.commits));
       progress = moment_with laws e.commits (last_groups (part_bytes mid) picks (names_to_remove cleanup c.verdicts loose)) later opened mid now e.made (filled_later cleanup c picks loose later (part_bytes mid) is) some begun;
+      whole = λ dry. absurd (moist dry);
       has = has_last together cleanup start notes count lists mid c picks loose (last_of cleanup loose e) a.under.heard all;
       agrees = λ told. a.under.heard.answers e.told;
       synced = λ rest. settled (settled_made laws (commits_of e.commits) lists opened mid e.made rest);
     }
 
+pub stops_within : CommittingLaws → (error : RunError) (together cleanup : Bool) (start : RunStart) (notes : List Note) (count : ℕ) (lists files : Files) (opened mid now : List State) (c : Board) (picks : List NewSource) (loose : List (List ℕ)) (tells : Bool)
+    (later : List (List Change)) → IsShown tells files mid → AtLast together cleanup start notes count lists files opened mid c picks loose → AreLater cleanup c picks loose later → later ≢ []
+    → IsCommitStopped (filled_all (part_bytes mid) later) mid now → (error ≡ NoMemory → now ≡ mid) → (IsNow IsSynced mid → IsNow IsSynced now) → HasProgress error start together lists opened now
+stops_within laws error together cleanup start notes count lists files opened mid now c picks loose tells later shown a is some (inl unbegun) dry settled =
+    stops_before laws error together start notes count lists opened mid now c picks a.under.heard a.but unbegun settled
+stops_within laws NoMemory together cleanup start notes count lists files opened mid now c picks loose tells later shown a is some (inr begun) dry settled =
+    stops_before laws NoMemory together start notes count lists opened mid now c picks a.under.heard a.but (nothing_begun mid now (dry refl)) settled
+stops_within laws DiskFault together cleanup start notes count lists files opened mid now c picks loose tells later shown a is some (inr begun) dry settled =
+    stops_in_last laws DiskFault together cleanup start notes count lists files opened mid now c picks loose tells later shown a is some begun (λ wrong. absurd (cc)) settled
+stops_within laws (BadJournal at) together cleanup start notes count lists files opened mid now c picks loose tells later shown a is some (inr begun) dry settled =
+    stops_in_last laws (BadJournal at) together cleanup start notes count lists files opened mid now c picks loose tells later shown a is some begun (λ wrong. absurd (cc)) settled
+
 -- ---- at the end of a run
 
 -- nothing was done
-pub stops_first : CommittingLaws → (together cleanup : Bool) (b : Board) (old now : List State) → now ≡ old → StopsWhileEnding together cleanup b old now
-stops_first laws together cleanup b old now same = λ start notes count lists opened switch h.
-    subst (HasProgress start together lists opened) (sym same)
-    (stops_before laws together start notes count lists opened old old b [] h.under_way.heard (all_committed together start notes opened old b h.first h.sets) (record { lists = no_time old old _ refl; rest = no_time old old _ refl }) (λ is. is))
+pub stops_first : CommittingLaws → (error : RunError) (together cleanup : Bool) (b : Board) (old now : List State) → now ≡ old → StopsWhileEnding error together cleanup b old now
+stops_first laws error together cleanup b old now same = λ start notes count lists opened switch h.
+    subst (HasProgress error start together lists opened) (sym same)
+    (stops_before laws error together start notes count lists opened old old b [] h.under_way.heard (all_committed together start notes opened old b h.first h.sets) (nothing_begun old old refl) (λ is. is))
 
 -- it stopped as its sets were committed one by one
-pub stops_one_by_one : (together cleanup : Bool) (b : Board) (old now : List State) → together ≡ false → StopsBetweenAsks b old now → StopsWhileEnding together cleanup b old now
-stops_one_by_one together cleanup b old now isnt stops = λ start notes count lists opened switch h.
-    subst (λ (t : Bool). HasProgress start t lists opened now) (sym isnt) (stops start notes count lists opened h.sound h.under_way h.sets)
+pub stops_one_by_one : (error : RunError) (together cleanup : Bool) (b : Board) (old now : List State) → together ≡ false → StopsBetweenAsks error b old now → StopsWhileEnding error together cleanup b old now
+stops_one_by_one error together cleanup b old now isnt stops = λ start notes count lists opened switch h.
+    subst (λ (t : Bool). HasProgress error start t lists opened now) (sym isnt) (stops start notes count lists opened h.sound h.under_way h.sets)
 
 -- before the last commit
-pub stops_between : CommittingLaws → (together cleanup : Bool) (b c : Board) (old mid now : List State) (groups : List (List Change)) → LeavesUncommitted together b c old mid groups → now ≡ mid → StopsWhileEnding together cleanup b old now
-stops_between laws together cleanup b c old mid now groups leaves same = λ start notes count lists opened switch h.
+pub stops_between : CommittingLaws → (error : RunError) (together cleanup : Bool) (b c : Board) (old mid now : List State) (groups : List (List Change)) → LeavesUncommitted together b c old mid groups → now ≡ mid → StopsWhileEnding error together cleanup b old now
+stops_between laws error together cleanup b c old mid now groups leaves same = λ start notes count lists opened switch h.
     let l = leaves start notes count h.sound h.under_way in
-    subst (HasProgress start together lists opened) (sym same)
-    (stops_before laws together start notes count lists opened mid mid c l.picks l.under_way.heard (l.sets opened h.first h.sets) (record { lists = no_time mid mid _ refl; rest = no_time mid mid _ refl }) (λ is. is))
+    subst (HasProgress error start together lists opened) (sym same)
+    (stops_before laws error together start notes count lists opened mid mid c l.picks l.under_way.heard (l.sets opened h.first h.sets) (nothing_begun mid mid refl) (λ is. is))
 
 -- reads change nothing
 pub leaves_on : (together : Bool) (b c : Board) (old mid now : List State) (groups : List (List Change)) → now ≡ mid → LeavesUncommitted together b c old mid groups → LeavesUncommitted together b c old now groups
@@ -393,15 +408,15 @@ at_last together cleanup start notes count lists files opened old mid b c groups
     }
 
 -- within it
-pub stops_last : CommittingLaws → (together cleanup : Bool) (b c : Board) (old mid now : List State) (files : Files) (tells : Bool) (groups later : List (List Change)) (loose : List (List ℕ)) (sources : List Source) (first : RunLog)
+pub stops_last : CommittingLaws → (error : RunError) (together cleanup : Bool) (b c : Board) (old mid now : List State) (files : Files) (tells : Bool) (groups later : List (List Change)) (loose : List (List ℕ)) (sources : List Source) (first : RunLog)
     → LeavesUncommitted together b c old mid groups → is_finished c ≡ true → sources ≡ c.config.sources → (IsTrue tells → AreLooseNames files sources loose) → IsShown tells files mid
-    → later ≡ groups ++ group_of (names_to_remove cleanup first.verdicts loose) → first ≡ log_of c → later ≢ [] → IsCommitStopped (filled_all (part_bytes mid) later) mid now → (IsNow IsSynced mid → IsNow IsSynced now) → StopsWhileEnding together cleanup b old now
-stops_last laws together cleanup b c old mid now files tells groups later loose sources first leaves finished same names shown is told some stopped settled = λ start notes count lists opened switch h.
+    → later ≡ groups ++ group_of (names_to_remove cleanup first.verdicts loose) → first ≡ log_of c → later ≢ [] → IsCommitStopped (filled_all (part_bytes mid) later) mid now → (error ≡ NoMemory → now ≡ mid) → (IsNow IsSynced mid → IsNow IsSynced now) → StopsWhileEnding error together cleanup b old now
+stops_last laws error together cleanup b c old mid now files tells groups later loose sources first leaves finished same names shown is told some stopped dry settled = λ start notes count lists opened switch h.
     let l = leaves start notes count h.sound h.under_way in
     let is_c : later ≡ groups ++ group_of (names_to_remove cleanup c.verdicts loose) = subst (λ (x : RunLog). later ≡ groups ++ group_of (names_to_remove cleanup x.verdicts loose)) told is in
-    stops_within laws together cleanup start notes count lists files opened mid now c l.picks loose tells later shown
+    stops_within laws error together cleanup start notes count lists files opened mid now c l.picks loose tells later shown
     (at_last together cleanup start notes count lists files opened old mid b c groups loose sources tells switch h l finished same names shown)
-    (is_c ∙ ap (λ (gs : List (List Change)). gs ++ group_of (names_to_remove cleanup c.verdicts loose)) l.are) some stopped settled
+    (is_c ∙ ap (λ (gs : List (List Change)). gs ++ group_of (names_to_remove cleanup c.verdicts loose)) l.are) some stopped dry settled
 
 -- behind it
 pub ends_all : CommittingLaws → (together cleanup : Bool) (b c : Board) (old mid now : List State) (files : Files) (tells : Bool) (groups later : List (List Change)) (loose : List (List ℕ)) (sources : List Source) (first log : RunLog)

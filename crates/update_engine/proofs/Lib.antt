@@ -1,4 +1,4 @@
--- Cited by the crate above too: elements of lists, and counts that stay.
+-- Cited by the crates above too: elements of lists, counts that stay, and a disk that tells.
 pub mod Lists
 -- Of this crate's own functions.
 mod Naming

@@ -1,7 +1,9 @@
--- Elements of lists, and names of a plan's sources.
+-- Elements of lists, counts that stay, and a disk that tells.
 use Rattle.std.proofs.Common.{◌≡◌, refl, ap, arith, ℕ, Bool, true, false, List, [], ◌∷◌, ◌++◌}
 use Rattle.std.specs.Prelude.{filter, if◌then◌else◌}
 use Rattle.std.specs.List.{AllByRecursion as Each}
+use Rattle.acq_outside.specs.Crash.{State}
+use Rattle.acq_outside.specs.States.{IsTold, Since}
 use Rattle.update_engine.specs.Run.{NoneFell}
 
 -- ---- filters
@@ -34,3 +36,12 @@ each_more P Q (x ∷ xs) f each = (f x each.0, each_more P Q xs f each.1)
 pub none_fall : (counts : List ℕ) → NoneFell counts counts
 none_fall [] = tt
 none_fall (count ∷ counts) = (omega arith, none_fall counts)
+
+-- a disk that told once still does
+pub told_on : (P : State → Type 0) (old now : List State) → Since old now P → IsTold old → IsTold now
+told_on P [] now since told = absurd told
+told_on P (s ∷ past) now since told = by since.states since.joined
+  where
+    by : (states : List State) → now ≡ states ++ s ∷ past → IsTold now
+    by [] joined = rw joined tt
+    by (t ∷ states) joined = rw joined tt

@@ -1,5 +1,5 @@
 -- A run over a method, from its beginning to its end.
-use Rattle.std.proofs.Common.{◌≡◌, ◌∙◌, ◌≤◌, ◌<◌, ℕ, zero, suc, Bool, true, false, IsTrue, List, [], ◌∷◌, ◌++◌, length, get_or, take, drop, slice_set, Option, Some, None, IfSome, Ok, inl, inr, refl, sym, ap, subst, arith, ⊎_elim}
+use Rattle.std.proofs.Common.{◌≡◌, ◌∙◌, ◌≤◌, ◌<◌, ℕ, zero, suc, Bool, true, false, IsTrue, List, [], ◌∷◌, ◌++◌, length, get_or, take, drop, slice_set, Option, Some, None, IfSome, Result, Ok, Err, inl, inr, refl, sym, ap, subst, arith, ⊎_elim}
 use Rattle.std.proofs.lemmas.Bool.Decides.{nat_tests}
 use Rattle.std.proofs.lemmas.List.{append-nil, drop_all, take_all}
 use Rattle.std.specs.Prelude.{filter, if◌then◌else◌, slice_get, ◌==◌}
@@ -10,17 +10,21 @@ use Rattle.acq_base.specs.declared.settings.Settings.{Settings}
 use Rattle.acq_outside.specs.Crash.{IsShown, State, reads}
 use Rattle.acq_outside.specs.Disk.{Files}
 use Rattle.acq_outside.specs.States.{From, IsTold, Since, IsNow, ToldAs}
+use Rattle.acq_outside.specs.declared.disk.Disk.{Ghosts as Disks}
+use Rattle.acq_outside.specs.declared.method.Method.{Ghosts as Methods}
 use Rattle.board_model.specs.Agreeing.{Agrees}
 use Rattle.board_model.specs.Boards.{Board}
 use Rattle.board_model.specs.Runs.{Note}
 use Rattle.board_model.specs.Slots.{Setup}
-use Rattle.commit_journal.specs.Opening.{FindsDamage as FindsNoDamage, IsOfOpening, KeepsFilesBut, Recovers}
+use Rattle.commit_journal.specs.Opening.{FindsDamage as FindsNoDamage, IsOfOpening, KeepsFilesBut, Recovers, damage_of}
 use Rattle.commit_journal.specs.declared.opening.Journal.{Journal}
 use Rattle.journal_model.specs.Names.{journal}
 use Rattle.journal_model.specs.Reopen.{installed_now}
 use Rattle.journal_model.specs.Rest.{IsAtRest, IsIdle, IsSynced, KeptAtRestSince}
 use Rattle.list_commits.specs.Made.{CommitsMade, after_all, none, rests}
 use Rattle.run_jobs.specs.Counting.{CountsUp}
+use Rattle.run_jobs.specs.declared.error.RunError.{RunError}
+use Rattle.run_jobs.specs.declared.error.RunError.TheVariants.{BadJournal, NoMemory}
 use Rattle.run_jobs.specs.Running.{RunStart, MayAsk, IsSoundBegun, IsUnderWay}
 use Rattle.run_model.specs.Begun.{RunInput}
 use Rattle.run_model.specs.Groups.{Group, all_groups, commits_of}
@@ -30,10 +34,10 @@ use Rattle.update_model.specs.declared.log.Asked.{Asked}
 use Rattle.update_model.specs.declared.log.RunLog.{RunLog}
 use Rattle.run_model.proofs.Counting.{verdicts_count}
 use Rattle.update_engine.proofs.Known.{CommittingLaws}
-use Rattle.update_engine.specs.Run.{Engine, FaultsRise, RunFindsDamage, ForMirror, HasFinished, HasOpenedJournal, IsReadFromDisk, KeepsMethods, LogIsTrue, Run, SurvivesCrash, StopsAmongCommits, asks_of_lane}
+use Rattle.update_engine.specs.Run.{Engine, FaultsRise, RunFindsDamage, ForMirror, HasFinished, HasOpenedJournal, IsReadFromDisk, KeepsMethods, LogIsTrue, Run, Runs, SurvivesCrash, StopsAmongCommits, StopsForMemory, asks_of_lane, engine}
 use Rattle.update_engine.specs.Session.{EndsWithLog, CommitsAll, RunGoesOn, RunGoesOnWith, RunsOverLists, HasCommittedSets, HasCommittedAll, IsNewRun, HasProgress, IsLogOfRun, MayCommit, StartsRun, StopsWhileAsking, StopsWhileEnding, begun_of}
-use Rattle.update_engine.proofs.Committing.{settled_made, told_on}
-use Rattle.update_engine.proofs.Lists.{each_more, none_fall}
+use Rattle.update_engine.proofs.Committing.{settled_made}
+use Rattle.update_engine.proofs.Lists.{each_more, none_fall, told_on}
 
 -- ---- what is known at its jobs
 
@@ -104,21 +108,45 @@ pub none_found : (place : Option ℕ) (j : Journal) (log : RunLog) → FindsNoDa
 none_found None j log finds = λ at wrong. absurd (cc)
 none_found (Some at) j log finds = ⊎_elim (λ wrong. absurd (cc)) (⊎_elim (λ wrong. absurd (cc)) (λ wrong. absurd (cc))) finds
 
--- so far no more was done
-pub stays_unopened : (run : Run) (before after : Engine) (opened : List State) → Since before.trace opened (From Recovers before.trace) → (IsNow IsSynced before.trace → IsNow IsSynced opened) → after.trace ≡ opened → SurvivesCrash run before after
-stays_unopened run before after opened recovers is_settled same = record {
-  stops = λ settled. inl (subst (λ (t : List State). Since before.trace t (From Recovers before.trace)) (sym same) recovers);
-  synced = λ settled. subst (IsNow IsSynced) (sym same) (is_settled (was IsSynced before.trace settled));
+-- how a run without a log stops: a crash leaves whole commits, and want of memory stops none that was begun
+pub record StopsSafely (error : RunError) (run : Run) (before after : Engine) : Type 0 where
+  pub crash : SurvivesCrash run before after
+  pub dry : error ≡ NoMemory → ToldAs IsSynced before.trace → StopsForMemory run before.mirrors before.trace after.trace
+
+pub stopped_run : {D M : Type 0} (d : Disks D) (m : Methods M) (run : Run) (old new : D) (asked answered : List M) (error : RunError) → StopsSafely error run (engine d m old asked) (engine d m new answered)
+    → ((at : ℕ) → ◌≡◌ {A = Result RunLog RunError} (Err error) (Err (BadJournal at)) → d.files new ≡ d.files old)
+    → (IsTrue (d.tells old) → RunFindsDamage (damage_of (d.files old)) (Err error)) → Runs d m run old new asked answered (Err error)
+stopped_run d m run old new asked answered error safe unchanged damage = record {
+  unchanged = unchanged;
+  damage = damage;
+  verdicts = tt;
+  begins = tt;
+  log = tt;
+  crash = safe.crash;
+  dry = λ is settled. let same : error ≡ NoMemory = cc in safe.dry same settled;
 }
+
+-- so far no more was done
+pub stays_unopened : (error : RunError) (run : Run) (before after : Engine) (opened : List State) → Since before.trace opened (From Recovers before.trace) → (IsNow IsSynced before.trace → IsNow IsSynced opened) → after.trace ≡ opened
+    → StopsSafely error run before after
+stays_unopened error run before after opened recovers is_settled same =
+    let as_at_entry : Since before.trace after.trace (From Recovers before.trace) = subst (λ (t : List State). Since before.trace t (From Recovers before.trace)) (sym same) recovers in
+    record {
+      crash = record {
+        stops = λ settled. inl as_at_entry;
+        synced = λ settled. subst (IsNow IsSynced) (sym same) (is_settled (was IsSynced before.trace settled));
+      };
+      dry = λ is settled. inl as_at_entry;
+    }
 
 -- ---- where it stops
 
 is_read : (run : Run) (mirror : Option MirrorMap) (count : ℕ) (entry opened : List State) (b : Board) → IsOpen entry opened → (h : IsNewRun run mirror count opened b) → IsReadFromDisk entry opened (begun_of h.start)
 is_read run mirror count entry opened b ready_at h = h.read entry (told_as (IsAtRest (installed_now entry)) opened ready_at.opens.rests ready_at.told)
 
-stops_at : (run : Run) (mirror : Option MirrorMap) (others : List (Option MirrorMap)) (count : ℕ) (entry opened now : List State) (b : Board) → IsOpen entry opened → (h : IsNewRun run mirror count opened b) → IsTold now
-    → HasProgress h.start run.together (installed_now entry) opened now → StopsAmongCommits run (mirror ∷ others) entry now
-stops_at run mirror others count entry opened now b ready_at h told m = record {
+stops_at : (error : RunError) (run : Run) (mirror : Option MirrorMap) (others : List (Option MirrorMap)) (count : ℕ) (entry opened now : List State) (b : Board) → IsOpen entry opened → (h : IsNewRun run mirror count opened b) → IsTold now
+    → HasProgress error h.start run.together (installed_now entry) opened now → StopsAmongCommits run (mirror ∷ others) entry now
+stops_at error run mirror others count entry opened now b ready_at h told m = record {
   opened = opened;
   opens = ready_at.opens;
   begun = begun_of h.start;
@@ -133,13 +161,19 @@ stops_at run mirror others count entry opened now b ready_at h told m = record {
       (subst (λ (o : Option MirrorMap). IfSome o (λ (w : MirrorMap). Agrees w h.start.parts h.start.config.sources m.has.heard)) h.from (m.agrees told));
 }
 
-stays_at : (run : Run) (mirror mirror' : Option MirrorMap) (others others' : List (Option MirrorMap)) (counts counts' : List ℕ) (count : ℕ) (entry opened now : List State) (b : Board) → (ToldAs IsSynced entry → IsOpen entry opened)
-    → (h : IsNewRun run mirror count opened b) → (IsTold entry → IsTold now) → (IsOpen entry opened → HasProgress h.start run.together (installed_now entry) opened now)
-    → SurvivesCrash run (record { trace = entry; mirrors = mirror ∷ others; faults = counts }) (record { trace = now; mirrors = mirror' ∷ others'; faults = counts' })
-stays_at run mirror mirror' others others' counts counts' count entry opened now b ready_at h told at = record {
-  stops = λ settled. inr (stops_at run mirror others count entry opened now b (ready_at settled) h (told (was_told IsSynced entry settled)) (at (ready_at settled)));
-  synced = λ settled. (at (ready_at settled)).synced (ready_at settled).opens.rests;
+stays_at : (error : RunError) (run : Run) (mirror mirror' : Option MirrorMap) (others others' : List (Option MirrorMap)) (counts counts' : List ℕ) (count : ℕ) (entry opened now : List State) (b : Board) → (ToldAs IsSynced entry → IsOpen entry opened)
+    → (h : IsNewRun run mirror count opened b) → (IsTold entry → IsTold now) → (IsOpen entry opened → HasProgress error h.start run.together (installed_now entry) opened now)
+    → StopsSafely error run (record { trace = entry; mirrors = mirror ∷ others; faults = counts }) (record { trace = now; mirrors = mirror' ∷ others'; faults = counts' })
+stays_at error run mirror mirror' others others' counts counts' count entry opened now b ready_at h told at = record {
+  crash = record {
+    stops = λ settled. inr (among settled);
+    synced = λ settled. (at (ready_at settled)).synced (ready_at settled).opens.rests;
+  };
+  dry = λ is settled. inr (record { among = among settled; whole = (at (ready_at settled)).whole is });
 }
+  where
+    among : ToldAs IsSynced entry → StopsAmongCommits run (mirror ∷ others) entry now
+    among settled = stops_at error run mirror others count entry opened now b (ready_at settled) h (told (was_told IsSynced entry settled)) (at (ready_at settled))
 
 none_heard : (mirror : Option MirrorMap) (parts : PartFiles) (sources : List Source) → IfSome mirror (λ (w : MirrorMap). Agrees w parts sources [])
 none_heard None parts sources = tt
@@ -157,28 +191,29 @@ sets_none start opened b told unsettled = record {
 }
 
 -- within its jobs: one by one among its commits, and together before any
-at_asking : CommittingLaws → (together : Bool) (mirror : Option MirrorMap) (count : ℕ) (start : RunStart) (lists : Files) (opened now : List State) (b : Board) → IsSoundBegun start → start.mirror ≡ mirror → IsUnderWay start [] count b opened
-    → IsTold opened → IsNow IsIdle opened → b.settled ≡ [] → StopsWhileAsking mirror count b opened now → (together ≡ true → Since opened now (KeptAtRestSince opened)) → HasProgress start together lists opened now
-at_asking laws false mirror count start lists opened now b sound from under told idle unsettled stops bare = stops start [] lists opened sound from under (sets_none start opened b told unsettled)
-at_asking laws true mirror count start lists opened now b sound from under told idle unsettled stops bare =
+at_asking : CommittingLaws → (error : RunError) (together : Bool) (mirror : Option MirrorMap) (count : ℕ) (start : RunStart) (lists : Files) (opened now : List State) (b : Board) → IsSoundBegun start → start.mirror ≡ mirror → IsUnderWay start [] count b opened
+    → IsTold opened → IsNow IsIdle opened → b.settled ≡ [] → StopsWhileAsking error mirror count b opened now → (together ≡ true → Since opened now (KeptAtRestSince opened)) → HasProgress error start together lists opened now
+at_asking laws error false mirror count start lists opened now b sound from under told idle unsettled stops bare = stops start [] lists opened sound from under (sets_none start opened b told unsettled)
+at_asking laws error true mirror count start lists opened now b sound from under told idle unsettled stops bare =
     let made : CommitsMade [] opened now = rests none idle (bare refl) in
     record {
       commits = [];
       acknowledged = 0;
       started = 0;
       progress = laws.made [] opened now made;
+      whole = λ dry. refl;
       has = record { heard = []; board = b; reached = under.heard.reached; groups = tt; may = inl refl; in_turn = tt; shape = (omega arith, tt) };
       agrees = λ told_now. none_heard start.mirror start.parts start.config.sources;
       synced = λ rest. settled_made laws [] lists opened now made rest;
     }
 
-pub safe_asking : CommittingLaws → (run : Run) (mirror mirror' : Option MirrorMap) (others others' : List (Option MirrorMap)) (counts counts' : List ℕ) (count : ℕ) (entry opened now : List State) (b : Board) → (ToldAs IsSynced entry → IsOpen entry opened)
-    → StartsRun run opened b → (IsTold entry → IsTold now) → StopsWhileAsking mirror count b opened now → (run.together ≡ true → Since opened now (KeptAtRestSince opened))
-    → SurvivesCrash run (record { trace = entry; mirrors = mirror ∷ others; faults = counts }) (record { trace = now; mirrors = mirror' ∷ others'; faults = counts' })
-safe_asking laws run mirror mirror' others others' counts counts' count entry opened now b ready_at starts told stops bare =
+pub safe_asking : CommittingLaws → (error : RunError) (run : Run) (mirror mirror' : Option MirrorMap) (others others' : List (Option MirrorMap)) (counts counts' : List ℕ) (count : ℕ) (entry opened now : List State) (b : Board) → (ToldAs IsSynced entry → IsOpen entry opened)
+    → StartsRun run opened b → (IsTold entry → IsTold now) → StopsWhileAsking error mirror count b opened now → (run.together ≡ true → Since opened now (KeptAtRestSince opened))
+    → StopsSafely error run (record { trace = entry; mirrors = mirror ∷ others; faults = counts }) (record { trace = now; mirrors = mirror' ∷ others'; faults = counts' })
+safe_asking laws error run mirror mirror' others others' counts counts' count entry opened now b ready_at starts told stops bare =
     let h : IsNewRun run mirror count opened b = starts mirror count in
-    stays_at run mirror mirror' others others' counts counts' count entry opened now b ready_at h told
-    (λ is. at_asking laws run.together mirror count h.start (installed_now entry) opened now b h.sound h.from h.under_way is.told is.idle h.none stops bare)
+    stays_at error run mirror mirror' others others' counts counts' count entry opened now b ready_at h told
+    (λ is. at_asking laws error run.together mirror count h.start (installed_now entry) opened now b h.sound h.from h.under_way is.told is.idle h.none stops bare)
 
 -- ---- at its end
 
@@ -197,14 +232,14 @@ begun_over run mirror count later entry opened mid b c ready_at h w unsettled = 
 cleanup_is : (run : Run) (mirror : Option MirrorMap) (count : ℕ) (opened : List State) (b : Board) (cleanup : Bool) → (h : IsNewRun run mirror count opened b) → run.settings.cleanup ≡ cleanup → h.start.config.settings.cleanup ≡ cleanup
 cleanup_is run mirror count opened b cleanup h switch = ap (λ (s : Settings). s.cleanup) h.of_run.settings ∙ switch
 
-pub safe_ending : (run : Run) (mirror mirror' : Option MirrorMap) (others others' : List (Option MirrorMap)) (counts counts' : List ℕ) (count later : ℕ) (entry opened mid now : List State) (b c : Board) (cleanup : Bool)
+pub safe_ending : (error : RunError) (run : Run) (mirror mirror' : Option MirrorMap) (others others' : List (Option MirrorMap)) (counts counts' : List ℕ) (count later : ℕ) (entry opened mid now : List State) (b c : Board) (cleanup : Bool)
     → (ToldAs IsSynced entry → IsOpen entry opened) → StartsRun run opened b → (IsTold entry → IsTold now) → run.settings.cleanup ≡ cleanup → RunGoesOn mirror count later b c opened mid → (run.together ≡ true → c.settled ≡ b.settled)
-    → StopsWhileEnding run.together cleanup c mid now
-    → SurvivesCrash run (record { trace = entry; mirrors = mirror ∷ others; faults = counts }) (record { trace = now; mirrors = mirror' ∷ others'; faults = counts' })
-safe_ending run mirror mirror' others others' counts counts' count later entry opened mid now b c cleanup ready_at starts told switch far unsettled stops =
+    → StopsWhileEnding error run.together cleanup c mid now
+    → StopsSafely error run (record { trace = entry; mirrors = mirror ∷ others; faults = counts }) (record { trace = now; mirrors = mirror' ∷ others'; faults = counts' })
+safe_ending error run mirror mirror' others others' counts counts' count later entry opened mid now b c cleanup ready_at starts told switch far unsettled stops =
     let h : IsNewRun run mirror count opened b = starts mirror count in
     let w : RunGoesOnWith h.start [] later b c opened mid = far h.start [] h.sound h.from h.under_way in
-    stays_at run mirror mirror' others others' counts counts' count entry opened now b ready_at h told
+    stays_at error run mirror mirror' others others' counts counts' count entry opened now b ready_at h told
     (λ is. stops h.start ([] ++ w.more) later (installed_now entry) opened (cleanup_is run mirror count opened b cleanup h switch) (begun_over run mirror count later entry opened mid b c is h w unsettled))
 
 all_may : (together : Bool) (begun : RunInput) (lists : Files) (b : Board) (groups : List Group) → AreAllGroups begun lists b groups → MayBeCommitted together begun lists b groups
@@ -212,13 +247,14 @@ all_may false begun lists b groups all = inr all
 all_may true begun lists b groups all = inr all
 
 -- all commits are made
-ended_at : CommittingLaws → (together : Bool) (start : RunStart) (notes : List Note) (lists : Files) (opened now : List State) (log : RunLog) → (IsTold now → IfSome start.mirror (λ (w : MirrorMap). Agrees w start.parts start.config.sources notes))
-    → HasCommittedAll together start notes lists opened now log → HasProgress start together lists opened now
-ended_at laws together start notes lists opened now log agree e = record {
+ended_at : CommittingLaws → (error : RunError) (together : Bool) (start : RunStart) (notes : List Note) (lists : Files) (opened now : List State) (log : RunLog) → (IsTold now → IfSome start.mirror (λ (w : MirrorMap). Agrees w start.parts start.config.sources notes))
+    → HasCommittedAll together start notes lists opened now log → HasProgress error start together lists opened now
+ended_at laws error together start notes lists opened now log agree e = record {
   commits = e.commits;
   acknowledged = length (commits_of e.commits);
   started = length (commits_of e.commits);
   progress = laws.made (commits_of e.commits) opened now e.made;
+  whole = λ dry. refl;
   has = record {
     heard = e.ran.heard;
     board = e.ran.board;
@@ -239,9 +275,9 @@ pub safe_ended : CommittingLaws → (run : Run) (mirror mirror' : Option MirrorM
 safe_ended laws run mirror mirror' others others' counts counts' count later entry opened mid now b c cleanup log ready_at starts told back switch far unsettled ends =
     let h : IsNewRun run mirror count opened b = starts mirror count in
     let w : RunGoesOnWith h.start [] later b c opened mid = far h.start [] h.sound h.from h.under_way in
-    stays_at run mirror mirror' others others' counts counts' count entry opened now b ready_at h told
-    (λ is. ended_at laws run.together h.start ([] ++ w.more) (installed_now entry) opened now log (λ told_now. w.under_way.heard.answers (back told_now))
-    (ends h.start ([] ++ w.more) later (installed_now entry) opened (cleanup_is run mirror count opened b cleanup h switch) (begun_over run mirror count later entry opened mid b c is h w unsettled)))
+    (stays_at NoMemory run mirror mirror' others others' counts counts' count entry opened now b ready_at h told
+    (λ is. ended_at laws NoMemory run.together h.start ([] ++ w.more) (installed_now entry) opened now log (λ told_now. w.under_way.heard.answers (back told_now))
+    (ends h.start ([] ++ w.more) later (installed_now entry) opened (cleanup_is run mirror count opened b cleanup h switch) (begun_over run mirror count later entry opened mid b c is h w unsettled)))).crash
 
 -- ---- the faults of each method
 

@@ -1,5 +1,5 @@
 -- A run from step to step.
-use Rattle.std.proofs.Common.{◌≡◌, ◌∙◌, ◌≤◌, ◌<◌, ◌-◌, ℕ, ◌+◌, ◌++◌, false, List, [], length, Option, sym, subst, arith}
+use Rattle.std.proofs.Common.{◌≡◌, ◌∙◌, ◌≤◌, ◌<◌, ◌-◌, ℕ, ◌+◌, ◌++◌, false, List, [], length, Option, refl, sym, subst, arith}
 use Rattle.std.proofs.lemmas.List.{append-nil, append_assoc}
 use Rattle.acq_base.specs.Mirror.{MirrorMap}
 use Rattle.acq_outside.specs.Crash.{State}
@@ -11,12 +11,14 @@ use Rattle.board_model.specs.Runs.{Note}
 use Rattle.journal_model.specs.Rest.{IsIdle, KeptAtRestSince}
 use Rattle.commit_journal.proofs.Fills.{idle_on, rests_on}
 use Rattle.list_commits.specs.Made.{rests}
+use Rattle.run_jobs.specs.declared.error.RunError.{RunError}
 use Rattle.run_jobs.specs.Running.{RunStart, JobKeepsRunGoing, RunHasHeard, MayAsk, IsUnderWay, SameBoard}
 use Rattle.run_model.specs.Groups.{all_groups, commits_of}
 use Rattle.run_jobs.proofs.Keeping.{told_back}
 use Rattle.update_engine.proofs.Known.{CommittingLaws}
 use Rattle.update_engine.specs.Session.{KeepsRunGoing, RunGoesOn, HasCommittedSets, HasProgress, MayCommit, StopsBetweenAsks, StopsWhileAsking, begun_of}
-use Rattle.update_engine.proofs.Committing.{has_begun, settled_made, told_on}
+use Rattle.update_engine.proofs.Committing.{has_begun, settled_made}
+use Rattle.update_engine.proofs.Lists.{told_on}
 
 -- ---- between two jobs
 
@@ -29,8 +31,8 @@ goes_aside b c d old mid now one two = record {
   sets = λ start notes count opened sound under sets. two.sets start notes count opened sound (one.under_way start notes count sound under) (one.sets start notes count opened sound under sets);
 }
 
-pub stops_aside : (b c : Board) (old mid now : List State) → KeepsRunGoing b c old mid → StopsBetweenAsks c mid now → StopsBetweenAsks b old now
-stops_aside b c old mid now one stops = λ start notes count lists opened sound under sets. stops start notes count lists opened sound (one.under_way start notes count sound under) (one.sets start notes count opened sound under sets)
+pub stops_aside : (error : RunError) (b c : Board) (old mid now : List State) → KeepsRunGoing b c old mid → StopsBetweenAsks error c mid now → StopsBetweenAsks error b old now
+stops_aside error b c old mid now one stops = λ start notes count lists opened sound under sets. stops start notes count lists opened sound (one.under_way start notes count sound under) (one.sets start notes count opened sound under sets)
 
 pub stands_aside : (b c : Board) (old now : List State) → MayCommit b old → KeepsRunGoing b c old now → IsNow IsIdle now → MayCommit c now
 stands_aside b c old now stands goes idle = record {
@@ -119,31 +121,32 @@ ready_asked mirror later_mirror count later b c old now same ready since goes =
 -- ---- where it stops
 
 -- all sets so far are made
-pub at_moment : CommittingLaws → (start : RunStart) (notes : List Note) (count : ℕ) (lists : Files) (opened : List State) (b : Board) (old now : List State) → RunHasHeard start notes count b old → (IsTold now → IsTold old) → HasCommittedSets (begun_of start) notes opened now b
-    → HasProgress start false lists opened now
+pub at_moment : CommittingLaws → (error : RunError) (start : RunStart) (notes : List Note) (count : ℕ) (lists : Files) (opened : List State) (b : Board) (old now : List State) → RunHasHeard start notes count b old → (IsTold now → IsTold old) → HasCommittedSets (begun_of start) notes opened now b
+    → HasProgress error start false lists opened now
 unfolding has_begun
-at_moment laws start notes count lists opened b old now heard back sets = record {
+at_moment laws error start notes count lists opened b old now heard back sets = record {
   commits = sets.commits;
   acknowledged = length (commits_of sets.commits);
   started = length (commits_of sets.commits);
   progress = laws.made (commits_of sets.commits) opened now sets.made;
+  whole = λ dry. refl;
   has = has_begun start notes count b old lists sets.commits heard sets.each sets.groups sets.order;
   agrees = λ told. heard.answers (back told);
   synced = λ rest. settled_made laws (commits_of sets.commits) lists opened now sets.made rest;
 }
 
-pub far_stops : (mirror : Option MirrorMap) (count mid_count : ℕ) (b c : Board) (old mid now : List State) → RunGoesOn mirror count mid_count b c old mid → StopsBetweenAsks c mid now → StopsWhileAsking mirror count b old now
-far_stops mirror count mid_count b c old mid now far stops = λ start notes lists opened sound from under sets.
+pub far_stops : (error : RunError) (mirror : Option MirrorMap) (count mid_count : ℕ) (b c : Board) (old mid now : List State) → RunGoesOn mirror count mid_count b c old mid → StopsBetweenAsks error c mid now → StopsWhileAsking error mirror count b old now
+far_stops error mirror count mid_count b c old mid now far stops = λ start notes lists opened sound from under sets.
     let w = far start notes sound from under in
     stops start (notes ++ w.more) mid_count lists opened sound w.under_way (w.sets opened sets)
 
 -- within a job
-pub far_stops_asking : CommittingLaws → (mirror : Option MirrorMap) (count mid_count : ℕ) (b c : Board) (old mid now : List State) → RunGoesOn mirror count mid_count b c old mid → IsNow IsIdle mid → Since mid now (KeptAtRestSince mid)
-    → StopsWhileAsking mirror count b old now
-far_stops_asking laws mirror count mid_count b c old mid now far idle since = λ start notes lists opened sound from under sets.
+pub far_stops_asking : CommittingLaws → (error : RunError) (mirror : Option MirrorMap) (count mid_count : ℕ) (b c : Board) (old mid now : List State) → RunGoesOn mirror count mid_count b c old mid → IsNow IsIdle mid → Since mid now (KeptAtRestSince mid)
+    → StopsWhileAsking error mirror count b old now
+far_stops_asking laws error mirror count mid_count b c old mid now far idle since = λ start notes lists opened sound from under sets.
     let w = far start notes sound from under in
     let s = w.sets opened sets in
-    at_moment laws start (notes ++ w.more) mid_count lists opened c mid now w.under_way.heard (told_back (KeptAtRestSince mid) mid now since)
+    at_moment laws error start (notes ++ w.more) mid_count lists opened c mid now w.under_way.heard (told_back (KeptAtRestSince mid) mid now since)
     (record { told = told_on (KeptAtRestSince mid) mid now since s.told; commits = s.commits; made = rests s.made idle since; each = s.each; groups = s.groups; order = s.order })
 
 -- ---- what is at rest

@@ -133,6 +133,15 @@ pub record StopsAmongCommits (run : Run) (mirrors : List (Option MirrorMap)) (en
 abbrev pub StopsWithWholeCommits : Run → List (Option MirrorMap) → List State → List State → Type 0
 StopsWithWholeCommits run mirrors entry now = Since entry now (From Recovers entry) ⊎ StopsAmongCommits run mirrors entry now
 
+-- between two of its commits: each that was begun is acknowledged
+pub record StopsBetweenCommits (run : Run) (mirrors : List (Option MirrorMap)) (entry now : List State) : Type 0 where
+  pub among : StopsAmongCommits run mirrors entry now
+  pub whole : among.acknowledged ≡ among.started
+
+-- so it does where memory runs out, once the journal was open
+abbrev pub StopsForMemory : Run → List (Option MirrorMap) → List State → List State → Type 0
+StopsForMemory run mirrors entry now = Since entry now (From Recovers entry) ⊎ StopsBetweenCommits run mirrors entry now
+
 -- Over a disk that tells and was synced, a stop leaves whole commits, and the disk is synced again.
 pub record SurvivesCrash (run : Run) (before after : Engine) : Type 0 where
   pub stops : ToldAs IsSynced before.trace → StopsWithWholeCommits run before.mirrors before.trace after.trace
@@ -178,8 +187,8 @@ pub record LogIsTrue (run : Run) (before after : Engine) (log : RunLog) : Type 0
   pub commits : ToldAs IsSynced before.trace → HasFinished run begun heard before.trace after.trace log
 
 -- What a run answers, and what it does to the outside: a journal that is damaged changes no file, damage is told just
--- where it is there, a log has a verdict for each source, tells each fetch that was begun and is true, and a crash at any
--- moment leaves whole commits.
+-- where it is there, a log has a verdict for each source, tells each fetch that was begun and is true, a crash at any
+-- moment leaves whole commits, and want of memory stops no commit that was begun.
 pub record Runs {D M : Type 0} (d : Disks D) (m : Methods M) (run : Run) (old new : D) (asked answered : List M)
     (result : Result RunLog RunError) : Type 0 where
   pub unchanged : (at : ℕ) → result ≡ Err (BadJournal at) → d.files new ≡ d.files old
@@ -188,3 +197,4 @@ pub record Runs {D M : Type 0} (d : Disks D) (m : Methods M) (run : Run) (old ne
   pub begins : IfOk result (λ log. BeginsAsTold (map m.begins asked) (map m.begins answered) log.asks)
   pub log : IfOk result (LogIsTrue run (engine d m old asked) (engine d m new answered))
   pub crash : SurvivesCrash run (engine d m old asked) (engine d m new answered)
+  pub dry : result ≡ Err NoMemory → ToldAs IsSynced (d.trace old) → StopsForMemory run (map m.world asked) (d.trace old) (d.trace new)

@@ -22,6 +22,8 @@ use Rattle.list_commits.specs.RecordLaws.{IsSyncedPart, names_of_group}
 use Rattle.list_commits.specs.SetLaws.{HasPutNames, HaveSums, OwnsChanges}
 use Rattle.run_jobs.specs.Counting.{CountsUp}
 use Rattle.run_jobs.specs.Running.{RunStart, IsSoundBegun, IsUnderWay}
+use Rattle.run_jobs.specs.declared.error.RunError.{RunError}
+use Rattle.run_jobs.specs.declared.error.RunError.TheVariants.{NoMemory}
 use Rattle.run_model.specs.Begun.{RunInput}
 use Rattle.update_engine.specs.Run.{IsConfiguredBy, IsReadFromDisk, Run, IsLogOfBoard}
 use Rattle.run_model.specs.Groups.{Group, SetOf, AreGroups, CameToOnBoard, all_groups, commits_of, sources_in}
@@ -59,12 +61,13 @@ pub record HasCommittedSets (begun : RunInput) (heard : List Note) (opened now :
   pub order : sources_in (all_groups commits) ≡ installed_in b
 
 -- The commits of a run over these lists are made one after another since the journal was open: so many are acknowledged and
--- so many begun. Where the disk was at rest then, it is synced.
-pub record HasProgress (start : RunStart) (together : Bool) (lists : Files) (opened now : List State) : Type 0 where
+-- so many begun, and as many where it stops for want of memory. Where the disk was at rest then, it is synced.
+pub record HasProgress (error : RunError) (start : RunStart) (together : Bool) (lists : Files) (opened now : List State) : Type 0 where
   pub commits : List (List Group)
   pub acknowledged : ℕ
   pub started : ℕ
   pub progress : CommitProgress (commits_of commits) acknowledged started opened now
+  pub whole : error ≡ NoMemory → acknowledged ≡ started
   pub has : MayBeStopped together (begun_of start) lists commits
   pub agrees : IsTold now → IfSome start.mirror (λ mirror. Agrees mirror start.parts start.config.sources has.heard)
   pub synced : IsNow (IsAtRest lists) opened → IsNow IsSynced now
@@ -98,10 +101,10 @@ pub record KeepsRunGoing (before after : Board) (old now : List State) : Type 0 
       → HasCommittedSets (begun_of start) notes opened old before → HasCommittedSets (begun_of start) notes opened now after
 
 -- and where it stops, its commits have got so far
-abbrev pub StopsBetweenAsks : Board → List State → List State → Type 0
-StopsBetweenAsks before old now =
+abbrev pub StopsBetweenAsks : RunError → Board → List State → List State → Type 0
+StopsBetweenAsks error before old now =
     (start : RunStart) (notes : List Note) (count : ℕ) (lists : Files) (opened : List State) → IsSoundBegun start → IsUnderWay start notes count before old
-    → HasCommittedSets (begun_of start) notes opened old before → HasProgress start false lists opened now
+    → HasCommittedSets (begun_of start) notes opened old before → HasProgress error start false lists opened now
 
 -- ---- over jobs
 
@@ -117,10 +120,10 @@ RunGoesOn mirror count later before after old now =
     (start : RunStart) (notes : List Note) → IsSoundBegun start → start.mirror ≡ mirror → IsUnderWay start notes count before old → RunGoesOnWith start notes later before after old now
 
 -- and where it stops, its commits have got so far
-abbrev pub StopsWhileAsking : Option MirrorMap → ℕ → Board → List State → List State → Type 0
-StopsWhileAsking mirror count before old now =
+abbrev pub StopsWhileAsking : RunError → Option MirrorMap → ℕ → Board → List State → List State → Type 0
+StopsWhileAsking error mirror count before old now =
     (start : RunStart) (notes : List Note) (lists : Files) (opened : List State) → IsSoundBegun start → start.mirror ≡ mirror → IsUnderWay start notes count before old
-    → HasCommittedSets (begun_of start) notes opened old before → HasProgress start false lists opened now
+    → HasCommittedSets (begun_of start) notes opened old before → HasProgress error start false lists opened now
 
 -- ---- all together
 
@@ -228,10 +231,10 @@ pub record RunsOverLists (together : Bool) (start : RunStart) (notes : List Note
   pub over : ReadsPlanned (begun_of start) lists
 
 -- where each such run stops at its end, its commits have got so far
-abbrev pub StopsWhileEnding : Bool → Bool → Board → List State → List State → Type 0
-StopsWhileEnding together cleanup b old now =
+abbrev pub StopsWhileEnding : RunError → Bool → Bool → Board → List State → List State → Type 0
+StopsWhileEnding error together cleanup b old now =
     (start : RunStart) (notes : List Note) (count : ℕ) (lists : Files) (opened : List State) → start.config.settings.cleanup ≡ cleanup
-    → RunsOverLists together start notes count lists opened old b → HasProgress start together lists opened now
+    → RunsOverLists together start notes count lists opened old b → HasProgress error start together lists opened now
 
 -- all commits of a run over these lists are made, and this is its log
 pub record HasCommittedAll (together : Bool) (start : RunStart) (notes : List Note) (lists : Files) (opened now : List State) (log : RunLog) : Type 0 where

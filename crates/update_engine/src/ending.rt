@@ -1,5 +1,5 @@
 //! The end of a run: what is left to be committed, and the clean-up.
-ghost use Rattle.std.specs.Prelude.{◌≡◌, ◌≢◌, ◌++◌, [], ℕ, Bool, Err, IfOk, None, OnErr, OnOk, not, true, false};
+ghost use Rattle.std.specs.Prelude.{◌≡◌, ◌≢◌, ◌++◌, [], ℕ, Bool, Err, IfErr, IfOk, None, OnErr, OnOk, not, true, false};
 ghost use Rattle.std.specs.List.{list_all};
 ghost use Rattle.acq_outside.specs.States.{IsNow};
 ghost use Rattle.acq_outside.specs.Stays.{StaysCounting};
@@ -47,7 +47,7 @@ pub fn settle_last<D: Disk>(
     ensures bare { together ≡ true → D.trace disk.new ≡ D.trace disk.old }
     ensures leaves { IfOk result (LeavesUncommitted together (board_of board.old) (board_of board.new) (D.trace disk.old) (D.trace disk.new)) }
     ensures idle { OnOk result (IsNow IsIdle (D.trace disk.new)) }
-    ensures stops { (cleanup : Bool) → OnErr result (StopsWhileEnding together cleanup (board_of board.old) (D.trace disk.old) (D.trace disk.new)) }
+    ensures stops { (cleanup : Bool) → IfErr result (λ error. StopsWhileEnding error together cleanup (board_of board.old) (D.trace disk.old) (D.trace disk.new)) }
 {
     if together {
         let groups = gather(alloc, board)?;
@@ -125,6 +125,7 @@ pub fn commit_last<D: Disk>(
     ensures undamaged { (at : ℕ) → result ≢ Err (RunError.BadJournal at) }
 
     ensures some { OnErr result (groups ≢ []) }
+    ensures dry { result ≡ Err RunError.NoMemory → D.trace disk.new ≡ D.trace disk.old }
 
     ensures synced { IsNow IsSynced (D.trace disk.old) → IsNow IsSynced (D.trace disk.new) }
     ensures idle { OnOk result (IsNow IsIdle (D.trace disk.new)) }
@@ -160,7 +161,7 @@ pub fn end_run<D: Disk>(
     ensures asks { IfOk result (λ log. log.asks ≡ (board_of board).asks) }
     ensures idle { OnOk result (IsNow IsIdle (D.trace disk.new)) }
     ensures ends { IfOk result (EndsWithLog cleanup (board_of board) (D.trace disk.old)) }
-    ensures stops { OnErr result (StopsWhileEnding together cleanup (board_of board) (D.trace disk.old) (D.trace disk.new)) }
+    ensures stops { IfErr result (λ error. StopsWhileEnding error together cleanup (board_of board) (D.trace disk.old) (D.trace disk.new)) }
     ensures ended { IfOk result (CommitsAll together cleanup (board_of board) (D.trace disk.old) (D.trace disk.new)) }
 {
     let mut board = board;

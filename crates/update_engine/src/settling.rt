@@ -1,5 +1,5 @@
 //! Sources that are ready are settled, and their new sets committed.
-ghost use Rattle.std.specs.Prelude.{◌≡◌, ◌≢◌, ◌∷◌, [], ℕ, Err, IfOk, IsSome, None, OnErr, OnOk, Some, slice_get};
+ghost use Rattle.std.specs.Prelude.{◌≡◌, ◌≢◌, ◌∷◌, [], ℕ, Err, IfErr, IfOk, IsSome, None, OnOk, Some, slice_get};
 ghost use Rattle.acq_base.specs.declared.plan.Source.{Source as AnySource};
 ghost use Rattle.acq_outside.specs.States.{IsNow};
 ghost use Rattle.acq_outside.specs.Stays.{StaysCounting};
@@ -75,7 +75,7 @@ pub fn install_ready<D: Disk>(
 
     ensures idle { OnOk result (IsNow IsIdle (D.trace disk.new)) }
     ensures goes { OnOk result (KeepsRunGoing (board_of board.old) (board_of board.new) (D.trace disk.old) (D.trace disk.new)) }
-    ensures stops { OnErr result (StopsBetweenAsks (board_of board.old) (D.trace disk.old) (D.trace disk.new)) }
+    ensures stops { IfErr result (λ error. StopsBetweenAsks error (board_of board.old) (D.trace disk.old) (D.trace disk.new)) }
 {
     let settled = board.settle(alloc, place)?;
     if !is_new(&settled.verdict) {
@@ -108,7 +108,7 @@ pub fn install_all<D: Disk>(
 
     ensures idle { OnOk result (IsNow IsIdle (D.trace disk.new)) }
     ensures goes { OnOk result (KeepsRunGoing (board_of board.old) (board_of board.new) (D.trace disk.old) (D.trace disk.new)) }
-    ensures stops { OnErr result (StopsBetweenAsks (board_of board.old) (D.trace disk.old) (D.trace disk.new)) }
+    ensures stops { IfErr result (λ error. StopsBetweenAsks error (board_of board.old) (D.trace disk.old) (D.trace disk.new)) }
 {
     'ready: while let Some(place) = board.ready() {
         install_ready(alloc, disk, journal, board, place)?;

@@ -10,7 +10,7 @@ use Rattle.commit_journal.specs.Opening.{damage_of}
 use Rattle.report_text.specs.Refused.{line_of}
 use Rattle.report_text.specs.declared.fault.FaultLine.TheVariants.{Journal}
 use Rattle.run_jobs.specs.declared.error.RunError.TheVariants.{BadJournal}
-use Rattle.update_engine.specs.Run.{RunFindsDamage}
+use Rattle.update_engine.specs.Run.{Run, RunFindsDamage}
 use Rattle.update_model.specs.declared.log.RunLog.{RunLog}
 use Rattle.update_program.specs.Asked.{GivesConfiguration}
 use Rattle.update_program.proofs.Damage.{told_at}
@@ -36,9 +36,9 @@ pub configured_ends : (told : Option EtcFiles) (options : Options) (moment : Opt
 configured_ends told options moment it before after log status answer ends = record { way = inl (it, given told options.pairs it answer, ends) }
 
 -- a damaged journal is told at its place
-pub says_damage : (before after : Objects) (at status : ℕ) → (IsTrue before.tells → RunFindsDamage (damage_of before.files) (Err (BadJournal at)))
-    → after.files ≡ before.files → WritesFault before.out after.out (Journal at) status → WritesWhyNoLog before after status
-says_damage before after at status finds same said = inr (inl (at, (λ tells. told_at (damage_of before.files) at (finds tells)), same, said))
+pub says_damage : (run : Run) (before after : Objects) (at status : ℕ) → (IsTrue before.tells → RunFindsDamage (damage_of before.files) (Err (BadJournal at)))
+    → after.files ≡ before.files → WritesFault before.out after.out (Journal at) status → WritesWhyNoLog run before after status
+says_damage run before after at status finds same said = inr (inl (at, (λ tells. told_at (damage_of before.files) at (finds tells)), same, said))
 
 -- a configuration that wasn't read ends the call by its line
 pub refusal_ends : (told : Option EtcFiles) (options : Options) (moment : Option ℤ) (refusal : ConfigurationError) (before after : Objects) (log : Option RunLog) (status : ℕ)

@@ -1,11 +1,12 @@
 -- The ways in which an update ends keep its promise, and have its statuses.
-use Rattle.std.proofs.Common.{◌≡◌, ◌⊎◌, ◌<◌, ◌+◌, ℕ, ℤ, Option, Some, None, Ok, IfSome, inl, inr, refl, arith, IfNone}
+use Rattle.std.proofs.Common.{◌≡◌, ◌⊎◌, ◌<◌, ◌+◌, ℕ, ℤ, Option, Some, None, Ok, IfSome, IsTrue, inl, inr, refl, arith, IfNone}
 use Rattle.acq_outside.specs.Etc.{EtcFiles}
 use Rattle.command_words.specs.declared.request.Options.{Options}
+use Rattle.commit_journal.specs.Opening.{damage_of}
 use Rattle.configuration.specs.declared.configuring.Configured.{Configured}
 use Rattle.report_text.specs.declared.fault.FaultLine.{FaultLine}
 use Rattle.report_text.specs.declared.fault.FaultLine.TheVariants.{Disk, Memory, Held, Etc}
-use Rattle.run_promises.specs.Claims.{LogsShowRuns, RunsStopUndamaged, RunsTellServed, ShowsRun, TellsServedOverMirror}
+use Rattle.run_promises.specs.Claims.{LogsShowRuns, RunsStopOnSameLists, RunsStopUndamaged, RunsTellServed, ShowsRun, StopsOnSameLists, TellsServedOverMirror}
 use Rattle.run_promises.specs.Promise.{ListsMatchLog, EndsOverMirror, RunsEndAsServed, RunsEndAsTold, RunsStopAsServed, RunsStopWithSets, WasSynced}
 use Rattle.update_engine.specs.Run.{KeepsMethods, Run}
 use Rattle.update_model.specs.declared.log.RunLog.{RunLog}
@@ -36,18 +37,23 @@ held_failed before after status said = is_failure before after Held status (abov
 etc_failed : (before after : Output) (status : ℕ) → WritesLine before after Etc status → status ≡ 100 → ⊥
 etc_failed before after status said = is_failure before after Etc status (above 5) said
 
+-- the line of the lists folder's failure isn't that of memory
+not_memory : (before after : Output) (status : ℕ) → WritesLine before after Disk status → status ≡ 103 → ⊥
+not_memory before after status (inl said) is = omega (arith, said.0, is)
+not_memory before after status (inr said) is = omega (arith, said.0, is)
+
 -- what is said of a status without a log
 without_log : {X : Type 0} (log : Option RunLog) → X → IfNone log X
 without_log None is = is
 without_log (Some log) is = tt
 
 module _
-    (serves : RunsEndAsServed) (tells : RunsEndAsTold) (stops_as_served : RunsStopAsServed) (stops : RunsStopWithSets) (shows : LogsShowRuns) (served : RunsTellServed) (undamaged : RunsStopUndamaged) (told : Option EtcFiles) (options : Options) (moment : Option ℤ) (before after : Objects)
+    (serves : RunsEndAsServed) (tells : RunsEndAsTold) (stops_as_served : RunsStopAsServed) (stops : RunsStopWithSets) (shows : LogsShowRuns) (served : RunsTellServed) (undamaged : RunsStopUndamaged) (same_lists : RunsStopOnSameLists) (told : Option EtcFiles) (options : Options) (moment : Option ℤ) (before after : Objects)
     (status : ℕ) (keeps : KeepsMethods before.engine after.engine) where
-  by_why : WritesWhyNoLog before after status → status ≡ 100 → IsRefused told options before
-  by_why (inl said) is = absurd (disk_failed before.out after.out status said is)
-  by_why (inr (inl damaged)) is = inr (damaged.0, damaged.1)
-  by_why (inr (inr said)) is = absurd (memory_failed before.out after.out status said is)
+  by_why : (run : Run) → WritesWhyNoLog run before after status → status ≡ 100 → IsRefused told options before
+  by_why run (inl said) is = absurd (disk_failed before.out after.out status said is)
+  by_why run (inr (inl damaged)) is = inr (damaged.0, damaged.1)
+  by_why run (inr (inr memory)) is = absurd (memory_failed before.out after.out status memory.1 is)
 
   by_bar : IsBeforeRun before after status → status ≡ 100 → ⊥
   by_bar (inl said) = disk_failed before.out after.out status said
@@ -81,8 +87,18 @@ module _
   complete_run run None ran = tt
   complete_run run (Some log) ran = ends_well run before.engine after.engine before.out after.out log status ran.log (served run before.engine after.engine log ran.log) ran.said
 
+  dry_run : (run : Run) (log : Option RunLog) → MakesRun run before after log status
+      → IfNone log (status ≡ 103 → IsTrue before.tells → damage_of before.files ≡ None → WasSynced before.engine → StopsOnSameLists run before.engine after.engine)
+  dry_run run (Some log) ran = tt
+  dry_run run None ran = λ is tells whole synced. by ran.why is tells whole synced
+    where
+      by : WritesWhyNoLog run before after status → status ≡ 103 → IsTrue before.tells → damage_of before.files ≡ None → WasSynced before.engine → StopsOnSameLists run before.engine after.engine
+      by (inl said) is tells whole synced = absurd (not_memory before.out after.out status said is)
+      by (inr (inl damaged)) is tells whole synced = let found = damaged.1 tells in absurd (cc)
+      by (inr (inr memory)) is tells whole synced = same_lists run before.engine after.engine (memory.0 synced) synced
+
   refused_run : (run : Run) (log : Option RunLog) → MakesRun run before after log status → IfNone log (status ≡ 100 → IsRefused told options before)
-  refused_run run None ran = by_why ran.why
+  refused_run run None ran = by_why run ran.why
   refused_run run (Some log) ran = tt
 
   asked : (it : Configured) (time : ℤ) → GivesConfiguration told options.pairs (Ok it) → moment ≡ Some time → AsksForRun told options moment (run_for it time options.together)
@@ -102,6 +118,7 @@ module _
       ends = ends_run (run_for it ran.0 options.together) log ran.2;
       served = served_run (run_for it ran.0 options.together) log ran.2;
       complete = complete_run (run_for it ran.0 options.together) log ran.2;
+      dry = dry_run (run_for it ran.0 options.together) log ran.2;
     });
     refused = refused_run (run_for it ran.0 options.together) log ran.2;
   }

@@ -1,15 +1,17 @@
 -- How a call ends.
 use Rattle.std.specs.Prelude.{◌≡◌, ◌⊎◌, ℕ, ℤ, Bool, List, Option, Some, None, Ok, Err, IfSome, IfNone, IsSome, IsTrue}
 use Rattle.acq_outside.specs.Etc.{EtcFiles}
+use Rattle.acq_outside.specs.States.{ToldAs}
 use Rattle.acq_outside.specs.declared.clock.Clock.{Ghosts as Clocks}
 use Rattle.acq_outside.specs.declared.disk.Disk.{Ghosts as Disks}
 use Rattle.command_words.specs.declared.request.Options.{Options}
 use Rattle.commit_journal.specs.Opening.{damage_of}
 use Rattle.configuration.specs.declared.configuring.Configured.{Configured}
 use Rattle.configuration.specs.declared.error.ConfigurationError.{ConfigurationError}
+use Rattle.journal_model.specs.Rest.{IsSynced}
 use Rattle.report_text.specs.Refused.{line_of}
 use Rattle.report_text.specs.declared.fault.FaultLine.TheVariants.{Words, Journal, Disk, Memory, Held, Etc}
-use Rattle.update_engine.specs.Run.{BeginsAsTold, Run, LogIsTrue, SurvivesCrash}
+use Rattle.update_engine.specs.Run.{BeginsAsTold, Run, LogIsTrue, StopsForMemory, SurvivesCrash}
 use Rattle.update_model.specs.declared.log.RunLog.{RunLog}
 use Rattle.update_program.specs.Asked.{GivesConfiguration, run_for}
 use Rattle.update_program.specs.Objects.{Objects, Span}
@@ -42,13 +44,18 @@ MakesNoRun seen ran = IsNoRun seen.before seen.after ran.log
 
 -- ---- a run
 
+-- over a folder that tells and was synced, each commit that was begun is acknowledged
+abbrev pub StopsNoCommit : Run → Objects → Objects → Type 0
+StopsNoCommit run before after =
+    ToldAs IsSynced before.engine.trace → StopsForMemory run before.engine.mirrors before.engine.trace after.engine.trace
+
 -- why it answers no log: the lists folder failed, the journal is damaged at this place and no file was touched, or memory
--- ran out
-abbrev pub WritesWhyNoLog : Objects → Objects → ℕ → Type 0
-WritesWhyNoLog before after status =
+-- ran out, and no commit was stopped
+abbrev pub WritesWhyNoLog : Run → Objects → Objects → ℕ → Type 0
+WritesWhyNoLog run before after status =
     WritesLine before.out after.out Disk status
     ⊎ (((at : ℕ) × (IsTrue before.tells → damage_of before.files ≡ Some at) × (after.files ≡ before.files) × WritesFault before.out after.out (Journal at) status)
-    ⊎ WritesLine before.out after.out Memory status)
+    ⊎ (StopsNoCommit run before after × WritesLine before.out after.out Memory status))
 
 -- A run, whether it answers a log or not: what a stop leaves, what the log tells, which is each fetch that was begun, and
 -- what was written. No run that answers a log goes on over a damaged journal.
@@ -57,7 +64,7 @@ pub record MakesRun (run : Run) (before after : Objects) (answer : Option RunLog
   pub log : IfSome answer (LogIsTrue run before.engine after.engine)
   pub begins : IfSome answer (λ log. BeginsAsTold before.begins after.begins log.asks)
   pub said : IfSome answer (λ log. WritesReportOrMemory before.out after.out run.plan log status)
-  pub why : IfNone answer (WritesWhyNoLog before after status)
+  pub why : IfNone answer (WritesWhyNoLog run before after status)
   pub undamaged : IsTrue before.tells → IsSome answer → damage_of before.files ≡ None
 
 -- the lists folder failed or was held by another process, or memory ran out

@@ -1,12 +1,12 @@
 -- The promise of an update, in the words of those who keep lists.
 use Rattle.std.specs.List.{AllByRecursion as Each}
-use Rattle.std.specs.Prelude.{◌≡◌, ◌⊎◌, ℕ, ℤ, IfNone, IfSome, IsTrue, Option, Some, Err}
+use Rattle.std.specs.Prelude.{◌≡◌, ◌⊎◌, ℕ, ℤ, IfNone, IfSome, IsTrue, Option, Some, None, Err}
 use Rattle.acq_outside.specs.Etc.{EtcFiles}
 use Rattle.command_words.specs.declared.request.Options.{Options}
 use Rattle.commit_journal.specs.Opening.{damage_of}
 use Rattle.configuration.specs.declared.error.ConfigurationError.{ConfigurationError}
 use Rattle.journal_model.specs.Reopen.{installed_now}
-use Rattle.run_promises.specs.Claims.{Serves, ShowsRun, StopsUndamaged, TellsServedOverMirror}
+use Rattle.run_promises.specs.Claims.{Serves, ShowsRun, StopsOnSameLists, StopsUndamaged, TellsServedOverMirror}
 use Rattle.run_promises.specs.Promise.{ListsMatchLog, EndsOverMirror, NoneIsGivenUp, StopsOverMirror, StopKeepsSets, WasSynced}
 use Rattle.update_engine.specs.Run.{Engine, ForMirror, Run}
 use Rattle.update_model.specs.declared.log.RunLog.{RunLog}
@@ -29,7 +29,8 @@ StatusIsZeroOverMirror run before log status = ForMirror before.mirrors (λ mirr
 
 -- A run that is asked for. A stop leaves each source its former set or a new one, whole, which over a mirror is the
 -- mirror's, and no damaged journal but one that the call found. Where a log is answered, it shows its run, the lists are as it tells, and over a
--- mirror lists and log are what the mirror's answers define, and each source that the mirror serves whole has a set.
+-- mirror lists and log are what the mirror's answers define, and each source that the mirror serves whole has a set. Where
+-- memory ran out before a log, over a journal that isn't damaged, the lists are the same whatever a crash leaves.
 pub record KeepsPromise (told : Option EtcFiles) (options : Options) (moment : Option ℤ) (before after : Objects) (log : Option RunLog) (status : ℕ) : Type 0 where
   pub run : Run
   pub asks : AsksForRun told options moment run
@@ -41,6 +42,7 @@ pub record KeepsPromise (told : Option EtcFiles) (options : Options) (moment : O
   pub ends : IfSome log (EndsOverMirror run before.engine after.engine)
   pub served : IfSome log (TellsServedOverMirror run before.engine)
   pub complete : IfSome log (λ known. StatusIsZeroOverMirror run before.engine known status)
+  pub dry : IfNone log (status ≡ 103 → IsTrue before.tells → damage_of before.files ≡ None → WasSynced before.engine → StopsOnSameLists run before.engine after.engine)
 
 -- What an update promises: it makes no run, or one as above; and without a log the status 100 has its cause. The other
 -- statuses without a log have theirs: the lists folder, the configuration folder, the output or memory failed, or another

@@ -39,6 +39,7 @@ pub fn run_plan<D: Disk, M: Method, S: Sink>(
     ensures held { D.held disk.new ≡ D.held disk.old }
     ensures disk_fault { result.status.0 ≡ 102 → Rose (D.faults disk.old) (D.faults disk.new) }
     ensures quiet_disk { IsSome result.log → D.faults disk.new ≡ D.faults disk.old }
+    ensures dry_disk { result.status.0 ≡ 103 → D.faults disk.new ≡ D.faults disk.old }
     ensures output { BlamesOutput (S.faults out.old) (S.faults out.new) result.status.0 }
     ensures not_held { result.status.0 ≢ 104 }
     ensures no_etc_fault { result.status.0 ≢ 106 }

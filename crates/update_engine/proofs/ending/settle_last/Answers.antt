@@ -13,7 +13,7 @@ pub returns-clause-leaves : goal.returns-clause-leaves
 returns-clause-leaves g c = last_none _ _ (board_of c.install_all.new.board) _ _ _ c.if-together.false c.new.ensures c.in_ok-install_all.ensures.goes
 
 pub returns-in_err-groups-clause-stops : goal.returns-in_err-groups-clause-stops
-returns-in_err-groups-clause-stops g c = λ cleanup. on_err _ _ (stops_first commits_known _ cleanup _ _ _ refl)
+returns-in_err-groups-clause-stops g c = λ cleanup. on_err _ _ (λ error. stops_first commits_known error _ cleanup _ _ _ refl)
 
 pub returns-in_err-install_all-clause-stops : goal.returns-in_err-install_all-clause-stops
-returns-in_err-install_all-clause-stops g c = λ cleanup. on_err _ _ (stops_one_by_one _ cleanup _ _ _ c.if-together.false c.in_err-install_all.ensures.stops)
+returns-in_err-install_all-clause-stops g c = λ cleanup. stops_one_by_one _ _ cleanup _ _ _ c.if-together.false c.in_err-install_all.ensures.stops

@@ -9,7 +9,7 @@ use Rattle.update_engine.proofs.Stepping.{bare_aside, bare_round, far_aside, far
 use Rattle.update_engine.proofs.looping.ask_until_done.Goals as goal
 
 pub returns-in_err-install_between-clause-stops : goal.returns-in_err-install_between-clause-stops
-returns-in_err-install_between-clause-stops g c = on_err _ _ (far_stops _ _ _ _ (board_of c.asks.board) _ _ _ c.asks.invariant.goes c.in_err-install_between.ensures.stops)
+returns-in_err-install_between-clause-stops g c = far_stops _ _ _ _ _ (board_of c.asks.board) _ _ _ c.asks.invariant.goes c.in_err-install_between.ensures.stops
 
 pub returns-in_err-install_between-clause-bare : goal.returns-in_err-install_between-clause-bare
 returns-in_err-install_between-clause-bare g c = λ together. bare_aside _ _ _ (c.asks.invariant.bare together) (c.install_between.ensures.bare together)
@@ -22,7 +22,7 @@ ask_one-requires-clause-ready g c = ready_aside _ _ (board_of c.asks.board) _ _ 
 
 pub returns-in_err-ask_one-clause-stops : goal.returns-in_err-ask_one-clause-stops
 returns-in_err-ask_one-clause-stops g c = on_err _ _
-    (far_stops_asking commits_known _ _ _ _ (board_of c.install_between.new.board) _ _ _
+    (λ error. far_stops_asking commits_known error _ _ _ _ (board_of c.install_between.new.board) _ _ _
     (far_aside _ _ _ _ (board_of c.asks.board) _ _ _ _ c.asks.invariant.goes c.in_ok-install_between.ensures.goes) c.in_ok-install_between.ensures.idle c.ask_one.ensures.moments)
 
 pub returns-in_err-ask_one-clause-bare : goal.returns-in_err-ask_one-clause-bare

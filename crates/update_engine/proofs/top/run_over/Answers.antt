@@ -7,7 +7,7 @@ use Rattle.update_engine.proofs.Begins.{begins_first}
 use Rattle.update_engine.proofs.Known.{commits_known}
 use Rattle.update_engine.specs.Run.{Run, run_of}
 use Rattle.update_engine.specs.Session.{StartsRun}
-use Rattle.update_engine.proofs.Over.{far_stands, is_open, lanes_told, logged, none_found, safe_asking, safe_ended, safe_ending, starts_change, starts_ready, stays_unopened, still_told, verdicts_told}
+use Rattle.update_engine.proofs.Over.{far_stands, is_open, lanes_told, logged, none_found, safe_asking, safe_ended, safe_ending, starts_change, starts_ready, stays_unopened, still_told, stopped_run, verdicts_told}
 use Rattle.update_model.specs.declared.log.Asked.{Asked}
 use Rattle.update_engine.proofs.top.run_over.Goals as goal
 
@@ -29,53 +29,33 @@ end_run-requires-clause-stands g c = far_stands _ _ _ (board_of c.in_ok-board.bo
     (starts_ready _ _ _ _ _ (board_of c.in_ok-board.board) (c.in_ok-board.ensures.starts c.args.together) c.begin_run.ensures.frame.still c.in_ok-journal.ensures.opens.idle) c.in_ok-ask_until_done.ensures.goes c.in_ok-ask_until_done.ensures.idle
 
 pub returns-in_err-journal-clause-run : goal.returns-in_err-journal-clause-run
-returns-in_err-journal-clause-run g c = λ others. record {
-  unchanged = search rules;
-  damage = search rules;
-  verdicts = search rules;
-  begins = search rules;
-  log = search rules;
-  crash = stays_unopened _ _ _ _ c.open_journal.ensures.opens.recovers c.open_journal.ensures.synced refl;
-}
+returns-in_err-journal-clause-run g c = λ others. stopped_run _ _ _ _ _ _ _ _
+    (stays_unopened _ _ _ _ _ c.open_journal.ensures.opens.recovers c.open_journal.ensures.synced refl)
+    (search rules) (search rules)
 
 pub returns-in_err-board-clause-run : goal.returns-in_err-board-clause-run
-returns-in_err-board-clause-run g c = λ others. record {
-  unchanged = search rules;
-  damage = search rules;
-  verdicts = search rules;
-  begins = search rules;
-  log = search rules;
-  crash = stays_unopened _ _ _ _ c.open_journal.ensures.opens.recovers c.open_journal.ensures.synced c.begin_run.ensures.frame.still;
-}
+returns-in_err-board-clause-run g c = λ others. stopped_run _ _ _ _ _ _ _ _
+    (stays_unopened _ _ _ _ _ c.open_journal.ensures.opens.recovers c.open_journal.ensures.synced c.begin_run.ensures.frame.still)
+    (search rules) (search rules)
 
 pub returns-in_err-ask_until_done-clause-run : goal.returns-in_err-ask_until_done-clause-run
-returns-in_err-ask_until_done-clause-run g c = λ others. record {
-  unchanged = search rules;
-  damage = search rules;
-  verdicts = search rules;
-  begins = search rules;
-  log = search rules;
-  crash = safe_asking commits_known (run_of c.args.plan c.args.settings c.args.judge.now.change c.args.now c.args.together)
-      _ _ _ _ _ _ _ _ _ _ (board_of c.in_ok-board.board)
-      (is_open (g.D.Disk.tells c.args.disk.now) (g.D.Disk.files c.args.disk.now) _ _ _ (g.met.D.Disk.shown c.args.disk.now) c.open_journal.ensures.opens.recovers c.open_journal.ensures.opens.others c.in_ok-journal.ensures.rests c.in_ok-journal.ensures.opens.idle c.begin_run.ensures.frame.still)
-      (starts_there (λ (z : ℤ). run_of c.args.plan c.args.settings c.args.judge.now.change z c.args.together) _ _ _ _ (board_of c.in_ok-board.board) (to_z-of_z w64 c.args.now c.ranges.now) c.begin_run.ensures.frame.still (c.in_ok-board.ensures.starts c.args.together))
-      (still_told _ _ _ _ _ _ (g.met.D.Disk.shown c.args.disk.now) (g.met.D.Disk.shown c.ask_until_done.new.disk) (c.ask_until_done.ensures.frame.telling ∙ (c.begin_run.ensures.frame.telling ∙ c.open_journal.ensures.frame.telling)))
-      c.in_err-ask_until_done.ensures.stops c.ask_until_done.ensures.bare;
-}
+returns-in_err-ask_until_done-clause-run g c = λ others. stopped_run _ _ _ _ _ _ _ _
+    (safe_asking commits_known _ (run_of c.args.plan c.args.settings c.args.judge.now.change c.args.now c.args.together)
+    _ _ _ _ _ _ _ _ _ _ (board_of c.in_ok-board.board)
+    (is_open (g.D.Disk.tells c.args.disk.now) (g.D.Disk.files c.args.disk.now) _ _ _ (g.met.D.Disk.shown c.args.disk.now) c.open_journal.ensures.opens.recovers c.open_journal.ensures.opens.others c.in_ok-journal.ensures.rests c.in_ok-journal.ensures.opens.idle c.begin_run.ensures.frame.still)
+    (starts_there (λ (z : ℤ). run_of c.args.plan c.args.settings c.args.judge.now.change z c.args.together) _ _ _ _ (board_of c.in_ok-board.board) (to_z-of_z w64 c.args.now c.ranges.now) c.begin_run.ensures.frame.still (c.in_ok-board.ensures.starts c.args.together))
+    (still_told _ _ _ _ _ _ (g.met.D.Disk.shown c.args.disk.now) (g.met.D.Disk.shown c.ask_until_done.new.disk) (c.ask_until_done.ensures.frame.telling ∙ (c.begin_run.ensures.frame.telling ∙ c.open_journal.ensures.frame.telling)))
+    c.in_err-ask_until_done.ensures.stops c.ask_until_done.ensures.bare)
+    (search rules) (search rules)
 
 pub returns-in_err-log-clause-run : goal.returns-in_err-log-clause-run
-returns-in_err-log-clause-run g c = λ others. record {
-  unchanged = search rules;
-  damage = search rules;
-  verdicts = search rules;
-  begins = search rules;
-  log = search rules;
-  crash = safe_ending (run_of c.args.plan c.args.settings c.args.judge.now.change c.args.now c.args.together) _ _ _ _ _ _ _ _ _ _ _ _ (board_of c.in_ok-board.board) (board_of c.ask_until_done.new.board) c.args.settings.cleanup
-      (is_open (g.D.Disk.tells c.args.disk.now) (g.D.Disk.files c.args.disk.now) _ _ _ (g.met.D.Disk.shown c.args.disk.now) c.open_journal.ensures.opens.recovers c.open_journal.ensures.opens.others c.in_ok-journal.ensures.rests c.in_ok-journal.ensures.opens.idle c.begin_run.ensures.frame.still)
-      (starts_there (λ (z : ℤ). run_of c.args.plan c.args.settings c.args.judge.now.change z c.args.together) _ _ _ _ (board_of c.in_ok-board.board) (to_z-of_z w64 c.args.now c.ranges.now) c.begin_run.ensures.frame.still (c.in_ok-board.ensures.starts c.args.together))
-      (still_told _ _ _ _ _ _ (g.met.D.Disk.shown c.args.disk.now) (g.met.D.Disk.shown c.end_run.new.disk) (c.end_run.ensures.frame.telling ∙ (c.ask_until_done.ensures.frame.telling ∙ (c.begin_run.ensures.frame.telling ∙ c.open_journal.ensures.frame.telling))))
-      refl c.in_ok-ask_until_done.ensures.goes c.in_ok-ask_until_done.ensures.unsettled c.in_err-log.ensures.stops;
-}
+returns-in_err-log-clause-run g c = λ others. stopped_run _ _ _ _ _ _ _ _
+    (safe_ending _ (run_of c.args.plan c.args.settings c.args.judge.now.change c.args.now c.args.together) _ _ _ _ _ _ _ _ _ _ _ _ (board_of c.in_ok-board.board) (board_of c.ask_until_done.new.board) c.args.settings.cleanup
+    (is_open (g.D.Disk.tells c.args.disk.now) (g.D.Disk.files c.args.disk.now) _ _ _ (g.met.D.Disk.shown c.args.disk.now) c.open_journal.ensures.opens.recovers c.open_journal.ensures.opens.others c.in_ok-journal.ensures.rests c.in_ok-journal.ensures.opens.idle c.begin_run.ensures.frame.still)
+    (starts_there (λ (z : ℤ). run_of c.args.plan c.args.settings c.args.judge.now.change z c.args.together) _ _ _ _ (board_of c.in_ok-board.board) (to_z-of_z w64 c.args.now c.ranges.now) c.begin_run.ensures.frame.still (c.in_ok-board.ensures.starts c.args.together))
+    (still_told _ _ _ _ _ _ (g.met.D.Disk.shown c.args.disk.now) (g.met.D.Disk.shown c.end_run.new.disk) (c.end_run.ensures.frame.telling ∙ (c.ask_until_done.ensures.frame.telling ∙ (c.begin_run.ensures.frame.telling ∙ c.open_journal.ensures.frame.telling))))
+    refl c.in_ok-ask_until_done.ensures.goes c.in_ok-ask_until_done.ensures.unsettled c.in_err-log.ensures.stops)
+    (search rules) (search rules)
 
 pub returns-clause-run : goal.returns-clause-run
 returns-clause-run g c = λ others. record {
@@ -102,4 +82,5 @@ returns-clause-run g c = λ others. record {
       (still_told _ _ _ _ _ _ (g.met.D.Disk.shown c.args.disk.now) (g.met.D.Disk.shown c.end_run.new.disk) (c.end_run.ensures.frame.telling ∙ (c.ask_until_done.ensures.frame.telling ∙ (c.begin_run.ensures.frame.telling ∙ c.open_journal.ensures.frame.telling))))
       (still_told _ _ _ _ _ _ (g.met.D.Disk.shown c.end_run.new.disk) (g.met.D.Disk.shown c.ask_until_done.new.disk) (sym c.end_run.ensures.frame.telling))
       refl c.in_ok-ask_until_done.ensures.goes c.in_ok-ask_until_done.ensures.unsettled c.in_ok-log.ensures.ended;
+  dry = λ is. absurd (cc);
 }

@@ -13,6 +13,7 @@ returns-in-Err g c =
       moment = inr (rw by.log refl, refl);
       disk_fault = λ e. absurd (by.no_disk_fault e);
       quiet_disk = λ some. let never = rw by.log at some in absurd cc;
+      dry_disk = λ e. refl;
       output = by.frame;
       held_fault = λ e. absurd (by.not_held e);
       quiet_held = λ some. let never = rw by.log at some in absurd cc;
