@@ -1,6 +1,6 @@
 -- The set of one source is committed.
 use Rattle.std.proofs.Common.{◌≡◌, ◌≢◌, ◌⊎◌, ◌∙◌, ◌≤◌, inl, inr, refl, sym, ap, subst, ℕ, suc, Bool, true, false, List, [], ◌∷◌, ◌++◌, length, AllPairs, Contains, Some, None, Result, Ok, Err}
-use Rattle.std.specs.Prelude.{IfErr, if◌then◌else◌, slice_get}
+use Rattle.std.specs.Prelude.{IfErr, IsErrAnd, if◌then◌else◌, slice_get}
 use Rattle.std.specs.List.{AllByRecursion as Each}
 use Rattle.std.proofs.lemmas.List.{append-nil}
 use Rattle.acq_base.specs.Plan.{IsPlanned, names_of}
@@ -19,6 +19,8 @@ use Rattle.commit_journal.specs.Changes.{AreAllStaged, CanRecord, Filled, IsNone
 use Rattle.commit_journal.specs.Commits.{KeepsUnchangedFiles}
 use Rattle.commit_journal.specs.Runs.{Commit, CommitHasBegun, HasCommitted, CommitProgress}
 use Rattle.commit_journal.specs.declared.changing.Change.{Change}
+use Rattle.commit_journal.specs.declared.error.JournalError.{JournalError}
+use Rattle.commit_journal.specs.declared.error.JournalError.TheVariants as journals
 use Rattle.journal_model.specs.Names.{partial}
 use Rattle.journal_model.specs.Rest.{IsAtRest, IsSynced, part_bytes, part_file}
 use Rattle.list_commits.specs.Changes.{changes_for}
@@ -26,6 +28,7 @@ use Rattle.list_commits.specs.Made.{IsCommitStopped, CommitsMade, NoCommitBegun,
 use Rattle.list_commits.specs.RecordLaws.{AreGathered, IsSyncedPart}
 use Rattle.list_commits.specs.SetLaws.{HasSum, HaveSums}
 use Rattle.run_jobs.specs.Coupling.{HasWantedPart, HasWantedParts}
+use Rattle.run_jobs.specs.Refusals.{run_error_for}
 use Rattle.run_jobs.specs.Running.{RunStart, RunHasHeard, IsSoundBegun, IsUnderWay}
 use Rattle.run_jobs.specs.declared.error.RunError.{RunError}
 use Rattle.run_jobs.specs.declared.error.RunError.TheVariants.{BadJournal, DiskFault, NoMemory}
@@ -417,3 +420,14 @@ groups_of b c n settled changes groups same made e = λ source is.
 pub on_err : {A E : Type 0} (r : Result A E) (P : E → Type 0) → ((error : E) → P error) → IfErr r P
 on_err (Ok x) P p = tt
 on_err (Err e) P p = p e
+
+-- what holds of an error holds where it is handed on
+pub handed_on : {A E : Type 0} (r : Result A E) (error : E) (P : E → Type 0) → IsErrAnd r (λ e. e ≡ error) → P error → IfErr r P
+handed_on (Ok x) error P never p = absurd never
+handed_on (Err e) error P same p = subst P (sym same) p
+
+-- want of memory is handed on from the journal's alone
+pub memory_of : (told : JournalError) → run_error_for told ≡ NoMemory → told ≡ journals.NoMemory
+memory_of journals.DiskFault is = absurd (cc)
+memory_of (journals.BadJournal at) is = absurd (cc)
+memory_of journals.NoMemory is = refl

@@ -2,7 +2,7 @@
 use Rattle.std.proofs.Common.{◌≡◌, ◌∙◌, ◌≤◌, ◌<◌, ℕ, zero, suc, Bool, true, false, IsTrue, List, [], ◌∷◌, ◌++◌, length, get_or, take, drop, slice_set, Option, Some, None, IfSome, Result, Ok, Err, inl, inr, refl, sym, ap, subst, arith, ⊎_elim}
 use Rattle.std.proofs.lemmas.Bool.Decides.{nat_tests}
 use Rattle.std.proofs.lemmas.List.{append-nil, drop_all, take_all}
-use Rattle.std.specs.Prelude.{filter, if◌then◌else◌, slice_get, ◌==◌}
+use Rattle.std.specs.Prelude.{IsErrAnd, filter, if◌then◌else◌, slice_get, ◌==◌}
 use Rattle.std.specs.List.{AllByRecursion as Each}
 use Rattle.acq_base.specs.Mirror.{MirrorMap}
 use Rattle.acq_base.specs.declared.plan.Source.{Source}
@@ -113,17 +113,18 @@ pub record StopsSafely (error : RunError) (run : Run) (before after : Engine) : 
   pub crash : SurvivesCrash run before after
   pub dry : error ≡ NoMemory → ToldAs IsSynced before.trace → StopsForMemory run before.mirrors before.trace after.trace
 
-pub stopped_run : {D M : Type 0} (d : Disks D) (m : Methods M) (run : Run) (old new : D) (asked answered : List M) (error : RunError) → StopsSafely error run (engine d m old asked) (engine d m new answered)
-    → ((at : ℕ) → ◌≡◌ {A = Result RunLog RunError} (Err error) (Err (BadJournal at)) → d.files new ≡ d.files old)
-    → (IsTrue (d.tells old) → RunFindsDamage (damage_of (d.files old)) (Err error)) → Runs d m run old new asked answered (Err error)
-stopped_run d m run old new asked answered error safe unchanged damage = record {
+pub stopped_run : {D M : Type 0} (d : Disks D) (m : Methods M) (run : Run) (old new : D) (asked answered : List M) (result : Result RunLog RunError) (error : RunError) → IsErrAnd result (λ e. e ≡ error)
+    → StopsSafely error run (engine d m old asked) (engine d m new answered) → ((at : ℕ) → result ≡ Err (BadJournal at) → d.files new ≡ d.files old) → (IsTrue (d.tells old) → RunFindsDamage (damage_of (d.files old)) result)
+    → Runs d m run old new asked answered result
+stopped_run d m run old new asked answered (Ok log) error never safe unchanged damage = absurd never
+stopped_run d m run old new asked answered (Err e) error same safe unchanged damage = record {
   unchanged = unchanged;
   damage = damage;
   verdicts = tt;
   begins = tt;
   log = tt;
   crash = safe.crash;
-  dry = λ is settled. let same : error ≡ NoMemory = cc in safe.dry same settled;
+  dry = λ is settled. let memory : e ≡ NoMemory = cc in safe.dry (sym same ∙ memory) settled;
 }
 
 -- so far no more was done
@@ -164,6 +165,7 @@ stops_at error run mirror others count entry opened now b ready_at h told m = re
 stays_at : (error : RunError) (run : Run) (mirror mirror' : Option MirrorMap) (others others' : List (Option MirrorMap)) (counts counts' : List ℕ) (count : ℕ) (entry opened now : List State) (b : Board) → (ToldAs IsSynced entry → IsOpen entry opened)
     → (h : IsNewRun run mirror count opened b) → (IsTold entry → IsTold now) → (IsOpen entry opened → HasProgress error h.start run.together (installed_now entry) opened now)
     → StopsSafely error run (record { trace = entry; mirrors = mirror ∷ others; faults = counts }) (record { trace = now; mirrors = mirror' ∷ others'; faults = counts' })
+unfolding stops_at
 stays_at error run mirror mirror' others others' counts counts' count entry opened now b ready_at h told at = record {
   crash = record {
     stops = λ settled. inr (among settled);

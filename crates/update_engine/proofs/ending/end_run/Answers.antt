@@ -1,4 +1,4 @@
-use Rattle.std.proofs.Common.{rules, All, List, sym, subst}
+use Rattle.std.proofs.Common.{◌∙◌, All, Err, List, ap, sym, subst}
 use Rattle.acq_outside.specs.Crash.{State}
 use Rattle.acq_outside.specs.States.{IsNow}
 use Rattle.commit_journal.specs.Changes.{AreAllStaged}
@@ -6,7 +6,7 @@ use Rattle.acq_base.specs.declared.plan.Source.{Source}
 use Rattle.list_commits.specs.Loose.{IsLoose}
 use Rattle.update_core.specs.BoardRefinement.{board_of}
 use Rattle.update_engine.specs.Session.{MayCommit}
-use Rattle.update_engine.proofs.Committing.{on_err}
+use Rattle.update_engine.proofs.Committing.{handed_on, on_err}
 use Rattle.update_engine.proofs.Ended.{ends_all, leaves_on, shown_on, stops_between, stops_last}
 use Rattle.update_engine.proofs.Known.{commits_known}
 use Rattle.update_engine.proofs.LastCommit.{can_last, ends_told, last_stands, staged_last}
@@ -29,6 +29,9 @@ pub returns-clause-ends : goal.returns-clause-ends
 returns-clause-ends g c = ends_told _ (board_of c.args.board) (board_of c.settle_last.new.board) _ _ c.in_ok-groups.groups c.args.cleanup c.in_ok-loose.loose c.end_board-log.result c.add_clean_up.new.log c.in_ok-groups.ensures.leaves
     c.end_board-log.ensures.finished c.end_board-log.ensures.log c.in_ok-add_clean_up.ensures.log
 
+pub returns-in_err-groups-clause-stops : goal.returns-in_err-groups-clause-stops
+returns-in_err-groups-clause-stops g c = handed_on _ _ _ c.from_residual.ensures.1 (c.in_err-groups.ensures.stops c.args.cleanup)
+
 pub returns-in_err-loose-clause-stops : goal.returns-in_err-loose-clause-stops
 returns-in_err-loose-clause-stops g c = on_err _ _ (λ error. stops_between commits_known error _ _ (board_of c.args.board) (board_of c.settle_last.new.board) _ _ _ c.in_ok-groups.groups c.in_ok-groups.ensures.leaves c.loose_names.ensures.frame.still)
 
@@ -36,10 +39,10 @@ pub returns-in_err-add_clean_up-clause-stops : goal.returns-in_err-add_clean_up-
 returns-in_err-add_clean_up-clause-stops g c = on_err _ _ (λ error. stops_between commits_known error _ _ (board_of c.args.board) (board_of c.settle_last.new.board) _ _ _ c.in_ok-groups.groups c.in_ok-groups.ensures.leaves c.loose_names.ensures.frame.still)
 
 pub returns-in_err-commit_last-clause-stops : goal.returns-in_err-commit_last-clause-stops
-returns-in_err-commit_last-clause-stops g c = stops_last commits_known _ _ _ (board_of c.args.board) (board_of c.settle_last.new.board) _ (g.D.Disk.trace c.loose_names.new.disk) _ (g.D.Disk.files c.settle_last.new.disk)
+returns-in_err-commit_last-clause-stops g c = handed_on _ _ _ c.from_residual-in_err-commit_last.ensures.1 (stops_last commits_known _ _ _ (board_of c.args.board) (board_of c.settle_last.new.board) _ (g.D.Disk.trace c.loose_names.new.disk) _ (g.D.Disk.files c.settle_last.new.disk)
     (g.D.Disk.tells c.settle_last.new.disk) c.in_ok-groups.groups c.add_clean_up.new.groups c.in_ok-loose.loose c.sources.result.now c.end_board-log.result
     (leaves_on _ (board_of c.args.board) (board_of c.settle_last.new.board) _ _ _ c.in_ok-groups.groups c.loose_names.ensures.frame.still c.in_ok-groups.ensures.leaves) c.end_board-log.ensures.finished c.sources.ensures c.in_ok-loose.ensures.told
-    (shown_on _ _ _ _ c.loose_names.ensures.frame.still (g.met.D.Disk.shown c.settle_last.new.disk)) c.in_ok-add_clean_up.ensures.groups c.end_board-log.ensures.log c.in_err-commit_last.ensures.some c.in_err-commit_last.ensures.stopped (search rules) c.commit_last.ensures.synced
+    (shown_on _ _ _ _ c.loose_names.ensures.frame.still (g.met.D.Disk.shown c.settle_last.new.disk)) c.in_ok-add_clean_up.ensures.groups c.end_board-log.ensures.log c.in_err-commit_last.ensures.some c.in_err-commit_last.ensures.stopped (λ is. c.commit_last.ensures.dry (c.in_err-commit_last.was ∙ ap Err is)) c.commit_last.ensures.synced)
 
 pub returns-clause-ended : goal.returns-clause-ended
 returns-clause-ended g c = ends_all commits_known _ _ (board_of c.args.board) (board_of c.settle_last.new.board) _ (g.D.Disk.trace c.loose_names.new.disk) _ (g.D.Disk.files c.settle_last.new.disk)

@@ -1,6 +1,6 @@
 use Rattle.std.proofs.Common.{refl}
 use Rattle.update_core.specs.BoardRefinement.{board_of}
-use Rattle.update_engine.proofs.Committing.{on_err}
+use Rattle.update_engine.proofs.Committing.{handed_on, on_err}
 use Rattle.update_engine.proofs.Ended.{stops_first, stops_one_by_one}
 use Rattle.update_engine.proofs.Known.{commits_known}
 use Rattle.update_engine.proofs.LastCommit.{last_gathered, last_none}
@@ -16,4 +16,4 @@ pub returns-in_err-groups-clause-stops : goal.returns-in_err-groups-clause-stops
 returns-in_err-groups-clause-stops g c = λ cleanup. on_err _ _ (λ error. stops_first commits_known error _ cleanup _ _ _ refl)
 
 pub returns-in_err-install_all-clause-stops : goal.returns-in_err-install_all-clause-stops
-returns-in_err-install_all-clause-stops g c = λ cleanup. stops_one_by_one _ _ cleanup _ _ _ c.if-together.false c.in_err-install_all.ensures.stops
+returns-in_err-install_all-clause-stops g c = λ cleanup. handed_on _ _ _ c.from_residual-in_err-install_all.ensures.1 (stops_one_by_one _ _ cleanup _ _ _ c.if-together.false c.in_err-install_all.ensures.stops)

@@ -2,14 +2,14 @@ use Rattle.std.proofs.Common.{◌∙◌, arith}
 use Rattle.acq_outside.proofs.Framed.{stayed_on_counting}
 use Rattle.board_bounds.proofs.Theorems.{asks_are_few}
 use Rattle.update_core.specs.BoardRefinement.{board_of}
-use Rattle.update_engine.proofs.Committing.{on_err}
+use Rattle.update_engine.proofs.Committing.{handed_on, on_err}
 use Rattle.update_engine.proofs.Known.{commits_known}
 use Rattle.update_engine.proofs.Begins.{begins_more, begins_same}
 use Rattle.update_engine.proofs.Stepping.{bare_aside, bare_round, far_aside, far_asked, far_stops, far_stops_asking, idle_after, ready_aside, ready_asked, smaller, stands_ready}
 use Rattle.update_engine.proofs.looping.ask_until_done.Goals as goal
 
 pub returns-in_err-install_between-clause-stops : goal.returns-in_err-install_between-clause-stops
-returns-in_err-install_between-clause-stops g c = far_stops _ _ _ _ _ (board_of c.asks.board) _ _ _ c.asks.invariant.goes c.in_err-install_between.ensures.stops
+returns-in_err-install_between-clause-stops g c = handed_on _ _ _ c.from_residual.ensures.1 (far_stops _ _ _ _ _ (board_of c.asks.board) _ _ _ c.asks.invariant.goes c.in_err-install_between.ensures.stops)
 
 pub returns-in_err-install_between-clause-bare : goal.returns-in_err-install_between-clause-bare
 returns-in_err-install_between-clause-bare g c = λ together. bare_aside _ _ _ (c.asks.invariant.bare together) (c.install_between.ensures.bare together)

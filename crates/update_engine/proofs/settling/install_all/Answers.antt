@@ -1,12 +1,13 @@
 use Rattle.std.proofs.Common.{◌∙◌, sym}
 use Rattle.acq_outside.proofs.Framed.{stayed_on_counting}
 use Rattle.update_core.specs.BoardRefinement.{board_of}
+use Rattle.update_engine.proofs.Committing.{handed_on}
 use Rattle.update_engine.proofs.OnBoards.{fewer_settled, only_more, only_settled}
 use Rattle.update_engine.proofs.Stepping.{goes_aside, stands_aside, stops_aside}
 use Rattle.update_engine.proofs.settling.install_all.Goals as goal
 
 pub returns-in_err-install_ready-clause-stops : goal.returns-in_err-install_ready-clause-stops
-returns-in_err-install_ready-clause-stops g c = stops_aside _ _ (board_of c.ready.board) _ _ _ c.ready.invariant.goes c.in_err-install_ready.ensures.stops
+returns-in_err-install_ready-clause-stops g c = handed_on _ _ _ c.from_residual.ensures.1 (stops_aside _ _ (board_of c.ready.board) _ _ _ c.ready.invariant.goes c.in_err-install_ready.ensures.stops)
 
 pub ready-preserved : goal.ready-preserved
 ready-preserved g c = record {

@@ -29,17 +29,17 @@ end_run-requires-clause-stands g c = far_stands _ _ _ (board_of c.in_ok-board.bo
     (starts_ready _ _ _ _ _ (board_of c.in_ok-board.board) (c.in_ok-board.ensures.starts c.args.together) c.begin_run.ensures.frame.still c.in_ok-journal.ensures.opens.idle) c.in_ok-ask_until_done.ensures.goes c.in_ok-ask_until_done.ensures.idle
 
 pub returns-in_err-journal-clause-run : goal.returns-in_err-journal-clause-run
-returns-in_err-journal-clause-run g c = λ others. stopped_run _ _ _ _ _ _ _ _
+returns-in_err-journal-clause-run g c = λ others. stopped_run _ _ _ _ _ _ _ _ _ c.from_residual.ensures.1
     (stays_unopened _ _ _ _ _ c.open_journal.ensures.opens.recovers c.open_journal.ensures.synced refl)
     (search rules) (search rules)
 
 pub returns-in_err-board-clause-run : goal.returns-in_err-board-clause-run
-returns-in_err-board-clause-run g c = λ others. stopped_run _ _ _ _ _ _ _ _
+returns-in_err-board-clause-run g c = λ others. stopped_run _ _ _ _ _ _ _ _ _ c.from_residual-in_err-board.ensures.1
     (stays_unopened _ _ _ _ _ c.open_journal.ensures.opens.recovers c.open_journal.ensures.synced c.begin_run.ensures.frame.still)
     (search rules) (search rules)
 
 pub returns-in_err-ask_until_done-clause-run : goal.returns-in_err-ask_until_done-clause-run
-returns-in_err-ask_until_done-clause-run g c = λ others. stopped_run _ _ _ _ _ _ _ _
+returns-in_err-ask_until_done-clause-run g c = λ others. stopped_run _ _ _ _ _ _ _ _ _ c.from_residual-in_err-ask_until_done.ensures.1
     (safe_asking commits_known _ (run_of c.args.plan c.args.settings c.args.judge.now.change c.args.now c.args.together)
     _ _ _ _ _ _ _ _ _ _ (board_of c.in_ok-board.board)
     (is_open (g.D.Disk.tells c.args.disk.now) (g.D.Disk.files c.args.disk.now) _ _ _ (g.met.D.Disk.shown c.args.disk.now) c.open_journal.ensures.opens.recovers c.open_journal.ensures.opens.others c.in_ok-journal.ensures.rests c.in_ok-journal.ensures.opens.idle c.begin_run.ensures.frame.still)
@@ -49,7 +49,7 @@ returns-in_err-ask_until_done-clause-run g c = λ others. stopped_run _ _ _ _ _ 
     (search rules) (search rules)
 
 pub returns-in_err-log-clause-run : goal.returns-in_err-log-clause-run
-returns-in_err-log-clause-run g c = λ others. stopped_run _ _ _ _ _ _ _ _
+returns-in_err-log-clause-run g c = λ others. stopped_run _ _ _ _ _ _ _ _ _ c.from_residual-in_err-log.ensures.1
     (safe_ending _ (run_of c.args.plan c.args.settings c.args.judge.now.change c.args.now c.args.together) _ _ _ _ _ _ _ _ _ _ _ _ (board_of c.in_ok-board.board) (board_of c.ask_until_done.new.board) c.args.settings.cleanup
     (is_open (g.D.Disk.tells c.args.disk.now) (g.D.Disk.files c.args.disk.now) _ _ _ (g.met.D.Disk.shown c.args.disk.now) c.open_journal.ensures.opens.recovers c.open_journal.ensures.opens.others c.in_ok-journal.ensures.rests c.in_ok-journal.ensures.opens.idle c.begin_run.ensures.frame.still)
     (starts_there (λ (z : ℤ). run_of c.args.plan c.args.settings c.args.judge.now.change z c.args.together) _ _ _ _ (board_of c.in_ok-board.board) (to_z-of_z w64 c.args.now c.ranges.now) c.begin_run.ensures.frame.still (c.in_ok-board.ensures.starts c.args.together))
