@@ -1,5 +1,6 @@
--- The list name of a sound URI has a `_` and no `/`, so it is neither `lock` nor `journal`, and nothing in `partial/`.
-use Rattle.std.proofs.Common.{◌≡◌, ◌≢◌, ◌≤◌, ◌∙◌, ℕ, zero, suc, ◌+◌, ◌==◌, ◌||◌, ◌&&◌, ◌/◌, ◌%◌, nat_lt, not, Bool, true, false, List, [], ◌∷◌, ◌++◌, length, map, take, get_or, codes, All, Contains, Some, refl, sym, ap, subst, arith}
+-- The list name of a sound URI has a `_`, no `/` and no NUL, so it is the name of a file in the folder, neither `lock` nor
+-- `journal`, and nothing in `partial/`.
+use Rattle.std.proofs.Common.{◌≡◌, ◌≢◌, ◌≤◌, ◌∙◌, ℕ, zero, suc, ◌+◌, ◌==◌, ◌||◌, ◌/◌, ◌%◌, nat_eq, nat_lt, Bool, true, false, List, [], ◌∷◌, ◌++◌, length, map, take, get_or, codes, All, Contains, Some, refl, sym, ap, subst, arith}
 use Rattle.std.specs.Prelude.{if◌then◌else◌, slice_get}
 use Rattle.std.specs.Fmt.{digit_glyph}
 use Rattle.std.specs.List.{flat_map, list_any}
@@ -15,7 +16,8 @@ use Rattle.acq_base.specs.declared.uri.Scheme.{Scheme}
 use Rattle.acq_base.specs.declared.uri.Scheme.TheVariants.{Http, File}
 use Rattle.acq_base.specs.declared.uri.Uri.{Uri}
 use Rattle.acq_outside.specs.Disk.{IsName, same_name}
-use Rattle.journal_model.specs.Names.{IsPutName, is_own_name, is_installed_name, is_partial, journal, lock, partial}
+use Rattle.journal_model.specs.Names.{IsPutName, ends_file_name, is_file_name, is_installed_name, is_partial, journal, lock, partial}
+use Rattle.journal_model.proofs.FolderNames.{list_if}
 use Rattle.journal_model.proofs.Twice.{other_name}
 use Rattle.board_bounds.specs.Names.{PartialNamesAreOthers, PlannedNamesAreLists, PlannedNamesArePutNames}
 
@@ -23,31 +25,43 @@ has_bar : List ℕ → Bool
 has_bar name = list_any (λ c. c == 95) name
 
 has_slash : List ℕ → Bool
-has_slash name = list_any (λ c. c == 47) name
+has_slash name = list_any ends_file_name name
 
--- ---- no slash
+-- ---- no slash, and no NUL
 
-glyph-flat : (d : ℕ) → (digit_glyph false d == 47) ≡ false
+ends-neither : (c : ℕ) → (c == 47) ≡ false → (c == 0) ≡ false → ends_file_name c ≡ false
+ends-neither c slash nul = rw (slash, nul) refl
+
+glyph-flat : (d : ℕ) → ends_file_name (digit_glyph false d) ≡ false
 glyph-flat d = one (nat_lt d 10)
   where
-    one : (t : Bool) → ((if t then 48 + d else (if false then 55 + d else 87 + d)) == 47) ≡ false
-    one true = ne_eqb (48 + d) 47 (λ e. omega (arith, e))
-    one false = ne_eqb (87 + d) 47 (λ e. omega (arith, e))
+    one : (t : Bool) → ends_file_name (if t then 48 + d else (if false then 55 + d else 87 + d)) ≡ false
+    one true = ends-neither (48 + d) (ne_eqb (48 + d) 47 (λ e. omega (arith, e))) (ne_eqb (48 + d) 0 (λ e. omega (arith, e)))
+    one false = ends-neither (87 + d) (ne_eqb (87 + d) 47 (λ e. omega (arith, e))) (ne_eqb (87 + d) 0 (λ e. omega (arith, e)))
+
+-- a byte that stands for itself
+stands : ℕ → Bool
+stands c = is_alphanumeric c || list_any (λ d. c == d) (codes ".-+:")
+
+no-nul : (c : ℕ) → stands c ≡ true → (c == 0) ≡ false
+unfolding stands
+no-nul c is = ne_eqb c 0 (λ nul. false≢true (subst (λ (n : ℕ). (is_alphanumeric n || list_any (λ d. n == d) (codes ".-+:")) ≡ true) nul is))
 
 byte-flat : (c : ℕ) → has_slash (name_byte c) ≡ false
-unfolding has_slash
-byte-flat c = one (c == 47) refl (is_alphanumeric c || list_any (λ d. c == d) (codes ".-+:"))
+unfolding has_slash stands
+byte-flat c = one (c == 47) refl (stands c) refl
   where
-    one : (t : Bool) → (c == 47) ≡ t → (u : Bool) → list_any (λ c. c == 47) (if t then 95 ∷ [] else if u then c ∷ [] else 37 ∷ digit_glyph false (c / 16) ∷ digit_glyph false (c % 16) ∷ []) ≡ false
-    one true is u = refl
-    one false is true = rw is refl
-    one false is false = rw (glyph-flat (c / 16), glyph-flat (c % 16)) refl
+    one : (t : Bool) → (c == 47) ≡ t → (u : Bool) → stands c ≡ u
+        → list_any ends_file_name (if t then 95 ∷ [] else if u then c ∷ [] else 37 ∷ digit_glyph false (c / 16) ∷ digit_glyph false (c % 16) ∷ []) ≡ false
+    one true is u what = refl
+    one false is true what = rw (ends-neither c is (no-nul c what)) refl
+    one false is false what = rw (glyph-flat (c / 16), glyph-flat (c % 16)) refl
 
 text-flat : (text : List ℕ) → has_slash (flat_map name_byte text) ≡ false
 unfolding has_slash
 text-flat [] = refl
 text-flat (c ∷ text) =
-    list_any-append (λ d. d == 47) (name_byte c) (flat_map name_byte text)
+    list_any-append ends_file_name (name_byte c) (flat_map name_byte text)
     ∙ ap (λ (b : Bool). b || has_slash (flat_map name_byte text)) (byte-flat c) ∙ text-flat text
 
 parts-flat : (scheme : Scheme) (host : List ℕ) (port : ℕ) (path : List ℕ) → has_slash (name_of_parts scheme host port path) ≡ false
@@ -116,13 +130,13 @@ take-flat : (n : ℕ) (xs : List ℕ) → has_slash xs ≡ false → has_slash (
 unfolding has_slash
 take-flat n [] h = one n
   where
-    one : (n : ℕ) → list_any (λ c. c == 47) (take n []) ≡ false
+    one : (n : ℕ) → list_any ends_file_name (take n []) ≡ false
     one zero = refl
     one (suc n) = refl
 take-flat zero (x ∷ xs) h = refl
-take-flat (suc n) (x ∷ xs) h = one (x == 47) (take-flat n xs) h
+take-flat (suc n) (x ∷ xs) h = one (ends_file_name x) (take-flat n xs) h
   where
-    one : (c : Bool) → (list_any (λ c. c == 47) xs ≡ false → list_any (λ c. c == 47) (take n xs) ≡ false) → (c || list_any (λ c. c == 47) xs) ≡ false → (c || list_any (λ c. c == 47) (take n xs)) ≡ false
+    one : (c : Bool) → (list_any ends_file_name xs ≡ false → list_any ends_file_name (take n xs) ≡ false) → (c || list_any ends_file_name xs) ≡ false → (c || list_any ends_file_name (take n xs)) ≡ false
     one true rest h = h
     one false rest h = rest h
 
@@ -133,12 +147,31 @@ slashed = refl
 not-partial : (name : List ℕ) → has_slash name ≡ false → is_partial name ≡ false
 not-partial name flat = other_name (take 8 name) (codes "partial/") (λ same. false≢true (sym (take-flat 8 name flat) ∙ ap has_slash same ∙ slashed))
 
+here-plain : has_bar (codes ".") ≡ false
+unfolding has_bar
+here-plain = refl
+
+up-plain : has_bar (codes "..") ≡ false
+unfolding has_bar
+up-plain = refl
+
+has-bytes : (name : List ℕ) → has_bar name ≡ true → nat_eq (length name) 0 ≡ false
+unfolding has_bar
+has-bytes [] barred = absurd (cc)
+has-bytes (c ∷ name) barred = ne_eqb (length (c ∷ name)) 0 (λ e. omega (arith, e))
+
+file-name : (name : List ℕ) → IsListName name → is_file_name name ≡ true
+unfolding is_file_name has_slash
+file-name name is =
+    let not_here : same_name name (codes ".") ≡ false = other_name name (codes ".") (other-name name (codes ".") is.0 here-plain) in
+    let not_up : same_name name (codes "..") ≡ false = other_name name (codes "..") (other-name name (codes "..") is.0 up-plain) in
+    rw (has-bytes name is.0, is.1, not_here, not_up) refl
+
 is-list : (name : List ℕ) → IsListName name → is_installed_name name ≡ true
 is-list name is =
     let not_journal : same_name name journal ≡ false = other_name name journal (other-name name journal is.0 journal-plain) in
     let not_lock : same_name name lock ≡ false = other_name name lock (other-name name lock is.0 lock-plain) in
-    let not_partial : is_partial name ≡ false = not-partial name is.1 in
-    ap (λ (b : Bool). not b && not (is_own_name name)) not_journal ∙ ap (λ (b : Bool). not (b || is_partial name)) not_lock ∙ ap not not_partial
+    list_if name not_journal not_lock (not-partial name is.1) (file-name name is)
 
 pub are-lists : PlannedNamesAreLists
 are-lists source planned i d below = is-list (get_or (names_of source) i d) (names-named source planned i d below)

@@ -8,7 +8,7 @@ use Rattle.journal_model.specs.Names.{IsPutName, is_installed_name, partial}
 abbrev pub PlannedNamesArePutNames : Type 0
 PlannedNamesArePutNames = (source : Source) → IsPlanned source → All IsPutName (names_of source)
 
--- each is the name of a list: neither the lock nor the journal, nor that of a list on its way
+-- each is the name of a list: that of a file in the folder, neither the lock nor the journal, nor that of a list on its way
 abbrev pub PlannedNamesAreLists : Type 0
 PlannedNamesAreLists = (source : Source) → IsPlanned source → All (λ name. is_installed_name name ≡ true) (names_of source)
 

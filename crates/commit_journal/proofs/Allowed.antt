@@ -24,10 +24,10 @@ each_allowed : (changes : List Change) (before : List Step) → AreAllowed befor
 each_allowed [] before allowed = tt
 each_allowed (Put name content ∷ changes) before allowed =
     let fit = fits true before name.0 allowed.0 in
-    (record { named = fit.named; short = fit.short; not_lock = fit.not_lock; not_journal = fit.other }, each_allowed changes (before ++ steps.Put name.0 ∷ []) allowed.1)
+    (record { put = record { named = fit.named; short = fit.short; not_lock = fit.not_lock; not_journal = fit.other }; file = fit.stays }, each_allowed changes (before ++ steps.Put name.0 ∷ []) allowed.1)
 each_allowed (Drop name ∷ changes) before allowed =
     let fit = fits false before name allowed.0 in
-    (record { named = fit.named; not_lock = fit.not_lock; not_journal = fit.other }, each_allowed changes (before ++ steps.Drop name ∷ []) allowed.1)
+    (record { named = fit.named; inside = fit.stays; not_lock = fit.not_lock; not_journal = fit.other }, each_allowed changes (before ++ steps.Drop name ∷ []) allowed.1)
 
 -- and no two are one
 all_fine : (more before : List Step) → AreFine before → AreAllowed before more → AreFine (before ++ more)

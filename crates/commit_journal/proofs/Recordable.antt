@@ -4,7 +4,7 @@ use Rattle.std.proofs.lemmas.Bool.Decides.{nat_tests}
 use Rattle.std.proofs.lemmas.Str.{is_utf8-from_IsUtf8}
 use Rattle.std.specs.List.{list_any}
 use Rattle.acq_outside.specs.Disk.{IsName}
-use Rattle.journal_model.specs.Names.{lock, journal, partial}
+use Rattle.journal_model.specs.Names.{lock, journal, partial, stays_inside}
 use Rattle.journal_model.specs.Reading.{clashes, is_name_of, is_allowed, most_long, steps_of_body}
 use Rattle.journal_model.specs.Spelling.{body_of, all_steps, AreAllowed, AreShort}
 use Rattle.journal_model.proofs.Again.{new_again}
@@ -36,11 +36,11 @@ short_groups : (groups : List (List Change)) → length (all_changes groups) < 2
 short_groups [] few = tt
 short_groups (g ∷ groups) few = (omega (arith, steps_long g, length-append g (all_changes groups)), short_groups groups (omega (arith, length-append g (all_changes groups))))
 
-name_fits : (put : Bool) (name : List ℕ) → IsName name → length name ≤ most_long put → name ≢ lock → name ≢ journal → is_name_of put name ≡ true
-name_fits put name named short not_lock not_journal =
+name_fits : (put : Bool) (name : List ℕ) → IsName name → length name ≤ most_long put → name ≢ lock → name ≢ journal → stays_inside put name ≡ true → is_name_of put name ≡ true
+name_fits put name named short not_lock not_journal stays =
     let some : nat_eq (length name) 0 ≡ false = grind (arith, nat_tests, named.nonempty) in
     let few : nat_lt (most_long put) (length name) ≡ false = grind (arith, nat_tests) in
-    rw (some, few, is_utf8-from_IsUtf8 name named.text, other_name name lock not_lock, other_name name journal not_journal) refl
+    rw (some, few, is_utf8-from_IsUtf8 name named.text, other_name name lock not_lock, other_name name journal not_journal, stays) refl
 
 -- names that stand apart don't clash
 abbrev Clears : Step → Step → Type 0
@@ -107,13 +107,13 @@ are_allowed : (changes before : List Change) → AllAllowed changes → AwayFrom
 are_allowed [] before allowed away apart = tt
 are_allowed (Put name content ∷ changes) before allowed away apart =
     let first = away_first (Put name content) changes apart in (
-      fits_put name.0 (steps_of before) (name_fits true name.0 allowed.0.named allowed.0.short allowed.0.not_lock allowed.0.not_journal) (clear_before (Put name content) before changes away),
+      fits_put name.0 (steps_of before) (name_fits true name.0 allowed.0.put.named allowed.0.put.short allowed.0.put.not_lock allowed.0.put.not_journal allowed.0.file) (clear_before (Put name content) before changes away),
       subst (λ (l : List Step). AreAllowed l (steps_of changes)) (steps_append before (Put name content ∷ []))
           (are_allowed changes (before ++ Put name content ∷ []) allowed.1 (away_push before (Put name content) changes (away_later before (Put name content) changes away) first.0) first.1),
     )
 are_allowed (Drop name ∷ changes) before allowed away apart =
     let first = away_first (Drop name) changes apart in (
-      fits_drop name (steps_of before) (name_fits false name allowed.0.named allowed.0.named.short allowed.0.not_lock allowed.0.not_journal) (clear_before (Drop name) before changes away),
+      fits_drop name (steps_of before) (name_fits false name allowed.0.named allowed.0.named.short allowed.0.not_lock allowed.0.not_journal allowed.0.inside) (clear_before (Drop name) before changes away),
       subst (λ (l : List Step). AreAllowed l (steps_of changes)) (steps_append before (Drop name ∷ []))
           (are_allowed changes (before ++ Drop name ∷ []) allowed.1 (away_push before (Drop name) changes (away_later before (Drop name) changes away) first.0) first.1),
     )

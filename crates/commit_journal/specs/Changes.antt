@@ -1,8 +1,8 @@
 -- The changes of a commit: what they make of the lists, which steps of a record they are, and when they may be prepared.
-use Rattle.std.specs.Prelude.{◌≢◌, ℕ, ◌<◌, ◌^◌, if◌then◌else◌, List, [], ◌∷◌, ◌++◌, length, Some, None}
+use Rattle.std.specs.Prelude.{◌≡◌, ◌≢◌, ℕ, ◌<◌, ◌^◌, true, if◌then◌else◌, List, [], ◌∷◌, ◌++◌, length, Some, None}
 use Rattle.acq_outside.specs.Disk.{Files, IsName, with_file}
 use Rattle.acq_outside.specs.Crash.{State}
-use Rattle.journal_model.specs.Names.{lock, journal, partial, is_installed_name, IsPutName}
+use Rattle.journal_model.specs.Names.{lock, journal, partial, is_file_name, is_inside, is_installed_name, IsPutName}
 use Rattle.journal_model.specs.Rest.{IsPartSynced}
 use Rattle.journal_model.specs.declared.step.Step.{Step}
 use Rattle.journal_model.specs.declared.step.Step.TheVariants as steps
@@ -85,14 +85,20 @@ abbrev pub AreApart : List (List ℕ) → Type 0
 AreApart [] = Unit {0}
 AreApart (name ∷ names) = IsNone name names × AreApart names
 
--- a name that a record may remove
+-- a name under which a record may put a list: that of a file in the folder
+pub record IsListPut (name : List ℕ) : Type 0 where
+  pub put : IsPutName name
+  pub file : is_file_name name ≡ true
+
+-- a name that a record may remove: it stays in the folder
 pub record IsDropName (name : List ℕ) : Type 0 where
   pub named : IsName name
+  pub inside : is_inside name ≡ true
   pub not_lock : name ≢ lock
   pub not_journal : name ≢ journal
 
 abbrev pub IsAllowed : Change → Type 0
-IsAllowed (Put name content) = IsPutName name.0
+IsAllowed (Put name content) = IsListPut name.0
 IsAllowed (Drop name) = IsDropName name
 
 abbrev pub AllAllowed : List Change → Type 0

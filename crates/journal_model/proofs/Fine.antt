@@ -9,7 +9,7 @@ use Rattle.std.specs.List.{list_any}
 use Rattle.sha2.specs.Sha256.{sha256}
 use Rattle.std.proofs.lemmas.Bool.{not-true, and_parts, or_left, or_right}
 use Rattle.acq_outside.specs.Disk.{IsName, same_name}
-use Rattle.journal_model.specs.Names.{journal, lock, partial}
+use Rattle.journal_model.specs.Names.{journal, lock, partial, stays_inside}
 use Rattle.journal_model.specs.Reading.{◌>>=◌, number_at, kind_at, step_named, most_long, clashes, is_name_of, is_allowed, name_at, step_at, steps_at, group_at, groups_at, ended, sealed, old_at, new_at, steps_of_body, journal_state_with, journal_state_of}
 use Rattle.journal_model.proofs.Twice.{ChangeDifferentNames}
 use Rattle.journal_model.specs.Steps.{Touches, IsIn, IsNamedStep}
@@ -68,6 +68,7 @@ pub record IsFit (put : Bool) (name : List ℕ) : Type 0 where
   pub short : length name ≤ most_long put
   pub not_lock : name ≢ lock
   pub other : name ≢ journal
+  pub stays : stays_inside put name ≡ true
 
 most_short : (put : Bool) → most_long put ≤ 255
 most_short true = omega arith
@@ -75,7 +76,9 @@ most_short false = omega arith
 
 pub fit_name : (put : Bool) (name : List ℕ) → is_name_of put name ≡ true → IsFit put name
 fit_name put name is =
-    let parts = and_parts (not (nat_eq (length name) 0) && not (nat_lt (most_long put) (length name))) (is_utf8 name && (not (same_name name lock) && not (same_name name journal))) is in
+    let front = (not (nat_eq (length name) 0) && not (nat_lt (most_long put) (length name))) && (is_utf8 name && (not (same_name name lock) && not (same_name name journal))) in
+    let both = and_parts front (stays_inside put name) is in
+    let parts = and_parts (not (nat_eq (length name) 0) && not (nat_lt (most_long put) (length name))) (is_utf8 name && (not (same_name name lock) && not (same_name name journal))) both.0 in
     let lengths = and_parts (not (nat_eq (length name) 0)) (not (nat_lt (most_long put) (length name))) parts.0 in
     let texts = and_parts (is_utf8 name) (not (same_name name lock) && not (same_name name journal)) parts.1 in
     let others = and_parts (not (same_name name lock)) (not (same_name name journal)) texts.1 in
@@ -88,6 +91,7 @@ fit_name put name is =
       short = within;
       not_lock = λ same. let yes : same_name name lock ≡ true = is_same name lock same in let no_clash : same_name name lock ≡ false = not-true _ others.0 in cc;
       other = λ same. let yes : same_name name journal ≡ true = is_same name journal same in let no_clash : same_name name journal ≡ false = not-true _ others.1 in cc;
+      stays = both.1;
     }
 
 named_step : (put : Bool) (name : List ℕ) → IsFit put name → IsNamedStep (step_named put name) × (Touches (step_named put name) journal → ⊥)

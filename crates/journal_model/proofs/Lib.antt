@@ -1,6 +1,7 @@
--- Cited by the crates above too: which names calls may have, what a crash leaves of names and bytes, steps carried out
--- again, what stays while no gate is open, and which steps a record has.
+-- Cited by the crates above too: which names calls may have, which stay in the folder, what a crash leaves of names and
+-- bytes, steps carried out again, what stays while no gate is open, and which steps a record has.
 pub mod Literals
+pub mod FolderNames
 pub mod Views
 pub mod Twice
 pub mod Aside

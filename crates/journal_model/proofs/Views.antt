@@ -1,5 +1,5 @@
 -- What a crash leaves, as names over bytes, and which lists that stands for.
-use Rattle.std.proofs.Common.{◌≡◌, ◌≢◌, refl, ap, ◌∙◌, subst, arith, ℕ, nat_eq, Bool, true, false, not, ◌&&◌, if◌then◌else◌, List, [], ◌∷◌, ◌++◌, drop, Option, Some, None, option_map}
+use Rattle.std.proofs.Common.{◌≡◌, ◌≢◌, refl, ap, ◌∙◌, subst, arith, ℕ, nat_eq, Bool, true, false, if◌then◌else◌, List, [], ◌∷◌, ◌++◌, drop, Option, Some, None, option_map}
 use Rattle.std.proofs.Math.Path.{fun_ext}
 use Rattle.std.proofs.lemmas.Bool.Decides.{nat_tests}
 use Rattle.std.proofs.lemmas.Bool.{or_right}
@@ -12,6 +12,7 @@ use Rattle.journal_model.specs.Steps.{moved_at, after_step, after_steps}
 use Rattle.journal_model.specs.Reading.{journal_state_in}
 use Rattle.journal_model.specs.Reopen.{installed_files, opened, reopened, IsAsOf, ReopensAsAt}
 use Rattle.journal_model.specs.Rest.{ChangesNoInstalledName, AllChangeNoInstalledName}
+use Rattle.journal_model.proofs.FolderNames.{list_parts}
 use Rattle.journal_model.proofs.Twice.{with_other}
 use Rattle.journal_model.specs.declared.step.Step.{Step}
 use Rattle.journal_model.specs.declared.step.Step.TheVariants.{Put, Drop}
@@ -86,13 +87,8 @@ partial_apart a b apart is = apart (partial_one a b is)
 pub partial_not_journal : (name : List ℕ) → partial name ≢ journal
 partial_not_journal name = apart_names (partial name) journal (partial_aside name) refl
 
-list_case : (a b : Bool) → (not a && not b) ≡ true → (a ≡ false) × (b ≡ false)
-list_case true b is = absurd cc
-list_case false true is = absurd cc
-list_case false false is = (refl, refl)
-
 pub list_not_aside : (name : List ℕ) → is_installed_name name ≡ true → is_own_name name ≡ false
-list_not_aside name list = (list_case (same_name name journal) (is_own_name name) list).1
+list_not_aside name list = (list_parts name list).1
 
 pub list_not_journal : (name : List ℕ) → is_installed_name name ≡ true → name ≢ journal
 list_not_journal name list is = let wrong : is_installed_name journal ≡ true = subst (λ (n : List ℕ). is_installed_name n ≡ true) is list in absurd cc

@@ -6,7 +6,7 @@ use Rattle.std.specs.Str.{is_utf8}
 use Rattle.std.specs.List.{list_any}
 use Rattle.sha2.specs.Sha256.{sha256}
 use Rattle.acq_outside.specs.Disk.{same_name}
-use Rattle.journal_model.specs.Names.{lock, journal, partial}
+use Rattle.journal_model.specs.Names.{lock, journal, partial, stays_inside}
 use Rattle.journal_model.specs.declared.step.Step.{Step}
 use Rattle.journal_model.specs.declared.step.Step.TheVariants.{Put, Drop}
 use Rattle.journal_model.specs.declared.record.ReadError.{ReadError}
@@ -43,10 +43,12 @@ clashes (Put a) (Drop b) = same_name a b || same_name (partial a) b
 clashes (Drop a) (Put b) = same_name a b || same_name a (partial b)
 clashes (Drop a) (Drop b) = same_name a b
 
--- a name that a record may have: UTF-8 of 1 to 255 bytes, or to 247 for a Put, and neither `lock` nor `journal`
+-- a name that a record may have: UTF-8 of 1 to 255 bytes, or to 247 for a Put, which stays in the folder and is neither
+-- `lock` nor `journal`
 abbrev pub is_name_of : Bool → List ℕ → Bool
 is_name_of put name =
-    (not (nat_eq (length name) 0) && not (nat_lt (most_long put) (length name))) && (is_utf8 name && (not (same_name name lock) && not (same_name name journal)))
+    ((not (nat_eq (length name) 0) && not (nat_lt (most_long put) (length name))) && (is_utf8 name && (not (same_name name lock) && not (same_name name journal))))
+    && stays_inside put name
 
 -- whether a record may have this step behind those before
 abbrev pub is_allowed : List Step → Bool → List ℕ → Bool

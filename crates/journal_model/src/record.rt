@@ -9,6 +9,7 @@ ghost use Rattle.acq_outside.specs.Disk.{same_name};
 ghost use Rattle.journal_model.specs.declared.record.ReadError.TheVariants.{NoMemory as no_memory};
 
 use crate::Step;
+use crate::inside::stays_inside;
 use crate::seen::Seen;
 use acq_base::{NoMemory, Row, Text};
 use sha2::{Digest, Sha256};
@@ -95,7 +96,7 @@ fn is_text(name: &[u8]) -> bool
 fn is_fit(put: bool, name: &[u8]) -> bool
     ensures { result ≡ is_name_of put name.now }
 {
-    is_length(put, name.len()) && is_text(name) && is_free(name)
+    is_length(put, name.len()) && is_text(name) && is_free(name) && stays_inside(put, name)
 }
 
 /// Whether a record may have this step behind those before.

@@ -2,14 +2,16 @@
 use Rattle.std.proofs.Common.{◌≡◌, ◌⊎◌, inl, inr, ⊎_elim, refl, sym, ap, ◌∙◌, subst, ℕ, Bool, true, false, if◌then◌else◌, List, [], ◌∷◌, Option, Some, None, Contains}
 use Rattle.std.specs.Prelude.{is_some}
 use Rattle.std.specs.List.{flat_map}
+use Rattle.std.proofs.lemmas.Bool.{false≢true}
 use Rattle.std.proofs.lemmas.List.Elements.{Contains-append_left, Contains-append_right, Contains-append_cases}
 use Rattle.acq_base.specs.Plan.{names_of, plan_names}
 use Rattle.acq_base.specs.declared.plan.Plan.{Plan}
 use Rattle.acq_base.specs.declared.plan.Source.{Source}
 use Rattle.acq_base.proofs.Lists.{first-or-rest}
 use Rattle.acq_outside.specs.Disk.{Files, same_name, with_file}
-use Rattle.journal_model.specs.Names.{journal, lock, partial, is_own_name, is_installed_name}
+use Rattle.journal_model.specs.Names.{journal, lock, partial, is_inside, is_own_name, is_installed_name}
 use Rattle.journal_model.specs.Reopen.{installed_files}
+use Rattle.journal_model.proofs.FolderNames.{list_inside}
 use Rattle.journal_model.proofs.Twice.{with_same}
 use Rattle.journal_model.proofs.Views.{list_not_aside, partial_aside}
 use Rattle.update_model.specs.Carried.{AreLoose, Does}
@@ -120,14 +122,17 @@ kept_list sources name list is = ⊎_elim
 
 pub are_loose : (files : Files) (plan : Plan) (names : List (List ℕ)) → AreLooseNames files plan.sources names → AreLoose (installed_files files) plan names
 are_loose files plan names are = record {
-  apart = λ name is planned. are.loose name is (there lock (journal ∷ flat_map kept_of plan.sources) name (there journal (flat_map kept_of plan.sources) name (all_kept plan.sources name planned)));
+  apart = λ name is planned. (are.loose name is).other (there lock (journal ∷ flat_map kept_of plan.sources) name (there journal (flat_map kept_of plan.sources) name (all_kept plan.sources name planned)));
   all = λ name not_planned not_loose. by_list name not_planned not_loose (is_installed_name name) refl;
 }
   where
+    outside : (name : List ℕ) → is_installed_name name ≡ true → is_inside name ≡ false → ⊥
+    outside name list out = false≢true (sym out ∙ list_inside name list)
+
     by_file : (name : List ℕ) → (Contains (plan_names plan) name → ⊥) → (Contains names name → ⊥) → is_installed_name name ≡ true → (o : Option (List ℕ)) → files name ≡ o → o ≡ None
     by_file name not_planned not_loose list None is = refl
     by_file name not_planned not_loose list (Some bytes) is =
-        absurd (⊎_elim not_loose (λ kept. not_planned (kept_list plan.sources name list kept)) (are.all name (ap is_some is)))
+        absurd (⊎_elim not_loose (λ rest. ⊎_elim (λ kept. not_planned (kept_list plan.sources name list kept)) (outside name list) rest) (are.all name (ap is_some is)))
 
     by_list : (name : List ℕ) → (Contains (plan_names plan) name → ⊥) → (Contains names name → ⊥) → (t : Bool) → is_installed_name name ≡ t → (if t then files name else None) ≡ None
     by_list name not_planned not_loose true list = by_file name not_planned not_loose list (files name) refl

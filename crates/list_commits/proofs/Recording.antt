@@ -1,5 +1,5 @@
 -- The changes that are gathered for one commit.
-use Rattle.std.proofs.Common.{◌≡◌, ◌≢◌, ◌⊎◌, inl, inr, ⊎_elim, refl, sym, ap, ◌∙◌, subst, arith, ℕ, suc, ◌+◌, ◌<◌, ◌≤◌, ◌^◌, List, [], ◌∷◌, ◌++◌, length, length-append, map, Option, Some, None, IfSome, Contains, All}
+use Rattle.std.proofs.Common.{◌≡◌, ◌≢◌, ◌⊎◌, inl, inr, ⊎_elim, refl, sym, ap, ◌∙◌, subst, arith, ℕ, suc, ◌+◌, ◌<◌, ◌≤◌, ◌^◌, true, List, [], ◌∷◌, ◌++◌, length, length-append, map, Option, Some, None, IfSome, Contains, All}
 use Rattle.std.proofs.lemmas.List.{append-nil}
 use Rattle.std.proofs.lemmas.List.Elements.{All-contains, Contains-append_left, Contains-append_right, Contains-append_cases}
 use Rattle.std.proofs.lemmas.Cmp.{nat_list_cmp_total}
@@ -15,11 +15,12 @@ use Rattle.acq_base.specs.declared.uri.ListName.{ListName}
 use Rattle.acq_base.proofs.Lists.{first-or-rest}
 use Rattle.acq_outside.specs.Crash.{State}
 use Rattle.acq_outside.specs.Disk.{IsName}
-use Rattle.journal_model.specs.Names.{IsPutName, journal, lock, partial}
+use Rattle.journal_model.specs.Names.{IsPutName, is_installed_name, journal, lock, partial}
 use Rattle.update_model.specs.declared.ask.Body.{Body}
 use Rattle.update_model.specs.declared.ask.Body.TheVariants as bodies
 use Rattle.update_model.specs.declared.settled.Settled.{Settled}
 use Rattle.board_model.proofs.Making.{none-in}
+use Rattle.journal_model.proofs.FolderNames.{list_inside, list_parts}
 use Rattle.journal_model.proofs.Views.{partial_one}
 use Rattle.commit_journal.specs.declared.changing.Change.{Change}
 use Rattle.commit_journal.specs.declared.changing.Change.TheVariants.{Put, Drop}
@@ -97,12 +98,18 @@ puts_if names [] within = tt
 puts_if names (Put list content ∷ changes) within = (within list.0 (here list.0 (names_in changes) list.0 refl), puts_if names changes (λ name is. within name (there list.0 (names_in changes) name is)))
 puts_if names (Drop list ∷ changes) within = puts_if names changes (λ name is. within name (there list (names_in changes) name is))
 
-allowed_if : (changes : List Change) → ((name : List ℕ) → Contains (names_in changes) name → IsPutName name) → AllAllowed changes
+-- a list's name, under which a record may put one
+abbrev IsOfList : List ℕ → Type 0
+IsOfList name = IsPutName name × (is_installed_name name ≡ true)
+
+allowed_if : (changes : List Change) → ((name : List ℕ) → Contains (names_in changes) name → IsOfList name) → AllAllowed changes
 allowed_if [] put = tt
-allowed_if (Put list content ∷ changes) put = (put list.0 (here list.0 (names_in changes) list.0 refl), allowed_if changes (λ name is. put name (there list.0 (names_in changes) name is)))
+allowed_if (Put list content ∷ changes) put =
+    let one = put list.0 (here list.0 (names_in changes) list.0 refl) in
+    (record { put = one.0; file = (list_parts list.0 one.1).2 }, allowed_if changes (λ name is. put name (there list.0 (names_in changes) name is)))
 allowed_if (Drop list ∷ changes) put =
     let one = put list (here list (names_in changes) list refl) in
-    (record { named = one.named; not_lock = one.not_lock; not_journal = one.not_journal }, allowed_if changes (λ name is. put name (there list (names_in changes) name is)))
+    (record { named = one.0.named; inside = list_inside list one.1; not_lock = one.0.not_lock; not_journal = one.0.not_journal }, allowed_if changes (λ name is. put name (there list (names_in changes) name is)))
 
 -- How many they are.
 as_many : (changes : List Change) → length (names_in changes) ≡ length changes
@@ -183,7 +190,7 @@ one_more source settled planned gone changes names owns apart away so_far = reco
       (λ in_planned. both_apart (names_of source) planned name apart (within_source name own) in_planned)
       (λ in_gone. away name (Contains-append_left (names_of source) planned name (within_source name own)) in_gone)
       (so_far.within name other))));
-  allowed = allowed_joined (changes_for source settled) changes (allowed_if (changes_for source settled) (λ name is. All-contains IsPutName (names_of source) name names.put (within_source name is))) so_far.allowed;
+  allowed = allowed_joined (changes_for source settled) changes (allowed_if (changes_for source settled) of_lists) so_far.allowed;
   puts = puts_joined (names_of source) planned (changes_for source settled) changes (puts_if (names_of source) (changes_for source settled) within_source) so_far.puts;
   short =
       let fit : length (names_in (changes_for source settled)) ≤ length (names_of source) = fits_in (names_in (changes_for source settled)) (names_of source) (changed_apart source settled owns) within_source in
@@ -192,6 +199,12 @@ one_more source settled planned gone changes names owns apart away so_far = reco
   where
     within_source : (name : List ℕ) → Contains (names_in (changes_for source settled)) name → Contains (names_of source) name
     within_source name is = owns.own name (changed_is_touched source settled name is)
+
+    of_lists : (name : List ℕ) → Contains (names_in (changes_for source settled)) name → IsOfList name
+    of_lists name is = (
+      All-contains IsPutName (names_of source) name names.put (within_source name is),
+      All-contains (λ n. is_installed_name n ≡ true) (names_of source) name names.listed (within_source name is),
+    )
 
 goes_allowed : (names : List (List ℕ)) → ((name : List ℕ) → Contains names name → IsDropName name) → AllAllowed (drops_for names)
 goes_allowed [] may = tt
@@ -204,8 +217,9 @@ goes_puts planned (name ∷ names) = goes_puts planned names
 drop_named : (sources : List Source) (name : List ℕ) → IsLoose sources name → IsName name → IsDropName name
 drop_named sources name loose named = record {
   named = named;
-  not_lock = λ same. loose (here lock (journal ∷ flat_map kept_of sources) name (sym same));
-  not_journal = λ same. loose (there lock (journal ∷ flat_map kept_of sources) name (here journal (flat_map kept_of sources) name (sym same)));
+  inside = loose.inside;
+  not_lock = λ same. loose.other (here lock (journal ∷ flat_map kept_of sources) name (sym same));
+  not_journal = λ same. loose.other (there lock (journal ∷ flat_map kept_of sources) name (here journal (flat_map kept_of sources) name (sym same)));
 }
 
 clean_up_alone : (sources : List Source) (loose : Option (List (List ℕ))) → IfSome loose (MayBeRemoved sources) → Gathers [] (names_of_group loose) (all_changes (group_of loose))
@@ -234,7 +248,7 @@ others_gathered (s ∷ gathered) put name other is same = ⊎_elim
     (Contains-append_cases (names_of s.0) (names_gathered gathered) name is)
 
 kept_away : (sources : List Source) (names : List (List ℕ)) (name : List ℕ) → All (IsLoose sources) names → Contains (flat_map kept_of sources) name → Contains names name → ⊥
-kept_away sources names name loose kept is = All-contains (IsLoose sources) names name loose is (there lock (journal ∷ flat_map kept_of sources) name (there journal (flat_map kept_of sources) name kept))
+kept_away sources names name loose kept is = (All-contains (IsLoose sources) names name loose is).other (there lock (journal ∷ flat_map kept_of sources) name (there journal (flat_map kept_of sources) name kept))
 
 are_away : (sources : List Source) (gathered : List (Source × Settled)) (loose : Option (List (List ℕ))) → AreGathered sources gathered → IfSome loose (MayBeRemoved sources) → AreAway (names_gathered gathered) (names_of_group loose)
 are_away sources gathered None are may name planned is = none-in name is

@@ -1,6 +1,6 @@
 -- Sets of names, and the names that they leave.
 use Rattle.std.proofs.Common.{◌≡◌, ◌↔◌, ◌⊎◌, inl, inr, ⊎_elim, refl, sym, ap, ◌∙◌, subst, arith, ℕ, ◌≤◌, Bool, true, false, List, [], ◌∷◌, length, not, cond, Contains, All, IsTrue}
-use Rattle.std.specs.Prelude.{filter, slice_index_or}
+use Rattle.std.specs.Prelude.{◌&&◌, filter, slice_index_or}
 use Rattle.std.specs.Ordering.{nat_cmp}
 use Rattle.std.specs.Cmp.Lexicographic.{slice_cmp}
 use Rattle.std.specs.BTreeSet.{BTreeSet, IsFromIterResult, contains}
@@ -8,12 +8,14 @@ use Rattle.std.proofs.lemmas.Cmp.{nat_list_cmp_total}
 use Rattle.std.proofs.lemmas.Map.Lookups.{exact_bytes}
 use Rattle.std.proofs.lemmas.Map.Keys.{Less-from_sorted}
 use Rattle.std.proofs.lemmas.Map.Views.{btree_set_contains_from_list, btree_set_contains_iff, btree_set_len-le_from_list}
+use Rattle.std.proofs.lemmas.Bool.{and_parts}
 use Rattle.std.proofs.lemmas.List.Elements.{Contains-get_or}
 use Rattle.acq_base.specs.declared.plan.Source.{Source}
 use Rattle.acq_base.proofs.Lists.{first-or-rest}
 use Rattle.board_model.proofs.Making.{none-in}
 use Rattle.acq_outside.specs.Disk.{Files, IsNames}
-use Rattle.list_commits.specs.Loose.{AreLooseNames, AreSorted, IsLoose, kept_names}
+use Rattle.journal_model.specs.Names.{is_inside}
+use Rattle.list_commits.specs.Loose.{AreLooseNames, AreSorted, IsLoose, is_loose, kept_names}
 use Rattle.list_commits.proofs.Apart.{here, there}
 
 abbrev IsMade : List (List ℕ) → BTreeSet (List ℕ) → Type 0
@@ -67,30 +69,34 @@ stays_in p (first ∷ names) name passes is = by (stays_in p names name passes) 
 pub record AreOthers (sources : List Source) (names rest : List (List ℕ)) : Type 0 where
   pub within : (name : List ℕ) → Contains rest name → Contains names name
   pub loose : (name : List ℕ) → Contains rest name → IsLoose sources name
-  pub all : (name : List ℕ) → Contains names name → Contains rest name ⊎ Contains (kept_names sources) name
+  pub all : (name : List ℕ) → Contains names name → Contains rest name ⊎ (Contains (kept_names sources) name ⊎ (is_inside name ≡ false))
 
 pub are_others : (sources : List Source) (kept : BTreeSet (List ℕ)) (names others loose : List (List ℕ)) → ((name : List ℕ) → IsTrue (contains (slice_cmp nat_cmp) kept name) ↔ Contains (kept_names sources) name)
-    → others ≡ filter (λ name. not (contains (slice_cmp nat_cmp) kept name)) names → ((name : List ℕ) → Contains loose name ↔ Contains others name) → AreOthers sources names loose
+    → others ≡ filter (is_loose kept) names → ((name : List ℕ) → Contains loose name ↔ Contains others name) → AreOthers sources names loose
 are_others sources kept names others loose just are same = record {
   within = λ name is. (among name is).0;
-  loose = λ name is stays. differs (has name) ((just name).1 stays) (among name is).1;
-  all = λ name is. by name is (has name) refl;
+  loose = λ name is. record { other = λ stays. differs (has name) ((just name).1 stays) (passed name is).0; inside = (passed name is).1 };
+  all = λ name is. by name is (has name) (is_inside name) refl refl;
 }
   where
     has : List ℕ → Bool
     has = λ name. contains (slice_cmp nat_cmp) kept name
 
-    among : (name : List ℕ) → Contains loose name → Contains names name × (not (has name) ≡ true)
-    among name is = in_names (λ n. not (has n)) names name (subst (λ (l : List (List ℕ)). Contains l name) are ((same name).0 is))
+    among : (name : List ℕ) → Contains loose name → Contains names name × (is_loose kept name ≡ true)
+    among name is = in_names (is_loose kept) names name (subst (λ (l : List (List ℕ)). Contains l name) are ((same name).0 is))
+
+    passed : (name : List ℕ) → Contains loose name → (not (has name) ≡ true) × (is_inside name ≡ true)
+    passed name is = and_parts (not (has name)) (is_inside name) (among name is).1
 
     differs : (t : Bool) → IsTrue t → not t ≡ true → ⊥
     differs true is wrong = cc
     differs false is wrong = cc
 
-    by : (name : List ℕ) → Contains names name → (t : Bool) → has name ≡ t → Contains loose name ⊎ Contains (kept_names sources) name
-    by name is true kept_name = inr ((just name).0 kept_name)
-    by name is false other =
-        inl ((same name).1 (subst (λ (l : List (List ℕ)). Contains l name) (sym are) (stays_in (λ n. not (has n)) names name (ap not other) is)))
+    by : (name : List ℕ) → Contains names name → (t u : Bool) → has name ≡ t → is_inside name ≡ u → Contains loose name ⊎ (Contains (kept_names sources) name ⊎ (is_inside name ≡ false))
+    by name is true u kept_name inside = inr (inl ((just name).0 kept_name))
+    by name is false false other outside = inr (inr outside)
+    by name is false true other inside =
+        inl ((same name).1 (subst (λ (l : List (List ℕ)). Contains l name) (sym are) (stays_in (is_loose kept) names name (ap (λ (b : Bool). not b && is_inside name) other ∙ inside) is)))
 
 pub each_one : (P : List ℕ → Type 0) (names : List (List ℕ)) → ((name : List ℕ) → Contains names name → P name) → All P names
 each_one P names each k d low = each (slice_index_or names k d) (Contains-get_or names k d low)

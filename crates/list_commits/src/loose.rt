@@ -1,20 +1,22 @@
 //! The names of the lists folder that belong to no source.
-ghost use Rattle.std.specs.Prelude.{◌≡◌, ◌↔◌, ◌++◌, ◌∷◌, [], ◌≤◌, ◌<◌, ◌^◌, ℕ, All, Contains, List, filter, length, not, IfOk, OnOk, IsTrue};
+ghost use Rattle.std.specs.Prelude.{◌≡◌, ◌↔◌, ◌++◌, ◌∷◌, [], ◌≤◌, ◌<◌, ◌^◌, ℕ, All, Contains, List, filter, length, IfOk, OnOk, IsTrue};
 ghost use Rattle.std.specs.BTreeSet.{contains};
 ghost use Rattle.std.specs.Cmp.Lexicographic.{slice_cmp};
 ghost use Rattle.std.specs.Ordering.{nat_cmp};
 ghost use Rattle.acq_outside.specs.Disk.{IsName};
 ghost use Rattle.acq_outside.specs.Stays.{ReadsCounting};
 ghost use Rattle.journal_model.specs.Names.{partial};
-ghost use Rattle.list_commits.specs.Loose.{AreLooseNames, AreSorted, IsLoose, kept_names, kept_of};
+ghost use Rattle.list_commits.specs.Loose.{AreLooseNames, AreSorted, IsLoose, is_loose, kept_names, kept_of};
 
 use acq_base::{ListName, NoMemory, Row, Source, Text, TryCopy};
 use acq_outside::{Disk, OutError};
+use journal_model::is_inside;
 use std::alloc::Global;
 use std::collections::BTreeSet;
 
 /// The names of the folder that belong to no source, each once and in byte order: all but `lock`, `journal`, the lists of
-/// these sources, and those lists on their way. Nothing is changed.
+/// these sources, and those lists on their way. A name that leads out of the folder is passed over, since no record may
+/// have it. Nothing is changed.
 ///
 /// `Fault` only where the disk's count of faults rose, and `NoMemory` where memory ran out.
 pub fn loose_names<D: Disk>(
@@ -82,9 +84,9 @@ fn keep_name(alloc: Global, name: &ListName, kept: &mut Row<Text>) -> Result<(),
     Ok(())
 }
 
-/// The names that aren't kept, in their order.
+/// The names that aren't kept and stay in the folder, in their order.
 fn without(alloc: Global, names: Row<Text>, kept: &BTreeSet<Text>) -> Result<Row<Text>, NoMemory>
-    ensures { IfOk result (λ others. others ≡ filter (λ name. not (contains (slice_cmp nat_cmp) kept.now name)) names) }
+    ensures { IfOk result (λ others. others ≡ filter (is_loose kept.now) names) }
 {
     let mut others = Row::new(alloc);
     let mut rest = names.into_vec();
@@ -95,11 +97,11 @@ fn without(alloc: Global, names: Row<Text>, kept: &BTreeSet<Text>) -> Result<Row
     Ok(others)
 }
 
-/// Adds a name that isn't kept.
+/// Adds a name that isn't kept, if it stays in the folder.
 fn add_other(name: Text, kept: &BTreeSet<Text>, others: &mut Row<Text>) -> Result<(), NoMemory>
-    ensures { OnOk result (others.new ≡ others.old ++ filter (λ name. not (contains (slice_cmp nat_cmp) kept.now name)) (name ∷ [])) }
+    ensures { OnOk result (others.new ≡ others.old ++ filter (is_loose kept.now) (name ∷ [])) }
 {
-    if kept.contains(&name) {
+    if kept.contains(&name) || !is_inside(name.as_bytes()) {
         return Ok(());
     }
     others.push(name)?;

@@ -1,14 +1,16 @@
 -- Names of no source that a disk has.
 use Rattle.std.proofs.Common.{◌≡◌, ◌∙◌, ◌⊎◌, inl, inr, ⊎_elim, refl, sym, ap, subst, ℕ, Bool, true, false, List, [], ◌∷◌, Contains, Option, None}
-use Rattle.std.specs.Prelude.{◌&&◌, ◌||◌, bytes_eq, if◌then◌else◌, is_some, not}
+use Rattle.std.specs.Prelude.{bytes_eq, if◌then◌else◌, is_some}
 use Rattle.std.specs.List.{flat_map}
 use Rattle.std.proofs.lemmas.Slice.Eq.{bytes_eq-Decides}
 use Rattle.acq_base.specs.Plan.{names_of}
 use Rattle.acq_base.specs.declared.plan.Source.{Source}
 use Rattle.acq_base.proofs.Lists.{first-or-rest}
-use Rattle.acq_outside.specs.Disk.{Files, same_name}
+use Rattle.acq_outside.specs.Disk.{Files}
 use Rattle.journal_model.specs.Names.{is_installed_name, is_partial, journal, lock}
-use Rattle.list_commits.specs.Loose.{kept_of}
+use Rattle.journal_model.proofs.FolderNames.{list_if, plain_inside}
+use Rattle.journal_model.proofs.Twice.{other_name}
+use Rattle.list_commits.specs.Loose.{IsLoose, kept_of}
 use Rattle.list_commits.specs.SetLaws.{HasInstalledFilesAlone, LooseNamesAreLoose}
 use Rattle.update_model.specs.Carried.{AreLoose}
 use Rattle.board_model.proofs.Making.{none-in}
@@ -32,19 +34,16 @@ among name (other ∷ names) = one (bytes_eq other name) refl (among name names)
     one false differ (inl later) = inl (there other names name later)
     one false differ (inr never) = inr (λ is. ⊎_elim (λ same. let wrong : true ≡ false = sym ((bytes_eq-Decides other name).1 same) ∙ differ in absurd (cc)) never (first-or-rest other names name is))
 
-list_if : (name : List ℕ) → (name ≡ lock → ⊥) → (name ≡ journal → ⊥) → is_partial name ≡ false → is_installed_name name ≡ true
-list_if name no_lock no_journal whole = one (same_name name journal) (same_name name lock) (is_partial name) refl refl whole
-  where
-    one : (j l p : Bool) → same_name name journal ≡ j → same_name name lock ≡ l → p ≡ false → (not j && not (l || p)) ≡ true
-    one true l p is is' whole = absurd (no_journal ((bytes_eq-Decides name journal).0 is))
-    one false true p is is' whole = absurd (no_lock ((bytes_eq-Decides name lock).0 is'))
-    one false false p is is' whole = ap not whole
+listed_if : (sources : List Source) (name : List ℕ) → IsLoose sources name → is_partial name ≡ false → is_installed_name name ≡ true
+listed_if sources name loose whole =
+    list_if name
+    (other_name name journal (λ same. loose.other (there lock (journal ∷ flat_map kept_of sources) name (here journal (flat_map kept_of sources) name (sym same)))))
+    (other_name name lock (λ same. loose.other (here lock (journal ∷ flat_map kept_of sources) name (sym same)))) whole (plain_inside name whole ∙ loose.inside)
 
 pub loose_of : LooseNamesAreLoose → (sources : List Source) (lists : Files) (names : List (List ℕ)) → HasInstalledFilesAlone lists → AreLooseLists sources lists names → Loose sources lists names
 loose_of law sources lists names alone are_loose = record {
   apart = loose.apart;
-  listed = λ name is whole. list_if name (λ same. are_loose.are.loose name is (here lock (journal ∷ flat_map kept_of sources) name (sym same)))
-      (λ same. are_loose.are.loose name is (there lock (journal ∷ flat_map kept_of sources) name (here journal (flat_map kept_of sources) name (sym same)))) whole;
+  listed = λ name is whole. listed_if sources name (are_loose.are.loose name is) whole;
   exists = λ name is list. subst (λ (o : Option (List ℕ)). is_some o ≡ true) (are_loose.same name list (loose.apart name is)) (are_loose.are.there name is);
   all = λ name some. one name some (is_installed_name name) refl;
 }

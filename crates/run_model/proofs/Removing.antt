@@ -1,12 +1,14 @@
 -- What a log tells as removed.
 use Rattle.std.proofs.Common.{◌≡◌, inr, ◌∙◌, ⊎_elim, refl, sym, ap, subst, ℕ, Bool, true, false, List, [], ◌∷◌, map, Contains, None}
-use Rattle.std.specs.Prelude.{◌&&◌, ◌||◌, filter, if◌then◌else◌, is_some, not}
+use Rattle.std.specs.Prelude.{filter, if◌then◌else◌, is_some, not}
 use Rattle.std.specs.List.{flat_map}
 use Rattle.std.proofs.lemmas.Bool.{not-true}
 use Rattle.acq_base.specs.Plan.{names_of}
 use Rattle.acq_base.specs.declared.uri.ListName.{ListName}
-use Rattle.acq_outside.specs.Disk.{Files, same_name}
-use Rattle.journal_model.specs.Names.{is_installed_name, is_partial, journal, lock}
+use Rattle.acq_outside.specs.Disk.{Files}
+use Rattle.journal_model.specs.Names.{is_installed_name, is_partial}
+use Rattle.journal_model.proofs.FolderNames.{not_partial}
+use Rattle.journal_model.proofs.Views.{list_not_aside}
 use Rattle.list_commits.specs.Loose.{removed_names}
 use Rattle.list_commits.specs.Made.{after_all}
 use Rattle.update_model.specs.declared.log.RunLog.{RunLog}
@@ -30,12 +32,7 @@ told_names names = again (filter (λ name. not (is_partial name)) names)
     again (x ∷ xs) = ap (λ ys. x ∷ ys) (again xs)
 
 list_is_whole : (name : List ℕ) → is_installed_name name ≡ true → not (is_partial name) ≡ true
-list_is_whole name list = one (same_name name journal) (same_name name lock) (is_partial name) list
-  where
-    one : (j l p : Bool) → (not j && not (l || p)) ≡ true → not p ≡ true
-    one true l p is = absurd (cc)
-    one false true p is = absurd (cc)
-    one false false p is = is
+list_is_whole name list = ap not (not_partial name (list_not_aside name list))
 
 -- ---- what is told
 

@@ -44,8 +44,8 @@ cleans_up settings verdicts = settings.cleanup && list_all (λ verdict. not (is_
 
 -- ---- the clean-up
 
--- All names of no source under which the disk has a file, in byte order; those that are lists are the ones with which the
--- run began.
+-- All names in the folder, of no source, under which the disk has a file, in byte order; those that are lists are the
+-- ones with which the run began.
 pub record AreLooseLists (sources : List Source) (lists : Files) (names : List (List ℕ)) : Type 0 where
   pub files : Files
   pub are : AreLooseNames files sources names
