@@ -36,17 +36,13 @@ fn staged(
     file: &[u8],
 ) -> Result<Closed, Refused> {
     let kept = from as usize;
-    let mut path = Text::from_bytes(alloc, b"partial/")?;
-    path.append(name.0.as_bytes())?;
+    let front = match given.part(alloc, name)? {
+        Some(part) => part.as_slice().get(..kept).unwrap_or(&[]),
+        None => &[],
+    };
     let mut whole = Bytes::new(alloc);
-    if let Some(part) = given.disk.get(&path) {
-        if let Some(front) = part.as_slice().get(..kept) {
-            whole.append(front)?;
-        }
-    }
-    if let Some(rest) = file.get(kept..) {
-        whole.append(rest)?;
-    }
+    whole.append(front)?;
+    whole.append(file.get(kept..).unwrap_or(&[]))?;
     Ok(Closed::Served(Body::Staged(sum_of(whole.as_slice()))))
 }
 
@@ -79,19 +75,30 @@ pub fn answer(
     job: &Job,
     list: Option<&ListName>,
 ) -> Result<Closed, Refused> {
-    match had(given, &uri_text(alloc, &job.uri)?) {
-        Some(Has::File(file)) => served(alloc, given, job, list, file),
-        Some(Has::Whole(_)) if job.from > 0 => Ok(Closed::Not(NotServed::Absent(200))),
-        Some(Has::Whole(file)) => served(alloc, given, job, list, file),
-        Some(Has::Moved(Some(place))) => Ok(Closed::Not(NotServed::Moved(Some(read_uri(
-            alloc,
-            place.as_bytes(),
-        )?)))),
-        Some(Has::Moved(None)) => Ok(Closed::Not(NotServed::Moved(None))),
-        Some(Has::Absent(status)) => Ok(Closed::Not(NotServed::Absent(*status))),
-        Some(Has::TooBig) => Ok(Closed::Not(NotServed::TooBig)),
-        Some(Has::Garbled(at)) => Ok(Closed::Not(NotServed::Garbled(*at))),
-        Some(Has::Letters(_)) => Err(Refused::Methods),
+    let uri = uri_text(alloc, &job.uri)?;
+    match had(given, &uri) {
+        Some(has) => answer_of(alloc, given, job, list, has),
         None => Ok(Closed::Not(NotServed::Absent(404))),
     }
+}
+
+/// What the mirror answers to a job where it has this.
+fn answer_of(
+    alloc: Global,
+    given: &Given,
+    job: &Job,
+    list: Option<&ListName>,
+    has: &Has,
+) -> Result<Closed, Refused> {
+    Ok(Closed::Not(match has {
+        Has::File(file) => return served(alloc, given, job, list, file),
+        Has::Whole(_) if job.from > 0 => NotServed::Absent(200),
+        Has::Whole(file) => return served(alloc, given, job, list, file),
+        Has::Moved(Some(place)) => NotServed::Moved(Some(read_uri(alloc, place.as_bytes())?)),
+        Has::Moved(None) => NotServed::Moved(None),
+        Has::Absent(status) => NotServed::Absent(*status),
+        Has::TooBig => NotServed::TooBig,
+        Has::Garbled(at) => NotServed::Garbled(*at),
+        Has::Letters(_) => return Err(Refused::Methods),
+    }))
 }

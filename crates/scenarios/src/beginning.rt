@@ -7,7 +7,7 @@ ghost use Rattle.update_core.specs.BoardRefinement.{board_of};
 use crate::given::Given;
 use crate::objects::etc_of;
 use crate::refused::Refused;
-use acq_base::{ListName, Old, Row, Source, Text, TryCopy};
+use acq_base::{Bytes, ListName, NoMemory, Old, Row, Source, Target, Text, TryCopy};
 use configuration::{Configured, configure};
 use kept_hooks::Judge;
 use std::alloc::Global;
@@ -51,17 +51,30 @@ fn options(alloc: Global, given: &Given) -> Result<Row<Text>, Refused> {
 
 /// What is installed of a source.
 fn old_of(alloc: Global, given: &Given, source: &Source) -> Result<Old, Refused> {
-    let release = match given.disk.get(&source.release_name.0) {
-        Some(release) => Some(release.copy(alloc)?),
-        None => None,
-    };
+    let lists = lists_of(alloc, given, source.targets.as_slice())?;
+    let release = given.installed(alloc, &source.release_name.0)?;
+    Ok(Old { release, lists })
+}
+
+/// What is installed of these lists.
+fn lists_of(
+    alloc: Global,
+    given: &Given,
+    targets: &[Target],
+) -> Result<Row<(ListName, Bytes)>, Refused> {
     let mut lists = Row::new(alloc);
-    for target in source.targets.as_slice() {
+    for target in targets {
         if let Some(list) = given.disk.get(&target.name.0) {
-            lists.push((target.name.copy(alloc)?, list.copy(alloc)?))?;
+            lists.push(named(alloc, &target.name, list)?)?;
         }
     }
-    Ok(Old { release, lists })
+    Ok(lists)
+}
+
+/// A list with its name.
+fn named(alloc: Global, name: &ListName, list: &Bytes) -> Result<(ListName, Bytes), NoMemory> {
+    let name = name.copy(alloc)?;
+    Ok((name, list.copy(alloc)?))
 }
 
 /// What is installed of each of these sources.
@@ -78,8 +91,7 @@ fn parts(alloc: Global, given: &Given) -> Result<Row<(ListName, u64)>, Refused> 
     let mut row = Row::new(alloc);
     for (name, content) in given.disk.iter() {
         if let Some(list) = name.as_bytes().strip_prefix(b"partial/".as_slice()) {
-            let list = ListName(Text::from_bytes(alloc, list)?);
-            row.push((list, content.len() as u64))?;
+            row.push((ListName(Text::from_bytes(alloc, list)?), content.len() as u64))?;
         }
     }
     Ok(row)
@@ -95,16 +107,24 @@ pub fn begin_update(
     requires plan { IsSound configured.plan }
     requires change { judge.change ≡ configured.change }
 {
+    let board = begin(alloc, given, configured)?;
+    Ok(Judged { board, judge })
+}
+
+/// The board before anything is asked.
+fn begin(alloc: Global, given: &Given, configured: Configured) -> Result<Board, Refused>
+    requires { IsSound configured.plan }
+    ensures { IfOk result (λ board. (board_of board).config.change ≡ configured.change) }
+{
+    let old = olds(alloc, given, configured.plan.sources.as_slice())?;
+    let parts = parts(alloc, given)?;
     let Configured {
         plan,
         settings,
         change,
     } = configured;
-    let old = olds(alloc, given, plan.sources.as_slice())?;
     if old.len() != plan.sources.len() {
         return Err(Refused::Board);
     }
-    let parts = parts(alloc, given)?;
-    let board = Board::new(alloc, plan, old, parts, settings, change, given.now, LANES)?;
-    Ok(Judged { board, judge })
+    Ok(Board::new(alloc, plan, old, parts, settings, change, given.now, LANES)?)
 }

@@ -1,7 +1,6 @@
 //! A run of the board of all sources over the mirror, whose answers come in one of several orders.
 
 ghost use Rattle.std.specs.Prelude.{◌≡◌, OnOk, Some, true};
-ghost use Rattle.acq_base.specs.Plan.{IsSound};
 ghost use Rattle.board_model.specs.Boards.{first_ready, is_out};
 ghost use Rattle.update_core.specs.BoardRefinement.{board_of};
 
@@ -9,8 +8,7 @@ use crate::answers::{answer, faults_at};
 use crate::beginning::{Judged, LANES, begin_update, configured};
 use crate::given::Given;
 use crate::refused::Refused;
-use acq_base::{Job, NoMemory, NotServed, Plan, Row, Text, TryCopy};
-use configuration::Configured;
+use acq_base::{Job, NoMemory, NotServed, Row, Text};
 use kept_hooks::Judge;
 use release_file::{Head, is_allowed};
 use std::alloc::Global;
@@ -29,14 +27,13 @@ pub enum Schedule {
     Held,
 }
 
-/// A run so far.
+/// What a run keeps beside its board.
 #[derive(Drop)]
-struct Run {
-    judged: Judged,
+struct Course {
     /// The jobs that are out, each with its lane.
     out: Vec<(u32, Job)>,
     /// How often each lane's method failed.
-    failed: Vec<u64>,
+    failed: [u64; 2],
     /// The URIs at which asks failed, once for each.
     faults: Vec<Text>,
     /// What was settled, in order.
@@ -46,46 +43,41 @@ struct Run {
 /// What a run came to.
 #[derive(Drop)]
 pub struct Finished {
-    pub plan: Plan,
     pub log: RunLog,
     /// What each source came to, in the order in which they were settled.
     pub settled: Row<(u32, Settled)>,
 }
 
-/// A run that has not asked yet.
-fn start(alloc: Global, given: &Given, configured: Configured, judge: Judge) -> Result<Run, Refused>
-    requires plan { IsSound configured.plan }
-    requires change { judge.change ≡ configured.change }
-{
-    Ok(Run {
-        judged: begin_update(alloc, given, configured, judge)?,
-        out: Vec::new(alloc),
-        failed: Vec::from_array(alloc, [0, 0]).map_err(|_| Refused::NoMemory)?,
-        faults: Vec::new(alloc),
-        settled: Row::new(alloc),
-    })
+impl Course {
+    /// That of a run that has not asked yet.
+    fn new(alloc: Global) -> Course {
+        Course {
+            out: Vec::new(alloc),
+            failed: [0, 0],
+            faults: Vec::new(alloc),
+            settled: Row::new(alloc),
+        }
+    }
+
+    /// The method of a lane fails once more.
+    fn fault(&mut self, lane: u32) -> Result<Closed, Refused> {
+        let Some(failed) = self.failed.get_mut(lane as usize) else {
+            return Err(Refused::Board);
+        };
+        let before = *failed;
+        let after = before.saturating_add(1);
+        *failed = after;
+        Ok(Closed::Not(NotServed::Fault { before, after }))
+    }
 }
 
 /// The next job of a lane goes out, if there is one.
-fn issue(alloc: Global, run: Run, lane: u32) -> Result<Run, Refused> {
-    let Run {
-        judged,
-        mut out,
-        failed,
-        faults,
-        settled,
-    } = run;
+fn issue(alloc: Global, judged: Judged, course: &mut Course, lane: u32) -> Result<Judged, Refused> {
     let (judged, job) = issued(alloc, judged, lane)?;
     if let Some(job) = job {
-        out.push((lane, job)).map_err(|_| Refused::NoMemory)?;
+        course.out.push((lane, job))?;
     }
-    Ok(Run {
-        judged,
-        out,
-        failed,
-        faults,
-        settled,
-    })
+    Ok(judged)
 }
 
 #[tactic(auto, using(crate::proofs::Kept::after_issued))]
@@ -96,58 +88,39 @@ fn issued(alloc: Global, judged: Judged, lane: u32) -> Result<(Judged, Option<Jo
 }
 
 /// The job that went out last is answered, if one is out.
-fn absorb_last(alloc: Global, given: &Given, run: Run) -> Result<Run, Refused> {
-    let mut run = run;
-    let Some((lane, job)) = run.out.pop() else {
-        return Ok(run);
+fn absorb_last(
+    alloc: Global,
+    given: &Given,
+    judged: Judged,
+    course: &mut Course,
+) -> Result<Judged, Refused> {
+    let Some((lane, job)) = course.out.pop() else {
+        return Ok(judged);
     };
-    let closed = closed(alloc, given, &mut run, lane, &job)?;
-    let Run {
-        judged,
-        out,
-        failed,
-        faults,
-        settled,
-    } = run;
-    Ok(Run {
-        judged: absorbed(alloc, judged, lane, job.no, closed)?,
-        out,
-        failed,
-        faults,
-        settled,
-    })
+    let closed = closed(alloc, given, &judged.board, course, lane, &job)?;
+    absorbed(alloc, judged, lane, job.no, closed)
 }
 
 /// The answer to a job of a lane: a fault, as long as asks at its URI are to fail, or what the mirror answers.
 fn closed(
     alloc: Global,
     given: &Given,
-    run: &mut Run,
+    board: &Board,
+    course: &mut Course,
     lane: u32,
     job: &Job,
 ) -> Result<Closed, Refused> {
     let uri = uri_text(alloc, &job.uri)?;
-    if times(run.faults.as_slice(), &uri) < faults_at(given, &uri) {
-        run.faults.push(uri).map_err(|_| Refused::NoMemory)?;
-        return fault(run, lane);
+    if times(course.faults.as_slice(), &uri) < faults_at(given, &uri) {
+        course.faults.push(uri)?;
+        return course.fault(lane);
     }
-    answer(alloc, given, job, run.judged.board.stage(job.no))
+    answer(alloc, given, job, board.stage(job.no))
 }
 
 /// How often a text stands in a list.
 fn times(texts: &[Text], text: &Text) -> u64 {
     texts.iter().filter(|other| *other == text).count() as u64
-}
-
-/// The method of a lane fails once more.
-fn fault(run: &mut Run, lane: u32) -> Result<Closed, Refused> {
-    let Some(failed) = run.failed.get_mut(lane as usize) else {
-        return Err(Refused::Board);
-    };
-    let before = *failed;
-    let after = before.saturating_add(1);
-    *failed = after;
-    Ok(Closed::Not(NotServed::Fault { before, after }))
 }
 
 /// The board takes an answer in.
@@ -183,26 +156,13 @@ fn take_in(
 }
 
 /// The first source that is ready is settled, if there is one.
-fn settle(alloc: Global, run: Run) -> Result<Run, Refused> {
-    let Some(source) = run.judged.board.ready() else {
-        return Ok(run);
+fn settle(alloc: Global, judged: Judged, course: &mut Course) -> Result<Judged, Refused> {
+    let Some(source) = judged.board.ready() else {
+        return Ok(judged);
     };
-    let Run {
-        judged,
-        out,
-        failed,
-        faults,
-        mut settled,
-    } = run;
-    let (judged, what) = settled_as(alloc, judged, source)?;
-    settled.push((source, what))?;
-    Ok(Run {
-        judged,
-        out,
-        failed,
-        faults,
-        settled,
-    })
+    let (judged, settled) = settled_as(alloc, judged, source)?;
+    course.settled.push((source, settled))?;
+    Ok(judged)
 }
 
 /// A source is settled.
@@ -216,72 +176,83 @@ fn settled_as(alloc: Global, judged: Judged, source: u32) -> Result<(Judged, Set
 }
 
 /// The jobs that go out before the next answer.
-fn issue_all(alloc: Global, run: Run, schedule: Schedule) -> Result<Run, Refused> {
-    let mut run = run;
+fn issue_all(
+    alloc: Global,
+    judged: Judged,
+    course: &mut Course,
+    schedule: Schedule,
+) -> Result<Judged, Refused> {
+    let mut judged = judged;
     for turn in 0..LANES {
-        if schedule == Schedule::Held || run.out.is_empty() {
+        if schedule == Schedule::Held || course.out.is_empty() {
             let lane = if schedule == Schedule::LastLane {
                 LANES - 1 - turn
             } else {
                 turn
             };
-            run = issue(alloc, run, lane)?;
+            judged = issue(alloc, judged, course, lane)?;
         }
     }
-    Ok(run)
+    Ok(judged)
 }
 
 /// One answer, with what goes before it and what is settled behind it.
-fn step(alloc: Global, given: &Given, run: Run, schedule: Schedule) -> Result<Run, Refused> {
-    let run = issue_all(alloc, run, schedule)?;
-    if schedule == Schedule::Held && run.out.is_empty() {
-        return settle(alloc, run);
+fn step(
+    alloc: Global,
+    given: &Given,
+    judged: Judged,
+    course: &mut Course,
+    schedule: Schedule,
+) -> Result<Judged, Refused> {
+    let judged = issue_all(alloc, judged, course, schedule)?;
+    if schedule == Schedule::Held && course.out.is_empty() {
+        return settle(alloc, judged, course);
     }
-    let run = absorb_last(alloc, given, run)?;
+    let judged = absorb_last(alloc, given, judged, course)?;
     if schedule == Schedule::Held {
-        return Ok(run);
+        return Ok(judged);
     }
-    settle(alloc, run)
+    settle(alloc, judged, course)
 }
 
 /// A run over the mirror to its end.
 pub fn finish(alloc: Global, given: &Given, schedule: Schedule) -> Result<Finished, Refused> {
     let configured = configured(alloc, given)?;
-    let plan = configured.plan.copy(alloc)?;
     let change = configured.change;
     let test = Box::new(alloc, move |old: &Head, new: &Head| {
         is_allowed(&change, old, new)
+    })?;
+    let judged = begin_update(alloc, given, configured, Judge::new(test, change))?;
+    let mut course = Course::new(alloc);
+    let log = ended(steps(alloc, given, judged, &mut course, schedule)?)?;
+    Ok(Finished {
+        log,
+        settled: course.settled,
     })
-    .map_err(|_| Refused::NoMemory)?;
-    let run = start(alloc, given, configured, Judge::new(test, change))?;
-    ended(plan, steps(alloc, given, run, schedule)?)
 }
 
 /// Steps until all is settled. No scenario needs as many as this loop allows.
-fn steps(alloc: Global, given: &Given, run: Run, schedule: Schedule) -> Result<Run, Refused> {
-    let mut run = run;
+fn steps(
+    alloc: Global,
+    given: &Given,
+    judged: Judged,
+    course: &mut Course,
+    schedule: Schedule,
+) -> Result<Judged, Refused> {
+    let mut judged = judged;
     for _ in 0..500u32 {
-        if run.judged.board.finished() {
+        if judged.board.finished() {
             break;
         }
-        run = step(alloc, given, run, schedule)?;
+        judged = step(alloc, given, judged, course, schedule)?;
     }
-    Ok(run)
+    Ok(judged)
 }
 
-/// What a run came to, which has ended.
-fn ended(plan: Plan, run: Run) -> Result<Finished, Refused> {
-    let Run {
-        judged,
-        settled,
-        ..
-    } = run;
+/// The log of a run, which has ended.
+fn ended(judged: Judged) -> Result<RunLog, Refused> {
     if !judged.board.finished() {
         return Err(Refused::Endless);
     }
-    Ok(Finished {
-        plan,
-        log: judged.board.into_log(),
-        settled,
-    })
+    Ok(judged.board.into_log())
 }

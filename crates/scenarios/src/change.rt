@@ -1,5 +1,6 @@
 //! The calls of a lists folder as lines say them.
 
+use crate::lines::read_number;
 use crate::quoted::read_named;
 use crate::refused::Refused;
 use acq_base::Text;
@@ -8,34 +9,59 @@ use std::alloc::Global;
 
 /// A call: `write NAME AT "B"`, `cut NAME LEN`, `sync NAME`, `rename FROM TO`, `remove NAME` or `sync-names`.
 pub fn read_change(alloc: Global, rest: &str) -> Result<DiskCall, Refused> {
-    if let Some(rest) = rest.strip_prefix("write ") {
-        return read_write(alloc, rest);
+    match rest.split_once(' ') {
+        Some(("write", rest)) => read_write(alloc, rest),
+        Some((kind, rest)) => match rest.split_once(' ') {
+            Some((name, other)) => read_two(alloc, kind, name, other),
+            None => read_one(alloc, kind, rest),
+        },
+        None if rest == "sync-names" => Ok(DiskCall::SyncNames),
+        None => Err(Refused::Line),
     }
-    let words: Vec<&str> = rest.split(' ').collect(alloc)?;
-    match words.as_slice() {
-        ["cut", name, len] => Ok(DiskCall::Cut {
-            name: text(alloc, name)?,
-            len: len.parse::<u64>().map_err(|_| Refused::Line)?,
-        }),
-        ["sync", name] => Ok(DiskCall::Sync(text(alloc, name)?)),
-        ["rename", from, to] => Ok(DiskCall::Rename {
-            from: text(alloc, from)?,
-            to: text(alloc, to)?,
-        }),
-        ["remove", name] => Ok(DiskCall::Remove(text(alloc, name)?)),
-        ["sync-names"] => Ok(DiskCall::SyncNames),
+}
+
+/// A call behind whose word stands a name alone.
+fn read_one(alloc: Global, kind: &str, name: &str) -> Result<DiskCall, Refused> {
+    let name = text(alloc, name)?;
+    match kind {
+        "sync" => Ok(DiskCall::Sync(name)),
+        "remove" => Ok(DiskCall::Remove(name)),
         _ => Err(Refused::Line),
     }
 }
 
+/// A call behind whose word stand two words.
+fn read_two(alloc: Global, kind: &str, name: &str, other: &str) -> Result<DiskCall, Refused> {
+    match kind {
+        "cut" => read_cut(alloc, name, other),
+        "rename" => read_rename(alloc, name, other),
+        _ => Err(Refused::Line),
+    }
+}
+
+fn read_cut(alloc: Global, name: &str, len: &str) -> Result<DiskCall, Refused> {
+    let len = read_number(len)?;
+    let name = text(alloc, name)?;
+    Ok(DiskCall::Cut { name, len })
+}
+
+fn read_rename(alloc: Global, from: &str, to: &str) -> Result<DiskCall, Refused> {
+    if to.contains(' ') {
+        return Err(Refused::Line);
+    }
+    let from = text(alloc, from)?;
+    let to = text(alloc, to)?;
+    Ok(DiskCall::Rename { from, to })
+}
+
 fn read_write(alloc: Global, rest: &str) -> Result<DiskCall, Refused> {
     let (place, bytes) = read_named(alloc, rest)?;
-    let (name, at) = place.split_once(' ').ok_or(Refused::Line)?;
-    Ok(DiskCall::Write {
-        name: text(alloc, name)?,
-        at: at.parse::<u64>().map_err(|_| Refused::Line)?,
-        bytes,
-    })
+    let Some((name, at)) = place.split_once(' ') else {
+        return Err(Refused::Line);
+    };
+    let at = read_number(at)?;
+    let name = text(alloc, name)?;
+    Ok(DiskCall::Write { name, at, bytes })
 }
 
 fn text(alloc: Global, name: &str) -> Result<Text, Refused> {

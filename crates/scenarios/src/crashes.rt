@@ -4,10 +4,11 @@ use crate::folder::files_of;
 use crate::given::Folder;
 use crate::objects::disk_of;
 use crate::refused::Refused;
-use crate::telling::image;
+use crate::telling::{image, put_image};
 use acq_base::{NoMemory, Row};
 use acq_memory::MemDisk;
 use acq_outside::{Disk, DiskCall, Fault, is_name};
+use case_words::Page;
 use std::alloc::Global;
 
 /// The most bytes of a choice of which all are tried.
@@ -72,25 +73,31 @@ fn remove<D: Disk>(disk: &mut D, name: &[u8]) -> Result<(), Fault> {
 /// A lists folder after these calls.
 fn disk_after(alloc: Global, folder: &Folder, calls: &[DiskCall]) -> Result<MemDisk, Refused> {
     let mut disk = disk_of(alloc, folder, false, Row::new(alloc))?;
-    for call in calls {
-        make(&mut disk, call).map_err(|_| Refused::Call)?;
-    }
+    make_all(&mut disk, calls)?;
     Ok(disk)
+}
+
+/// Does these calls, of which each may be made.
+fn make_all(disk: &mut MemDisk, calls: &[DiskCall]) -> Result<(), Refused> {
+    for call in calls {
+        if make(disk, call).is_err() {
+            return Err(Refused::Call);
+        }
+    }
+    Ok(())
 }
 
 /// What a crash leaves of a folder after these calls, by one choice. No call of a disk that crashed is to fail any more.
 pub fn crash_by(
     alloc: Global,
-    text: &mut String,
+    page: &mut Page,
     folder: &Folder,
     calls: &[DiskCall],
     choice: &Row<u8>,
 ) -> Result<Folder, Refused> {
-    let mut disk = disk_after(alloc, folder, calls)?
-        .with_fuse(0)
-        .crashed(choice)?;
-    let left = files_of(alloc, &mut disk)?;
-    text.push_str(image(alloc, &left)?.as_str())?;
+    let disk = disk_after(alloc, folder, calls)?;
+    let left = files_of(alloc, &mut disk.with_fuse(0).crashed(choice)?)?;
+    put_image(page, &left);
     Ok(left)
 }
 
@@ -105,10 +112,10 @@ fn choice(alloc: Global, bits: u32, width: u8) -> Result<Row<u8>, NoMemory> {
     Ok(row)
 }
 
-/// Appends all that a crash leaves of a folder after these calls by the choices of so many bits, each once and in order.
+/// Puts all that a crash leaves of a folder after these calls by the choices of so many bits, each once and in order.
 pub fn crash_all(
     alloc: Global,
-    text: &mut String,
+    page: &mut Page,
     folder: &Folder,
     calls: &[DiskCall],
     width: u8,
@@ -118,17 +125,36 @@ pub fn crash_all(
     }
     let mut images = Vec::new(alloc);
     for bits in 0..(1u32 << width) {
-        let choice = choice(alloc, bits, width)?;
-        let mut disk = disk_after(alloc, folder, calls)?.crashed(&choice)?;
-        let left = files_of(alloc, &mut disk)?;
-        images
-            .push(image(alloc, &left)?)
-            .map_err(|_| Refused::NoMemory)?;
+        images.push(image_by(alloc, folder, calls, bits, width)?)?;
     }
     images.sort_unstable();
     images.dedup();
     for image in &images {
-        text.push_str(image.as_str())?;
+        page.put(image.as_str());
     }
     Ok(())
+}
+
+/// What a crash leaves of a folder after these calls by so many bits of a number, in one line.
+fn image_by(
+    alloc: Global,
+    folder: &Folder,
+    calls: &[DiskCall],
+    bits: u32,
+    width: u8,
+) -> Result<String, Refused> {
+    let choice = choice(alloc, bits, width)?;
+    let left = left_by(alloc, folder, calls, &choice)?;
+    image(alloc, &left)
+}
+
+/// What a crash leaves of a folder after these calls by one choice, where it leaves the calls that are to fail.
+fn left_by(
+    alloc: Global,
+    folder: &Folder,
+    calls: &[DiskCall],
+    choice: &Row<u8>,
+) -> Result<Folder, Refused> {
+    let disk = disk_after(alloc, folder, calls)?;
+    files_of(alloc, &mut disk.crashed(choice)?)
 }

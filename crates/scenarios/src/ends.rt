@@ -1,84 +1,81 @@
 //! What runs of the board come to, and whether it is the same under each order of answers.
 
+use crate::beginning::configured;
 use crate::board::{Finished, Schedule, finish};
 use crate::given::Given;
-use crate::refused::Refused;
-use crate::telling::append_place;
+use crate::refused::{Refused, finished, utf8};
+use crate::telling::put_place;
+use acq_base::Plan;
+use case_words::Page;
+use configuration::Configured;
 use report_text::report;
 use std::alloc::Global;
-use std::fmt::Write;
 use update_model::{Body, Settled};
 
 /// What a run came to: of each source the line of the report, its changes, and what was asked for it in order.
-fn told(alloc: Global, finished: &Finished) -> Result<String, Refused> {
-    if finished.log.verdicts.len() != finished.plan.sources.len() {
+fn told(alloc: Global, plan: &Plan, ended: &Finished) -> Result<String, Refused> {
+    if ended.log.verdicts.len() != plan.sources.len() {
         return Err(Refused::Board);
     }
-    let report = report(alloc, &finished.plan, &finished.log)?;
-    let report = str::from_utf8(report.as_slice()).map_err(|_| Refused::NotText)?;
-    let mut text = String::new(alloc);
+    let report = report(alloc, plan, &ended.log)?;
+    let mut page = Page::new(alloc);
+    put_sources(alloc, &mut page, utf8(report.as_slice())?, ended);
+    finished(page)
+}
+
+/// Puts what a run came to, by the lines of its report.
+fn put_sources(alloc: Global, page: &mut Page, report: &str, ended: &Finished) {
     let mut source: u32 = 0;
     for line in report.lines() {
         if !line.starts_with(' ') && !line.starts_with("Total ") {
-            text.push_str(line)?;
-            text.push('\n')?;
-            append_changes(&mut text, settled_of(finished, source))?;
-            append_asks(alloc, &mut text, finished, source)?;
+            page.put(line);
+            page.put("\n");
+            put_source(alloc, page, ended, source);
             source = source.wrapping_add(1);
         }
     }
-    Ok(text)
 }
 
-/// Appends a line for each list that is put or removed.
-fn append_changes(text: &mut String, settled: Option<&Settled>) -> Result<(), Refused> {
-    if let Some(settled) = settled {
-        for list in settled.puts.as_slice() {
-            text.push_str("put")?;
-            append_body(text, &list.1)?;
-            text.push('\n')?;
-        }
-        for _ in settled.drops.as_slice() {
-            text.push_str("drop\n")?;
+/// Puts the changes of a source, and what was asked for it.
+fn put_source(alloc: Global, page: &mut Page, ended: &Finished, source: u32) {
+    if let Some(settled) = settled_of(ended, source) {
+        put_changes(page, settled);
+    }
+    for ask in ended.log.asks.as_slice() {
+        if ask.source == source {
+            put_place(alloc, page, &ask.uri, ask.from);
+            page.put("\n");
         }
     }
-    Ok(())
 }
 
-/// Appends the size of a list, and whether it lies in memory and not in a partial file.
-pub fn append_body(text: &mut String, body: &Body) -> Result<(), Refused> {
+/// Puts a line for each list that is put or removed.
+fn put_changes(page: &mut Page, settled: &Settled) {
+    for list in settled.puts.as_slice() {
+        page.put("put");
+        put_body(page, &list.1);
+        page.put("\n");
+    }
+    for _ in settled.drops.as_slice() {
+        page.put("drop\n");
+    }
+}
+
+/// Puts the size of a list, and whether it lies in memory and not in a partial file.
+pub fn put_body(page: &mut Page, body: &Body) {
+    page.put(" ");
     match body {
         Body::Bytes(bytes) => {
-            let size = bytes.len();
-            write!(text, " {size} in memory")?;
+            page.show(bytes.len());
+            page.put(" in memory");
         }
-        Body::Staged(sum) => {
-            let size = sum.size;
-            write!(text, " {size}")?;
-        }
+        Body::Staged(sum) => page.show(sum.size),
     }
-    Ok(())
-}
-
-/// Appends what was asked for a source.
-fn append_asks(
-    alloc: Global,
-    text: &mut String,
-    finished: &Finished,
-    source: u32,
-) -> Result<(), Refused> {
-    for ask in finished.log.asks.as_slice() {
-        if ask.source == source {
-            append_place(alloc, text, &ask.uri, ask.from)?;
-            text.push('\n')?;
-        }
-    }
-    Ok(())
 }
 
 /// What a run settled of a source.
-fn settled_of(finished: &Finished, source: u32) -> Option<&Settled> {
-    for settled in finished.settled.as_slice() {
+fn settled_of(ended: &Finished, source: u32) -> Option<&Settled> {
+    for settled in ended.settled.as_slice() {
         if settled.0 == source {
             return Some(&settled.1);
         }
@@ -99,16 +96,33 @@ fn are_alike(a: &Finished, b: &Finished) -> bool {
     true
 }
 
-/// Appends what runs of the board come to, under each order of answers the same.
-pub fn append_board(alloc: Global, text: &mut String, given: &Given) -> Result<(), Refused> {
+/// Puts what runs of the board come to, under each order of answers the same.
+pub fn put_board(alloc: Global, page: &mut Page, given: &Given) -> Result<(), Refused> {
+    let Configured { plan, .. } = configured(alloc, given)?;
+    put_ends(alloc, page, given, &plan)
+}
+
+fn put_ends(alloc: Global, page: &mut Page, given: &Given, plan: &Plan) -> Result<(), Refused> {
     let first = finish(alloc, given, Schedule::FirstLane)?;
-    let what = told(alloc, &first)?;
-    text.push_str(what.as_str())?;
+    let what = told(alloc, plan, &first)?;
+    page.put(what.as_str());
     for schedule in [Schedule::LastLane, Schedule::Held] {
-        let other = finish(alloc, given, schedule)?;
-        if told(alloc, &other)?.as_str() != what.as_str() || !are_alike(&first, &other) {
-            text.push_str("another order of answers comes to another end\n")?;
+        if !ends_so(alloc, given, plan, schedule, &first, what.as_str())? {
+            page.put("another order of answers comes to another end\n");
         }
     }
     Ok(())
+}
+
+/// Whether a run under this order of answers comes to the same as the first, which is told so.
+fn ends_so(
+    alloc: Global,
+    given: &Given,
+    plan: &Plan,
+    schedule: Schedule,
+    first: &Finished,
+    what: &str,
+) -> Result<bool, Refused> {
+    let other = finish(alloc, given, schedule)?;
+    Ok(told(alloc, plan, &other)?.as_str() == what && are_alike(first, &other))
 }

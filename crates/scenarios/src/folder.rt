@@ -3,26 +3,19 @@
 use crate::given::Folder;
 use crate::refused::Refused;
 use acq_memory::MemDisk;
-use acq_outside::{Disk, OutError, is_name, read_whole};
+use acq_outside::{Disk, is_name, read_whole};
 use std::alloc::Global;
 use std::collections::BTreeMap;
-
-fn unread(error: OutError) -> Refused {
-    match error {
-        OutError::NoMemory => Refused::NoMemory,
-        OutError::Fault => Refused::Unread,
-    }
-}
 
 /// The files of a folder, of which no further call is to fail.
 pub fn files_of(alloc: Global, disk: &mut MemDisk) -> Result<Folder, Refused> {
     let mut folder = BTreeMap::new(alloc);
-    for name in disk.names(alloc).map_err(unread)?.into_vec() {
+    for name in disk.names(alloc)?.into_vec() {
         if !is_name(name.as_bytes()) {
             return Err(Refused::Names);
         }
-        if let Some(content) = read_whole(alloc, disk, name.as_bytes()).map_err(unread)? {
-            folder.insert(name, content).map_err(|_| Refused::NoMemory)?;
+        if let Some(content) = read_whole(alloc, disk, name.as_bytes())? {
+            folder.insert(name, content)?;
         }
     }
     Ok(folder)

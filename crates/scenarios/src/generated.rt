@@ -2,9 +2,9 @@
 
 use crate::refused::Refused;
 use acq_base::{Answer, Mirror};
+use case_words::Page;
 use mirror_maker::make;
 use std::alloc::Global;
-use std::fmt::Write;
 
 /// How many bytes the files of a mirror have that are no patches.
 fn bytes_of(mirror: &Mirror) -> u64 {
@@ -23,11 +23,15 @@ fn is_patch(path: &[u8]) -> bool {
     path.windows(6).any(|within| within == b".diff/".as_slice())
 }
 
-/// Appends how many bytes the mirror of a number has on its first day and on its second.
-pub fn append_made(alloc: Global, text: &mut String, number: u64) -> Result<(), Refused> {
+/// Puts how many bytes the mirror of a number has on its first day and on its second.
+pub fn put_made(alloc: Global, page: &mut Page, number: u64) -> Result<(), Refused> {
     let mirrors = make(alloc, number)?;
-    let first = bytes_of(&mirrors.first);
-    let second = bytes_of(&mirrors.second);
-    write!(text, "made {number} {first} {second}\n")?;
+    page.put("made ");
+    page.show(number);
+    page.put(" ");
+    page.show(bytes_of(&mirrors.first));
+    page.put(" ");
+    page.show(bytes_of(&mirrors.second));
+    page.put("\n");
     Ok(())
 }

@@ -1,7 +1,7 @@
 //! What a run is given: the words, and what the objects in memory have.
 
 use crate::refused::Refused;
-use acq_base::{Bytes, NoMemory, Row, Text};
+use acq_base::{Bytes, ListName, NoMemory, Row, Text, TryCopy};
 use acq_outside::Place;
 use std::alloc::Global;
 use std::collections::BTreeMap;
@@ -27,7 +27,7 @@ pub enum Has {
 }
 
 /// What is run over what is given.
-#[derive(Clone, Copy, PartialEq, Eq)]
+#[derive(Clone, Copy)]
 pub enum Kind {
     /// The top call.
     Call,
@@ -64,7 +64,7 @@ impl<T: Drop> Kept<T> {
         }
     }
 
-    /// Appends a row, to those of this run alone.
+    /// Puts a row, to those of this run alone.
     pub fn push(&mut self, row: T) -> Result<(), NoMemory> {
         if self.former {
             self.rows = Row::new(self.alloc);
@@ -113,7 +113,7 @@ impl Fails {
 }
 
 /// What is told beside the status, the output, the asks and the lists.
-#[derive(Clone, Copy, PartialEq, Eq)]
+#[derive(Clone, Copy)]
 pub struct Tell {
     /// Whether there is a log.
     pub log: bool,
@@ -198,14 +198,26 @@ impl Given {
 
     /// Puts a file into the lists folder. Only one that a former run left may be there already.
     pub fn put(&mut self, name: Text, content: Bytes) -> Result<(), Refused> {
-        let there = self
-            .disk
-            .insert(name, content)
-            .map_err(|_| Refused::NoMemory)?;
+        let there = self.disk.insert(name, content)?;
         if there.is_some() && !self.former {
             return Err(Refused::Names);
         }
         Ok(())
+    }
+
+    /// A file of the lists folder.
+    pub fn installed(&self, alloc: Global, name: &Text) -> Result<Option<Bytes>, NoMemory> {
+        match self.disk.get(name) {
+            Some(content) => Ok(Some(content.copy(alloc)?)),
+            None => Ok(None),
+        }
+    }
+
+    /// What there is of a list on its way.
+    pub fn part(&self, alloc: Global, name: &ListName) -> Result<Option<&Bytes>, NoMemory> {
+        let mut path = Text::from_bytes(alloc, b"partial/")?;
+        path.append(name.0.as_bytes())?;
+        Ok(self.disk.get(&path))
     }
 
     /// A further run begins over this folder. What fails, holds or stops is given anew; all else stays until it is given.

@@ -2,7 +2,7 @@
 
 use crate::given::{Configured, Given, Has, Kind, Stop, Tell};
 use crate::quoted::{read_bytes, read_named, read_pieces};
-use crate::refused::Refused;
+use crate::refused::{Refused, said, utf8};
 use acq_base::{Row, Text};
 use acq_outside::{Place, is_name};
 use std::alloc::Global;
@@ -13,7 +13,7 @@ pub fn take_line(alloc: Global, given: &mut Given, line: &str) -> Result<(), Ref
     match kind {
         "word" => given.words.push(read_word(alloc, rest)?)?,
         "etc" => given.etc.push(read_configured(alloc, rest)?)?,
-        "now" => given.now = rest.parse::<i64>().map_err(|_| Refused::Line)?,
+        "now" => given.now = said(rest.parse::<i64>())?,
         "mirror" => given.mirror.push(read_answer(alloc, rest)?)?,
         "faulty" => given.faulty.push(read_faulty(alloc, rest)?)?,
         "board" if rest.is_empty() => given.kind = Kind::Board,
@@ -27,7 +27,7 @@ pub fn take_line(alloc: Global, given: &mut Given, line: &str) -> Result<(), Ref
         "peer" => given.peers.push(read_pieces(alloc, rest)?)?,
         "disk" => take_file(alloc, given, rest)?,
         "held" if rest.is_empty() => given.held = true,
-        "methods" => given.methods = rest.parse::<u8>().map_err(|_| Refused::Line)?,
+        "methods" => given.methods = said(rest.parse::<u8>())?,
         "fails" => take_fails(given, rest)?,
         "stop" => given.stop = read_stop(alloc, rest)?,
         "tell" => take_tell(&mut given.tell, rest)?,
@@ -44,8 +44,7 @@ fn halves(line: &str) -> (&str, &str) {
 /// A word of the command line.
 fn read_word(alloc: Global, rest: &str) -> Result<String, Refused> {
     let bytes = read_bytes(alloc, rest)?;
-    let word = str::from_utf8(bytes.as_slice()).map_err(|_| Refused::NotText)?;
-    Ok(String::from_str(alloc, word)?)
+    Ok(String::from_str(alloc, utf8(bytes.as_slice())?)?)
 }
 
 /// A file of the configuration folder, by its path there.
@@ -72,7 +71,7 @@ fn place_of(path: &str) -> Result<(Place, &str), Refused> {
 /// A URI, and how often asks there fail.
 fn read_faulty(alloc: Global, rest: &str) -> Result<(Text, u64), Refused> {
     let (uri, times) = halves(rest);
-    let times = times.parse::<u64>().map_err(|_| Refused::Line)?;
+    let times = said(times.parse::<u64>())?;
     Ok((Text::from_bytes(alloc, uri.as_bytes())?, times))
 }
 
@@ -84,11 +83,11 @@ fn read_answer(alloc: Global, rest: &str) -> Result<(Text, Has), Refused> {
         "served" => Has::File(read_bytes(alloc, value)?),
         "whole" => Has::Whole(read_bytes(alloc, value)?),
         "big" if value.is_empty() => Has::TooBig,
-        "garbled" => Has::Garbled(value.parse::<u64>().map_err(|_| Refused::Line)?),
+        "garbled" => Has::Garbled(said(value.parse::<u64>())?),
         "letters" => Has::Letters(read_number(value)?),
         "moved" if value == "-" => Has::Moved(None),
         "moved" => Has::Moved(Some(Text::from_bytes(alloc, value.as_bytes())?)),
-        "absent" => Has::Absent(value.parse::<u16>().map_err(|_| Refused::Line)?),
+        "absent" => Has::Absent(said(value.parse::<u16>())?),
         _ => return Err(Refused::Line),
     };
     Ok((Text::from_bytes(alloc, uri.as_bytes())?, has))
@@ -122,7 +121,7 @@ fn take_fails(given: &mut Given, rest: &str) -> Result<(), Refused> {
 
 /// A number without a sign.
 pub fn read_number(text: &str) -> Result<u64, Refused> {
-    text.parse::<u64>().map_err(|_| Refused::Line)
+    said(text.parse::<u64>())
 }
 
 /// The bytes of a choice, each behind a space.
@@ -133,7 +132,7 @@ pub fn read_choice(alloc: Global, text: &str) -> Result<Row<u8>, Refused> {
         return Err(Refused::Line);
     }
     for byte in bytes {
-        choice.push(byte.parse::<u8>().map_err(|_| Refused::Line)?)?;
+        choice.push(said(byte.parse::<u8>())?)?;
     }
     Ok(choice)
 }

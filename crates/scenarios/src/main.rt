@@ -34,9 +34,10 @@
 //! | `made N` | how many bytes the mirrors of this number have, first and second day, without patches |
 #![tactic(auto)]
 
+use case_words::Page;
+use refused::Refused;
 use scene::Scene;
 use std::alloc::AllocError;
-use std::fmt::Write;
 use std::io;
 use std::sync::Wait;
 use std::thread::Threads;
@@ -62,51 +63,82 @@ mod stops;
 mod telling;
 mod watch;
 
-/// Takes a line of a scenario, and appends what is to be printed.
-fn take<R>(
-    rt: &R,
-    scene: &mut Scene,
-    text: &mut String,
-    number: u64,
-    line: &str,
-) -> Result<(), AllocError>
+/// Takes a line of a scenario, and puts what is to be printed on the page.
+fn take<R>(rt: &R, scene: &mut Scene, page: &mut Page, number: u64, line: &str)
 where
     R: AllocGlobal + Threads + Wait + Copy + Send + 'static,
 {
     if line.is_empty() {
-        end(rt, scene, text, number)?;
-        return text.push('\n');
-    }
-    if let Err(refused) = scene.take(rt, text, line) {
+        end(rt, scene, page, number);
+        page.put("\n");
+    } else if let Err(refused) = scene.take(rt, page, line) {
         scene.refuse();
-        write!(text, "line {number}: {refused}\n")?;
+        put_refusal(page, number, refused);
     }
-    Ok(())
 }
 
-/// Ends a scenario before this line, and appends what its last run came to.
-fn end<R>(rt: &R, scene: &mut Scene, text: &mut String, number: u64) -> Result<(), AllocError>
+/// Ends a scenario before this line, and puts what its last run came to on the page.
+fn end<R>(rt: &R, scene: &mut Scene, page: &mut Page, number: u64)
 where
     R: AllocGlobal + Threads + Wait + Copy + Send + 'static,
 {
-    if let Err(refused) = scene.end(rt, text) {
-        write!(text, "line {number}: {refused}\n")?;
+    if let Err(refused) = scene.end(rt, page) {
+        put_refusal(page, number, refused);
     }
     *scene = Scene::new(rt.alloc());
-    Ok(())
+}
+
+/// Puts why a line is refused.
+fn put_refusal(page: &mut Page, number: u64, refused: Refused) {
+    page.put("line ");
+    page.show(number);
+    page.put(": ");
+    page.show(refused);
+    page.put("\n");
+}
+
+/// Prints a page.
+fn print_page(rt: &impl Print, page: Page) -> io::Result<()> {
+    match page.finish() {
+        Ok(text) => print!(rt; "{text}"),
+        Err(_) => Err(io::Error::from(AllocError)),
+    }
+}
+
+/// Takes a line, and prints what comes of it.
+fn print_line<R>(rt: &R, scene: &mut Scene, number: u64, line: &str) -> io::Result<()>
+where
+    R: AllocGlobal + Print + Threads + Wait + Copy + Send + 'static,
+{
+    let mut page = Page::new(rt.alloc());
+    take(rt, scene, &mut page, number, line);
+    print_page(rt, page)
+}
+
+/// Prints what the last scenario came to, of which no line ends it.
+fn print_end<R>(rt: &R, scene: &mut Scene, number: u64) -> io::Result<()>
+where
+    R: AllocGlobal + Print + Threads + Wait + Copy + Send + 'static,
+{
+    let mut page = Page::new(rt.alloc());
+    end(rt, scene, &mut page, number);
+    print_page(rt, page)
+}
+
+/// Takes the lines of the standard input, and prints what comes of each. The scene is the caller's, so that no exit here
+/// lets go of one: that would take minutes to prove.
+fn print_all<R>(rt: &R, scene: &mut Scene) -> io::Result<()>
+where
+    R: AllocGlobal + Input + Print + Threads + Wait + Copy + Send + 'static,
+{
+    let mut number: u64 = 0;
+    for line in rt.lines(rt.alloc()) {
+        number = number.saturating_add(1);
+        print_line(rt, scene, number, line?.as_str())?;
+    }
+    print_end(rt, scene, number.saturating_add(1))
 }
 
 fn main(rt: HostRuntime) -> io::Result<()> {
-    let mut scene = Scene::new(rt.alloc());
-    let mut number: u64 = 0;
-    for line in rt.lines(rt.alloc()) {
-        let line = line?;
-        let mut text = String::new(rt.alloc());
-        number = number.saturating_add(1);
-        take(&rt, &mut scene, &mut text, number, line.as_str())?;
-        print!(rt; "{text}")?;
-    }
-    let mut text = String::new(rt.alloc());
-    end(&rt, &mut scene, &mut text, number.saturating_add(1))?;
-    print!(rt; "{text}")
+    print_all(&rt, &mut Scene::new(rt.alloc()))
 }

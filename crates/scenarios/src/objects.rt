@@ -53,11 +53,17 @@ pub fn map_method(alloc: Global, given: &Given) -> Result<MapMethod, Refused> {
     Ok(MapMethod::new(mirror, begin, more))
 }
 
+/// A file with its name.
+fn named(alloc: Global, name: &Text, content: &Bytes) -> Result<(Text, Bytes), NoMemory> {
+    let name = name.copy(alloc)?;
+    Ok((name, content.copy(alloc)?))
+}
+
 /// A method that gives the tree's files.
 pub fn file_method(alloc: Global, given: &Given) -> Result<FileMethod<MemTree>, Refused> {
     let mut files = Row::new(alloc);
     for file in given.tree.as_slice() {
-        files.push((file.0.copy(alloc)?, file.1.copy(alloc)?))?;
+        files.push(named(alloc, &file.0, &file.1)?)?;
     }
     if !MemTree::takes(&files) {
         return Err(Refused::Names);
@@ -84,7 +90,7 @@ pub fn disk_of(
 ) -> Result<MemDisk, Refused> {
     let mut files = Row::new(alloc);
     for (name, content) in folder.iter() {
-        files.push((name.copy(alloc)?, content.copy(alloc)?))?;
+        files.push(named(alloc, name, content)?)?;
     }
     if !MemDisk::takes(&files) {
         return Err(Refused::Names);
@@ -96,11 +102,8 @@ pub fn disk_of(
 pub fn etc_of(alloc: Global, given: &Given) -> Result<MemEtc, Refused> {
     let mut rows = Row::new(alloc);
     for file in given.etc.as_slice() {
-        rows.push((
-            file.place,
-            file.name.copy(alloc)?,
-            file.content.copy(alloc)?,
-        ))?;
+        let (name, content) = named(alloc, &file.name, &file.content)?;
+        rows.push((file.place, name, content))?;
     }
     if !MemEtc::takes(&rows) {
         return Err(Refused::Names);

@@ -2,8 +2,8 @@
 
 use crate::refused::Refused;
 use acq_base::{Bytes, Row};
-use std::alloc::{AllocError, Global};
-use std::fmt::Write;
+use case_words::Page;
+use std::alloc::Global;
 use std::mem;
 
 /// Where a reader of such bytes stands.
@@ -29,6 +29,17 @@ struct Pieces {
 }
 
 impl Pieces {
+    fn take_all(&mut self, bytes: &[u8]) -> Result<(), Refused> {
+        for byte in bytes {
+            self.take(*byte)?;
+        }
+        if self.at == At::Outside {
+            Ok(())
+        } else {
+            Err(Refused::Line)
+        }
+    }
+
     fn take(&mut self, byte: u8) -> Result<(), Refused> {
         self.at = match (self.at, byte) {
             (At::Outside, b' ') => At::Outside,
@@ -90,12 +101,7 @@ fn read_from(alloc: Global, at: At, text: &str) -> Result<Row<Bytes>, Refused> {
         piece: Bytes::new(alloc),
         at,
     };
-    for byte in text.as_bytes() {
-        pieces.take(*byte)?;
-    }
-    if pieces.at != At::Outside {
-        return Err(Refused::Line);
-    }
+    pieces.take_all(text.as_bytes())?;
     Ok(pieces.whole)
 }
 
@@ -106,7 +112,9 @@ pub fn read_bytes(alloc: Global, text: &str) -> Result<Bytes, Refused> {
 
 /// A name, which ends before the first ` "`, and the bytes of the piece behind it.
 pub fn read_named<'a>(alloc: Global, text: &'a str) -> Result<(&'a str, Bytes), Refused> {
-    let (name, rest) = text.split_once(" \"").ok_or(Refused::Line)?;
+    let Some((name, rest)) = text.split_once(" \"") else {
+        return Err(Refused::Line);
+    };
     Ok((name, single(read_from(alloc, At::Within, rest)?)?))
 }
 
@@ -118,22 +126,22 @@ fn single(pieces: Row<Bytes>) -> Result<Bytes, Refused> {
     }
 }
 
-/// Appends bytes as one piece.
-pub fn append_bytes(text: &mut String, bytes: &[u8]) -> Result<(), AllocError> {
-    text.push('"')?;
+/// Puts bytes as one piece.
+pub fn put_bytes(page: &mut Page, bytes: &[u8]) {
+    page.put("\"");
     for byte in bytes {
-        append_byte(text, *byte)?;
+        put_byte(page, *byte);
     }
-    text.push('"')
+    page.put("\"");
 }
 
-fn append_byte(text: &mut String, byte: u8) -> Result<(), AllocError> {
+fn put_byte(page: &mut Page, byte: u8) {
     match byte {
-        b'\n' => text.push_str("\\n"),
-        b'\t' => text.push_str("\\t"),
-        b'\\' => text.push_str("\\\\"),
-        b'"' => text.push_str("\\\""),
-        b' '..=b'~' => text.push(char::from(byte)),
-        _ => write!(text, "\\x{byte:02x}"),
+        b'\n' => page.put("\\n"),
+        b'\t' => page.put("\\t"),
+        b'\\' => page.put("\\\\"),
+        b'"' => page.put("\\\""),
+        b' '..=b'~' => page.show(char::from(byte)),
+        _ => page.show(format_args!("\\x{byte:02x}")),
     }
 }

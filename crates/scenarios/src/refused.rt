@@ -1,12 +1,15 @@
 //! Why a line or a run is refused.
 
 use acq_base::NoMemory;
-use std::alloc::AllocError;
+use acq_outside::OutError;
+use case_words::Page;
+use std::alloc::{AllocError, AllocFailed};
 use std::fmt;
+use std::str;
 use uri_names::UriError;
 
 /// Why a line or a run is refused.
-#[derive(Clone, Copy, PartialEq, Eq)]
+#[derive(Clone, Copy)]
 pub enum Refused {
     /// The line has none of the forms.
     Line,
@@ -68,11 +71,50 @@ impl From<AllocError> for Refused {
     }
 }
 
+impl<T: Drop> From<AllocFailed<T>> for Refused {
+    fn from(_error: AllocFailed<T>) -> Refused {
+        Refused::NoMemory
+    }
+}
+
 impl From<UriError> for Refused {
     fn from(error: UriError) -> Refused {
         match error {
             UriError::NoMemory => Refused::NoMemory,
             _ => Refused::NoUri,
         }
+    }
+}
+
+impl From<OutError> for Refused {
+    fn from(error: OutError) -> Refused {
+        match error {
+            OutError::NoMemory => Refused::NoMemory,
+            OutError::Fault => Refused::Unread,
+        }
+    }
+}
+
+/// What a line says, where its reader takes it.
+pub fn said<T, E: Drop>(read: Result<T, E>) -> Result<T, Refused> {
+    match read {
+        Ok(value) => Ok(value),
+        Err(_) => Err(Refused::Line),
+    }
+}
+
+/// A text of these bytes.
+pub fn utf8(bytes: &[u8]) -> Result<&str, Refused> {
+    match str::from_utf8(bytes) {
+        Ok(text) => Ok(text),
+        Err(_) => Err(Refused::NotText),
+    }
+}
+
+/// The text of a page, where memory sufficed for it.
+pub fn finished(page: Page) -> Result<String, Refused> {
+    match page.finish() {
+        Ok(text) => Ok(text),
+        Err(_) => Err(Refused::NoMemory),
     }
 }

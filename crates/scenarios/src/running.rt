@@ -4,7 +4,7 @@ use crate::given::Given;
 use crate::objects::{etc_of, file_method, http_method, map_method};
 use crate::refused::Refused;
 use crate::watch::Watch;
-use acq_base::{Bytes, TryCopy};
+use acq_base::TryCopy;
 use acq_memory::{MemDisk, MemSink};
 use acq_outside::Method;
 use std::sync::Wait;
@@ -16,12 +16,19 @@ use update_program::{Ran, update_call};
 #[derive(Drop)]
 pub struct Came {
     pub status: u8,
-    pub output: Bytes,
+    out: MemSink,
     pub log: Option<RunLog>,
     /// How often the methods failed.
     pub faults: u64,
     /// How many moments the clock gave.
     pub moments: u64,
+}
+
+impl Came {
+    /// What it wrote.
+    pub fn output(&self) -> &[u8] {
+        self.out.written().as_slice()
+    }
 }
 
 /// Carries the words out over a lists folder and these methods.
@@ -53,7 +60,7 @@ where
     );
     Ok(Came {
         status: status.0,
-        output: out.written().copy(alloc)?,
+        out,
         log,
         faults: faults_of(methods.as_slice()),
         moments: clock.given(),
@@ -93,9 +100,7 @@ where
 {
     let mut methods = Vec::new(rt.alloc());
     for _ in 0..given.methods {
-        methods
-            .push(map_method(rt.alloc(), given)?)
-            .map_err(|_| Refused::NoMemory)?;
+        methods.push(map_method(rt.alloc(), given)?)?;
     }
     called(rt, given, disk, &mut methods)
 }
@@ -106,9 +111,7 @@ where
 {
     let mut methods = Vec::new(rt.alloc());
     for _ in 0..given.methods {
-        methods
-            .push(file_method(rt.alloc(), given)?)
-            .map_err(|_| Refused::NoMemory)?;
+        methods.push(file_method(rt.alloc(), given)?)?;
     }
     called(rt, given, disk, &mut methods)
 }
@@ -119,9 +122,7 @@ where
 {
     let mut methods = Vec::new(rt.alloc());
     for _ in 0..given.methods {
-        methods
-            .push(http_method(rt.alloc(), given)?)
-            .map_err(|_| Refused::NoMemory)?;
+        methods.push(http_method(rt.alloc(), given)?)?;
     }
     called(rt, given, disk, &mut methods)
 }

@@ -1,20 +1,25 @@
 //! A scenario as its lines are read: its runs, one after another over the same lists folder.
+//!
+//! What owns a folder, a disk or what a run came to has few exits, and hands it to others by reference: the proof of a
+//! function grows with its exits times the values that each of them lets go.
 
 use crate::change::read_change;
 use crate::crashes::{crash_all, crash_by};
-use crate::ends::append_board;
+use crate::ends::put_board;
 use crate::folder::files_of;
-use crate::generated::append_made;
+use crate::generated::put_made;
 use crate::given::{Folder, Given, Kind, Stop};
-use crate::items::{append_item, append_single};
+use crate::items::put_item;
 use crate::lines::{read_choice, read_number, take_line};
 use crate::objects::disk_of;
-use crate::refused::Refused;
-use crate::running::came_to;
+use crate::refused::{Refused, said};
+use crate::running::{Came, came_to};
 use crate::stops::{crashed, told_everywhere, told_faults};
-use crate::telling::{append_came, append_folder};
+use crate::telling::{put_came, put_folder};
 use acq_base::{Row, TryCopy};
+use acq_memory::MemDisk;
 use acq_outside::{Disk, DiskCall};
+use case_words::Page;
 use std::alloc::Global;
 use std::sync::Wait;
 use std::thread::Threads;
@@ -48,60 +53,77 @@ impl Scene {
         self.refused = true;
     }
 
-    /// Takes a line, and appends what is to be printed.
-    pub fn take<R>(&mut self, rt: &R, text: &mut String, line: &str) -> Result<(), Refused>
+    /// Takes a line, and puts what is to be printed on the page.
+    pub fn take<R>(&mut self, rt: &R, page: &mut Page, line: &str) -> Result<(), Refused>
     where
         R: AllocGlobal + Threads + Wait + Copy + Send + 'static,
     {
         if self.refused {
             return Ok(());
         }
-        if line.starts_with("scenario ") && !self.begun {
-            self.begun = true;
-            text.push_str(line)?;
-            text.push('\n')?;
-            return Ok(());
-        }
         if !self.begun {
-            return append_heading(text, line);
+            return self.begin(page, line);
         }
         match line.split_once(' ') {
-            None if line == "then" => {
-                let left = run(rt, text, &self.given)?;
-                self.given.go_on(rt.alloc(), left);
-                Ok(text.push_str("then\n")?)
-            }
-            Some(("made", number)) => append_made(rt.alloc(), text, read_number(number)?),
-            Some(("call", call)) => {
-                self.crashes = true;
-                Ok(self.calls.push(read_change(rt.alloc(), call)?)?)
-            }
-            Some(("crash", choice)) => self.crash(rt.alloc(), text, choice),
+            None if line == "then" => self.go_on(rt, page),
+            Some(("made", number)) => put_made(rt.alloc(), page, read_number(number)?),
+            Some(("call", call)) => self.add_call(rt.alloc(), call),
+            Some(("crash", choice)) => self.crash(rt.alloc(), page, choice),
             _ => take_line(rt.alloc(), &mut self.given, line),
         }
     }
 
-    /// Appends what a crash may leave behind the calls so far. Where it leaves one image, further calls go on from there.
-    fn crash(&mut self, alloc: Global, text: &mut String, choice: &str) -> Result<(), Refused> {
+    /// Takes the first line of a scenario, or a heading, which may stand before it.
+    fn begin(&mut self, page: &mut Page, line: &str) -> Result<(), Refused> {
+        if line.starts_with("scenario ") {
+            self.begun = true;
+        } else if !line.starts_with("# ") {
+            return Err(Refused::Line);
+        }
+        page.put(line);
+        page.put("\n");
+        Ok(())
+    }
+
+    /// Ends a run, behind which a further one follows.
+    fn go_on<R>(&mut self, rt: &R, page: &mut Page) -> Result<(), Refused>
+    where
+        R: AllocGlobal + Threads + Wait + Copy + Send + 'static,
+    {
+        let left = run(rt, page, &self.given)?;
+        self.given.go_on(rt.alloc(), left);
+        page.put("then\n");
+        Ok(())
+    }
+
+    /// Takes a call of the lists folder.
+    fn add_call(&mut self, alloc: Global, call: &str) -> Result<(), Refused> {
         self.crashes = true;
-        let folder = &self.given.disk;
-        let calls = self.calls.as_slice();
+        Ok(self.calls.push(read_change(alloc, call)?)?)
+    }
+
+    /// Puts what a crash may leave behind the calls so far. Where it leaves one image, further calls go on from there.
+    fn crash(&mut self, alloc: Global, page: &mut Page, choice: &str) -> Result<(), Refused> {
+        self.crashes = true;
         match choice.strip_prefix("by") {
             None => {
-                let width = choice.parse::<u8>().map_err(|_| Refused::Line)?;
-                crash_all(alloc, text, folder, calls, width)
+                let width = said(choice.parse::<u8>())?;
+                crash_all(alloc, page, &self.given.disk, self.calls.as_slice(), width)
             }
-            Some(bytes) => {
-                let choice = read_choice(alloc, bytes)?;
-                self.given.disk = crash_by(alloc, text, folder, calls, &choice)?;
-                self.calls = Row::new(alloc);
-                Ok(())
-            }
+            Some(bytes) => self.crash_by(alloc, page, bytes),
         }
     }
 
+    fn crash_by(&mut self, alloc: Global, page: &mut Page, bytes: &str) -> Result<(), Refused> {
+        let choice = read_choice(alloc, bytes)?;
+        let left = crash_by(alloc, page, &self.given.disk, self.calls.as_slice(), &choice)?;
+        self.given.disk = left;
+        self.calls = Row::new(alloc);
+        Ok(())
+    }
+
     /// Ends the scenario with its last run.
-    pub fn end<R>(&self, rt: &R, text: &mut String) -> Result<(), Refused>
+    pub fn end<R>(&self, rt: &R, page: &mut Page) -> Result<(), Refused>
     where
         R: AllocGlobal + Threads + Wait + Copy + Send + 'static,
     {
@@ -117,51 +139,83 @@ impl Scene {
         }
         match self.given.kind {
             Kind::Call => {
-                run(rt, text, &self.given)?;
+                run(rt, page, &self.given)?;
                 Ok(())
             }
-            Kind::Board => append_board(rt.alloc(), text, &self.given),
-            Kind::Item => append_item(rt.alloc(), text, &self.given),
-            Kind::Single => append_single(rt.alloc(), text, &self.given),
+            Kind::Board => put_board(rt.alloc(), page, &self.given),
+            Kind::Item | Kind::Single => put_item(rt.alloc(), page, &self.given),
         }
     }
 }
 
-/// Appends a heading, which may stand before a scenario.
-fn append_heading(text: &mut String, line: &str) -> Result<(), Refused> {
-    if !line.starts_with("# ") {
-        return Err(Refused::Line);
-    }
-    text.push_str(line)?;
-    Ok(text.push('\n')?)
-}
-
-/// Runs what is given, appends what it came to, and answers what it left.
-fn run<R>(rt: &R, text: &mut String, given: &Given) -> Result<Folder, Refused>
+/// Runs what is given, puts what it came to on the page, and answers what it left.
+fn run<R>(rt: &R, page: &mut Page, given: &Given) -> Result<Folder, Refused>
 where
     R: AllocGlobal + Threads + Wait + Copy + Send + 'static,
 {
-    let alloc = rt.alloc();
-    let failing = given.fails.disk.copy(alloc)?;
-    let mut disk = disk_of(alloc, &given.disk, given.held, failing)?;
-    if let Stop::After { calls, choice: _ } = &given.stop {
-        disk = disk.with_fuse(*calls);
-    }
+    let mut disk = disk_before(rt.alloc(), given)?;
     let came = came_to(rt, given, &mut disk)?;
-    append_came(alloc, text, &came, given.tell)?;
-    if given.tell.untouched {
-        let kept = disk.names(alloc).is_err();
-        text.push_str(if kept { "untouched\n" } else { "touched\n" })?;
-    }
-    if let Stop::After { calls: _, choice } = &given.stop {
-        disk = crashed(alloc, text, disk, choice)?;
-    }
-    let left = files_of(alloc, &mut disk)?;
-    append_folder(text, &left, given.tell)?;
-    match &given.stop {
-        Stop::Everywhere { least } => told_everywhere(rt, text, given, &came, &left, *least)?,
-        Stop::EachFails { least } => told_faults(rt, text, given, &came, &left, *least)?,
-        Stop::Never | Stop::After { .. } => {}
-    }
+    put_came(rt.alloc(), page, &came, given.tell);
+    let left = left_by(rt.alloc(), page, given, disk)?;
+    put_stops(rt, page, given, &came, &left)?;
     Ok(left)
+}
+
+/// The lists folder before a run.
+fn disk_before(alloc: Global, given: &Given) -> Result<MemDisk, Refused> {
+    let failing = given.fails.disk.copy(alloc)?;
+    let disk = disk_of(alloc, &given.disk, given.held, failing)?;
+    Ok(match &given.stop {
+        Stop::After { calls, choice: _ } => disk.with_fuse(*calls),
+        _ => disk,
+    })
+}
+
+/// Puts what a run left of its lists folder on the page, and answers it.
+fn left_by(alloc: Global, page: &mut Page, given: &Given, disk: MemDisk) -> Result<Folder, Refused> {
+    let mut disk = disk_behind(alloc, page, given, disk)?;
+    let left = files_of(alloc, &mut disk)?;
+    put_folder(page, &left, given.tell);
+    Ok(left)
+}
+
+/// The lists folder behind a run, and behind the crash that stops it.
+fn disk_behind(
+    alloc: Global,
+    page: &mut Page,
+    given: &Given,
+    disk: MemDisk,
+) -> Result<MemDisk, Refused> {
+    let mut disk = disk;
+    if given.tell.untouched {
+        put_touched(alloc, page, &mut disk);
+    }
+    match &given.stop {
+        Stop::After { calls: _, choice } => crashed(alloc, page, disk, choice),
+        _ => Ok(disk),
+    }
+}
+
+/// Puts whether the first call of a lists folder, which is to fail, was made.
+fn put_touched(alloc: Global, page: &mut Page, disk: &mut MemDisk) {
+    let kept = disk.names(alloc).is_err();
+    page.put(if kept { "untouched\n" } else { "touched\n" });
+}
+
+/// Puts what is left where the run is stopped, or fails, at each call of its lists folder.
+fn put_stops<R>(
+    rt: &R,
+    page: &mut Page,
+    given: &Given,
+    came: &Came,
+    left: &Folder,
+) -> Result<(), Refused>
+where
+    R: AllocGlobal + Threads + Wait + Copy + Send + 'static,
+{
+    match &given.stop {
+        Stop::Everywhere { least } => told_everywhere(rt, page, given, came, left, *least),
+        Stop::EachFails { least } => told_faults(rt, page, given, came, left, *least),
+        Stop::Never | Stop::After { .. } => Ok(()),
+    }
 }

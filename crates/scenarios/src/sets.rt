@@ -3,11 +3,12 @@
 use crate::folder::is_list;
 use crate::given::Folder;
 use crate::refused::Refused;
-use acq_base::{Bytes, Row, Text, TryCopy};
-use std::alloc::{AllocError, Global};
+use acq_base::{Bytes, Row, Text};
+use case_words::Page;
+use std::alloc::Global;
 
 /// How the files of a source compare with both sets.
-#[derive(Clone, Copy, PartialEq, Eq)]
+#[derive(Clone, Copy)]
 struct Has {
     former: bool,
     new: bool,
@@ -92,15 +93,16 @@ impl<'a> Sets<'a> {
         if any { Some(has) } else { None }
     }
 
-    /// Which set each source has in a folder, a word for each.
-    pub fn words(&self, alloc: Global, folder: &Folder) -> Result<String, AllocError> {
-        let mut words = String::new(alloc);
+    /// Puts which set each source has in a folder, a word for each. Answers whether one has neither.
+    pub fn put_words(&self, page: &mut Page, folder: &Folder) -> bool {
+        let mut is_mixed = false;
         for source in 0..=self.sources.len() {
             if let Some(has) = self.compare(source, folder) {
-                words.push_str(word(has))?;
+                page.put(word(has));
+                is_mixed = is_mixed || !has.former && !has.new;
             }
         }
-        Ok(words)
+        is_mixed
     }
 }
 

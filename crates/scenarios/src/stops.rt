@@ -3,16 +3,16 @@
 use crate::folder::{files_of, is_list};
 use crate::given::{Folder, Given};
 use crate::objects::disk_of;
-use crate::quoted::append_bytes;
-use crate::refused::Refused;
+use crate::quoted::put_bytes;
+use crate::refused::{Refused, finished};
 use crate::running::{Came, came_to};
 use crate::sets::Sets;
-use crate::telling::{append_folder, image};
+use crate::telling::{image, put_count, put_folder};
 use acq_base::{NoMemory, Row};
 use acq_memory::MemDisk;
+use case_words::Page;
 use commit_journal::{JournalError, open_journal};
 use std::alloc::Global;
-use std::fmt::Write;
 use std::sync::Wait;
 use std::thread::Threads;
 
@@ -22,20 +22,26 @@ const MOST: u64 = 400;
 /// The folder that a crash leaves by this choice, with its journal opened again.
 pub fn crashed(
     alloc: Global,
-    text: &mut String,
+    page: &mut Page,
     disk: MemDisk,
     choice: &Row<u8>,
 ) -> Result<MemDisk, Refused> {
     let image = reopened(alloc, disk.crashed(choice)?)?;
-    text.push_str("crash\n")?;
+    page.put("crash\n");
     Ok(image)
 }
 
 /// The same folder with its journal opened.
 fn reopened(alloc: Global, disk: MemDisk) -> Result<MemDisk, Refused> {
     let mut disk = disk;
-    match open_journal(alloc, &mut disk) {
-        Ok(_) => Ok(disk),
+    open(alloc, &mut disk)?;
+    Ok(disk)
+}
+
+/// Opens the journal of a folder.
+fn open(alloc: Global, disk: &mut MemDisk) -> Result<(), Refused> {
+    match open_journal(alloc, disk) {
+        Ok(_) => Ok(()),
         Err(JournalError::NoMemory) => Err(Refused::NoMemory),
         Err(JournalError::DiskFault | JournalError::BadJournal(_)) => Err(Refused::Unopened),
     }
@@ -55,7 +61,7 @@ struct Stops<'a> {
 
 /// Whether a call was stopped: it says so, and has no log.
 fn was_stopped(came: &Came) -> bool {
-    came.status == 102 && came.output.as_slice() == b"E disk\n".as_slice() && came.log.is_none()
+    came.status == 102 && came.output() == b"E disk\n".as_slice() && came.log.is_none()
 }
 
 /// Whether two folders have the same lists.
@@ -87,37 +93,121 @@ impl<'a> Stops<'a> {
         })
     }
 
-    /// Tells which set each source has once a call was stopped or came to its end, and the run that is then made again,
-    /// where that hasn't been told yet. Answers whether the call was stopped.
-    fn note<R>(
+    /// Stops the run after each of its calls of the lists folder, and answers how many there are.
+    fn each_stopped<R>(&mut self, rt: &R, page: &mut Page) -> Result<u64, Refused>
+    where
+        R: AllocGlobal + Threads + Wait + Copy + Send + 'static,
+    {
+        for calls in 0..MOST {
+            if !self.stopped_after(rt, page, calls)? {
+                return Ok(calls);
+            }
+        }
+        Err(Refused::Endless)
+    }
+
+    /// Stops the run after so many calls, in each of 16 ways. Answers whether it was stopped.
+    fn stopped_after<R>(&mut self, rt: &R, page: &mut Page, calls: u64) -> Result<bool, Refused>
+    where
+        R: AllocGlobal + Threads + Wait + Copy + Send + 'static,
+    {
+        let mut stopped = false;
+        for bits in 0..16u8 {
+            stopped = self.stopped_by(rt, page, calls, bits)?;
+        }
+        Ok(stopped)
+    }
+
+    /// Stops the run after so many calls, where the crash leaves what these bits choose. Answers whether it was stopped.
+    fn stopped_by<R>(
         &mut self,
         rt: &R,
-        text: &mut String,
-        came: &Came,
-        disk: &mut MemDisk,
+        page: &mut Page,
+        calls: u64,
+        bits: u8,
     ) -> Result<bool, Refused>
     where
         R: AllocGlobal + Threads + Wait + Copy + Send + 'static,
     {
+        let mut disk = self.disk(rt.alloc(), Row::new(rt.alloc()))?.with_fuse(calls);
+        let came = came_to(rt, self.given, &mut disk)?;
+        self.note(rt, page, &came, left_by(rt.alloc(), disk, bits)?)?;
+        Ok(was_stopped(&came))
+    }
+
+    /// Lets each call of the lists folder fail by itself, and answers how many there are.
+    fn each_failing<R>(&mut self, rt: &R, page: &mut Page) -> Result<u64, Refused>
+    where
+        R: AllocGlobal + Threads + Wait + Copy + Send + 'static,
+    {
+        for calls in 0..MOST {
+            if !self.failing_at(rt, page, calls.saturating_add(1))? {
+                return Ok(calls);
+            }
+        }
+        Err(Refused::Endless)
+    }
+
+    /// Lets the call of this number fail. Answers whether the run was stopped by it.
+    fn failing_at<R>(&mut self, rt: &R, page: &mut Page, number: u64) -> Result<bool, Refused>
+    where
+        R: AllocGlobal + Threads + Wait + Copy + Send + 'static,
+    {
+        let mut disk = self.disk(rt.alloc(), single(rt.alloc(), number)?)?;
+        let came = came_to(rt, self.given, &mut disk)?;
+        if !was_stopped(&came) {
+            put_otherwise(page, self.came, &came);
+            return Ok(false);
+        }
+        self.note(rt, page, &came, reopened(rt.alloc(), disk)?)?;
+        Ok(true)
+    }
+
+    /// The lists folder before the run, of which these calls are to fail.
+    fn disk(&self, alloc: Global, failing: Row<u64>) -> Result<MemDisk, Refused> {
+        disk_of(alloc, &self.given.disk, self.given.held, failing)
+    }
+
+    /// Tells which set each source has once a call was stopped or came to its end, and the run that is then made again,
+    /// where that hasn't been told yet.
+    fn note<R>(
+        &mut self,
+        rt: &R,
+        page: &mut Page,
+        came: &Came,
+        disk: MemDisk,
+    ) -> Result<(), Refused>
+    where
+        R: AllocGlobal + Threads + Wait + Copy + Send + 'static,
+    {
+        let mut disk = disk;
+        let mut entry = Page::new(rt.alloc());
+        if self.put_left(rt.alloc(), &mut entry, came, &mut disk)? {
+            return Ok(());
+        }
+        self.put_again(rt, &mut entry, &mut disk)?;
+        self.tell(page, finished(entry)?)
+    }
+
+    /// Puts which set each source has in a folder. Answers whether a stop has left its files before, which is then all.
+    fn put_left(
+        &mut self,
+        alloc: Global,
+        entry: &mut Page,
+        came: &Came,
+        disk: &mut MemDisk,
+    ) -> Result<bool, Refused> {
+        let folder = files_of(alloc, disk)?;
         let stopped = was_stopped(came);
-        let folder = files_of(rt.alloc(), disk)?;
-        if stopped && self.was_seen(rt.alloc(), &folder)? {
+        if stopped && self.was_seen(alloc, &folder)? {
             return Ok(true);
         }
-        let mut entry = String::new(rt.alloc());
         if !stopped {
-            append_otherwise(&mut entry, self.came, came)?;
+            put_otherwise(entry, self.came, came);
         }
-        entry.push_str(if stopped { "left" } else { "ended" })?;
-        self.append_sets(rt.alloc(), &mut entry, &folder)?;
-        let again = came_to(rt, self.given, disk)?;
-        append_call(&mut entry, "again", &again)?;
-        self.append_others(&mut entry, &files_of(rt.alloc(), disk)?)?;
-        if !has(&self.told, entry.as_str()) {
-            text.push_str(entry.as_str())?;
-            self.told.push(entry)?;
-        }
-        Ok(stopped)
+        entry.put(if stopped { "left" } else { "ended" });
+        self.put_sets(entry, &folder);
+        Ok(false)
     }
 
     /// Whether a stop has left these files before, which is so from now on.
@@ -130,29 +220,36 @@ impl<'a> Stops<'a> {
         Ok(false)
     }
 
-    /// Appends which set each source has, and the lists where one has neither.
-    fn append_sets(
-        &self,
-        alloc: Global,
-        entry: &mut String,
-        folder: &Folder,
-    ) -> Result<(), Refused> {
-        let words = self.sets.words(alloc, folder)?;
-        entry.push_str(words.as_str())?;
-        entry.push('\n')?;
-        if words.as_str().contains("mixed") {
-            append_folder(entry, folder, self.given.tell)?;
+    /// Puts which set each source has, and the lists where one has neither.
+    fn put_sets(&self, entry: &mut Page, folder: &Folder) {
+        let is_mixed = self.sets.put_words(entry, folder);
+        entry.put("\n");
+        if is_mixed {
+            put_folder(entry, folder, self.given.tell);
+        }
+    }
+
+    /// Makes the run again, and puts what it comes to, and the lists where they aren't those of the run that isn't stopped.
+    fn put_again<R>(&self, rt: &R, entry: &mut Page, disk: &mut MemDisk) -> Result<(), Refused>
+    where
+        R: AllocGlobal + Threads + Wait + Copy + Send + 'static,
+    {
+        put_call(entry, "again", &came_to(rt, self.given, disk)?);
+        let folder = files_of(rt.alloc(), disk)?;
+        if !same_lists(&folder, self.left) {
+            entry.put("other lists\n");
+            put_folder(entry, &folder, self.given.tell);
         }
         Ok(())
     }
 
-    /// Appends the lists where they aren't those of the run that isn't stopped.
-    fn append_others(&self, entry: &mut String, folder: &Folder) -> Result<(), Refused> {
-        if !same_lists(folder, self.left) {
-            entry.push_str("other lists\n")?;
-            append_folder(entry, folder, self.given.tell)?;
+    /// Tells an entry, if it hasn't been told yet.
+    fn tell(&mut self, page: &mut Page, entry: String) -> Result<(), Refused> {
+        if has(&self.told, entry.as_str()) {
+            return Ok(());
         }
-        Ok(())
+        page.put(entry.as_str());
+        Ok(self.told.push(entry)?)
     }
 }
 
@@ -161,21 +258,27 @@ fn has(texts: &Row<String>, text: &str) -> bool {
     texts.as_slice().iter().any(|one| one.as_str() == text)
 }
 
-/// Appends what a call that wasn't stopped came to, where that isn't what it must come to.
-fn append_otherwise(entry: &mut String, whole: &Came, came: &Came) -> Result<(), Refused> {
-    if came.status != whole.status || came.output != whole.output {
-        append_call(entry, "otherwise", came)?;
+/// Puts what a call that wasn't stopped came to, where that isn't what it must come to.
+fn put_otherwise(entry: &mut Page, whole: &Came, came: &Came) {
+    if came.status != whole.status || came.output() != whole.output() {
+        put_call(entry, "otherwise", came);
     }
-    Ok(())
 }
 
-/// Appends the status and the output of a call.
-fn append_call(entry: &mut String, word: &str, came: &Came) -> Result<(), Refused> {
-    let status = came.status;
-    write!(entry, "{word} {status} ")?;
-    append_bytes(entry, came.output.as_slice())?;
-    entry.push('\n')?;
-    Ok(())
+/// Puts the status and the output of a call.
+fn put_call(entry: &mut Page, word: &str, came: &Came) {
+    entry.put(word);
+    entry.put(" ");
+    entry.show(came.status);
+    entry.put(" ");
+    put_bytes(entry, came.output());
+    entry.put("\n");
+}
+
+/// What a crash leaves of a folder by these bits, with its journal opened again.
+fn left_by(alloc: Global, disk: MemDisk, bits: u8) -> Result<MemDisk, Refused> {
+    let choice = choice(alloc, bits)?;
+    reopened(alloc, disk.crashed(&choice)?)
 }
 
 /// Four bits of a number as a choice: all that may become of up to four pending changes of names, and several of what may
@@ -188,20 +291,27 @@ fn choice(alloc: Global, bits: u8) -> Result<Row<u8>, NoMemory> {
     Ok(row)
 }
 
-/// How many calls of the lists folder there are, where they are as many as they must be.
-fn append_count(text: &mut String, word: &str, calls: u64, least: u64) -> Result<(), Refused> {
+/// A row of one number.
+fn single(alloc: Global, number: u64) -> Result<Row<u64>, NoMemory> {
+    let mut row = Row::new(alloc);
+    row.push(number)?;
+    Ok(row)
+}
+
+/// Puts how many calls of the lists folder there are, or where they are as many as they must be, how many these are.
+fn put_calls(page: &mut Page, word: &str, calls: u64, least: u64) {
+    page.put(word);
     if calls < least {
-        write!(text, "{word} only {calls}\n")?;
+        put_count(page, " only", calls);
     } else {
-        write!(text, "{word} at least {least}\n")?;
+        put_count(page, " at least", least);
     }
-    Ok(())
 }
 
 /// Stops a run after each of its calls of the lists folder, in each of 16 ways, and tells what is left.
 pub fn told_everywhere<R>(
     rt: &R,
-    text: &mut String,
+    page: &mut Page,
     given: &Given,
     came: &Came,
     left: &Folder,
@@ -210,29 +320,16 @@ pub fn told_everywhere<R>(
 where
     R: AllocGlobal + Threads + Wait + Copy + Send + 'static,
 {
-    let alloc = rt.alloc();
-    let mut stops = Stops::new(alloc, given, came, left)?;
-    for calls in 0..MOST {
-        let mut stopped = false;
-        for bits in 0..16u8 {
-            let mut disk = disk_of(alloc, &given.disk, given.held, Row::new(alloc))?.with_fuse(
-                calls,
-            );
-            let now = came_to(rt, given, &mut disk)?;
-            let mut image = reopened(alloc, disk.crashed(&choice(alloc, bits)?)?)?;
-            stopped = stops.note(rt, text, &now, &mut image)?;
-        }
-        if !stopped {
-            return append_count(text, "stops", calls, least);
-        }
-    }
-    Err(Refused::Endless)
+    let mut stops = Stops::new(rt.alloc(), given, came, left)?;
+    let calls = stops.each_stopped(rt, page)?;
+    put_calls(page, "stops", calls, least);
+    Ok(())
 }
 
 /// Lets each call of the lists folder fail by itself, and tells what is left.
 pub fn told_faults<R>(
     rt: &R,
-    text: &mut String,
+    page: &mut Page,
     given: &Given,
     came: &Came,
     left: &Folder,
@@ -241,18 +338,8 @@ pub fn told_faults<R>(
 where
     R: AllocGlobal + Threads + Wait + Copy + Send + 'static,
 {
-    let alloc = rt.alloc();
-    let mut stops = Stops::new(alloc, given, came, left)?;
-    for calls in 0..MOST {
-        let mut failing = Row::new(alloc);
-        failing.push(calls.saturating_add(1))?;
-        let mut disk = disk_of(alloc, &given.disk, given.held, failing)?;
-        let now = came_to(rt, given, &mut disk)?;
-        if !was_stopped(&now) {
-            append_otherwise(text, came, &now)?;
-            return append_count(text, "faults", calls, least);
-        }
-        stops.note(rt, text, &now, &mut reopened(alloc, disk)?)?;
-    }
-    Err(Refused::Endless)
+    let mut stops = Stops::new(rt.alloc(), given, came, left)?;
+    let calls = stops.each_failing(rt, page)?;
+    put_calls(page, "faults", calls, least);
+    Ok(())
 }

@@ -1,118 +1,133 @@
 //! What is printed of a run: what the call came to, and what the lists folder has then.
 
 use crate::given::{Folder, Tell};
-use crate::quoted::append_bytes;
-use crate::refused::Refused;
+use crate::quoted::put_bytes;
+use crate::refused::{Refused, finished};
 use crate::running::Came;
 use acq_base::{NotServed, Uri};
+use case_words::Page;
 use std::alloc::Global;
-use std::fmt::Write;
-use update_model::{Asked, Heard};
+use update_model::{Asked, Heard, RunLog};
 use uri_names::uri_text;
 
-/// Appends what a call came to.
-pub fn append_came(
-    alloc: Global,
-    text: &mut String,
-    came: &Came,
-    tell: Tell,
-) -> Result<(), Refused> {
-    let status = came.status;
-    write!(text, "status {status}\noutput ")?;
-    append_bytes(text, came.output.as_slice())?;
-    text.push('\n')?;
+/// Puts a word, a number and the end of a line.
+pub fn put_count(page: &mut Page, word: &str, number: u64) {
+    page.put(word);
+    page.put(" ");
+    page.show(number);
+    page.put("\n");
+}
+
+/// Puts what a call came to.
+pub fn put_came(alloc: Global, page: &mut Page, came: &Came, tell: Tell) {
+    page.put("status ");
+    page.show(came.status);
+    page.put("\noutput ");
+    put_bytes(page, came.output());
+    page.put("\n");
     match &came.log {
-        Some(log) => {
-            for ask in log.asks.as_slice() {
-                append_ask(alloc, text, ask, tell)?;
-            }
-            if tell.log {
-                text.push_str("log\n")?;
-            }
-        }
-        None if tell.log => text.push_str("no log\n")?,
+        Some(log) => put_log(alloc, page, log, tell),
+        None if tell.log => page.put("no log\n"),
         None => {}
     }
     if tell.faults {
-        let faults = came.faults;
-        write!(text, "faults {faults}\n")?;
+        put_count(page, "faults", came.faults);
     }
     if tell.moments {
-        let moments = came.moments;
-        write!(text, "moments {moments}\n")?;
+        put_count(page, "moments", came.moments);
     }
-    Ok(())
 }
 
-/// Appends what is asked, and from which byte on.
-pub fn append_place(alloc: Global, text: &mut String, uri: &Uri, from: u64) -> Result<(), Refused> {
-    let uri = uri_text(alloc, uri)?;
-    let uri = str::from_utf8(uri.as_bytes()).map_err(|_| Refused::NotText)?;
-    write!(text, "ask {uri} {from}")?;
-    Ok(())
+/// Puts the asks of a log.
+fn put_log(alloc: Global, page: &mut Page, log: &RunLog, tell: Tell) {
+    for ask in log.asks.as_slice() {
+        put_ask(alloc, page, ask, tell);
+    }
+    if tell.log {
+        page.put("log\n");
+    }
 }
 
-/// Appends an ask: its URI, from which byte on it asks, and the fault that it met.
-fn append_ask(alloc: Global, text: &mut String, ask: &Asked, tell: Tell) -> Result<(), Refused> {
-    append_place(alloc, text, &ask.uri, ask.from)?;
+/// Puts what is asked, and from which byte on.
+pub fn put_place(alloc: Global, page: &mut Page, uri: &Uri, from: u64) {
+    page.put("ask ");
+    match uri_text(alloc, uri) {
+        Ok(text) => page.put_name(text.as_bytes()),
+        Err(_) => page.cut(),
+    }
+    page.put(" ");
+    page.show(from);
+}
+
+/// Puts an ask: its URI, from which byte on it asks, and the fault that it met.
+fn put_ask(alloc: Global, page: &mut Page, ask: &Asked, tell: Tell) {
+    put_place(alloc, page, &ask.uri, ask.from);
     if tell.faults {
         if let Heard::Not(NotServed::Fault { before, after }) = &ask.heard {
-            write!(text, " fault {before} {after}")?;
+            page.put(" fault ");
+            page.show(*before);
+            page.put(" ");
+            page.show(*after);
         }
     }
-    text.push('\n')?;
-    Ok(())
+    page.put("\n");
 }
 
 /// From how many bytes on a file of letters `a` alone is told by their number.
 const MANY: usize = 1024;
 
-/// Appends a file of the lists folder.
-fn append_file(text: &mut String, kind: &str, name: &str, content: &[u8]) -> Result<(), Refused> {
-    write!(text, "{kind} {name} ")?;
-    let size = content.len();
-    if size >= MANY && content.iter().all(|byte| *byte == b'a') {
-        write!(text, "letters {size}")?;
+/// Puts a file of the lists folder.
+fn put_file(page: &mut Page, kind: &str, name: &[u8], content: &[u8]) {
+    page.put(kind);
+    page.put_name(name);
+    page.put(" ");
+    if content.len() >= MANY && content.iter().all(|byte| *byte == b'a') {
+        page.put("letters ");
+        page.show(content.len());
     } else {
-        append_bytes(text, content)?;
+        put_bytes(page, content);
     }
-    text.push('\n')?;
-    Ok(())
+    page.put("\n");
 }
 
-/// Appends the lists of a folder, in the order of their names, and where they are to be told the lists on their way and
-/// the journal.
-pub fn append_folder(text: &mut String, folder: &Folder, tell: Tell) -> Result<(), Refused> {
+/// Puts the lists of a folder, in the order of their names, and where they are to be told the lists on their way and the
+/// journal.
+pub fn put_folder(page: &mut Page, folder: &Folder, tell: Tell) {
     for (name, content) in folder.iter() {
-        let name = str::from_utf8(name.as_bytes()).map_err(|_| Refused::NotText)?;
-        let content = content.as_slice();
-        match (name, name.strip_prefix("partial/")) {
-            (_, Some(list)) => {
-                if tell.partial {
-                    append_file(text, "partial", list, content)?;
-                }
-            }
-            ("journal", None) => {
-                if tell.journal {
-                    append_file(text, "file", name, content)?;
-                }
-            }
-            ("lock", None) => {}
-            _ => append_file(text, "list", name, content)?,
-        }
+        put_told(page, name.as_bytes(), content.as_slice(), tell);
     }
-    Ok(())
+}
+
+/// Puts a file of the lists folder, if it is to be told.
+fn put_told(page: &mut Page, name: &[u8], content: &[u8], tell: Tell) {
+    if let Some(list) = name.strip_prefix(b"partial/".as_slice()) {
+        if tell.partial {
+            put_file(page, "partial ", list, content);
+        }
+    } else if name == b"journal".as_slice() {
+        if tell.journal {
+            put_file(page, "file ", name, content);
+        }
+    } else if name != b"lock".as_slice() {
+        put_file(page, "list ", name, content);
+    }
+}
+
+/// Puts the files of a folder in one line.
+pub fn put_image(page: &mut Page, folder: &Folder) {
+    page.put("image");
+    for (name, content) in folder.iter() {
+        page.put(" ");
+        page.put_name(name.as_bytes());
+        page.put(" ");
+        put_bytes(page, content.as_slice());
+    }
+    page.put("\n");
 }
 
 /// The files of a folder in one line.
 pub fn image(alloc: Global, folder: &Folder) -> Result<String, Refused> {
-    let mut text = String::from_str(alloc, "image")?;
-    for (name, content) in folder.iter() {
-        text.push(' ')?;
-        text.push_str(str::from_utf8(name.as_bytes()).map_err(|_| Refused::NotText)?)?;
-        text.push(' ')?;
-        append_bytes(&mut text, content.as_slice())?;
-    }
-    text.push('\n')?;
-    Ok(text)
+    let mut page = Page::new(alloc);
+    put_image(&mut page, folder);
+    finished(page)
 }
