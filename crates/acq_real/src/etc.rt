@@ -16,7 +16,8 @@ use std::rt::Files;
 ///
 /// Links are followed. What isn't a plain file in the end isn't there, and neither is a name that isn't UTF-8. What can't
 /// be looked at, read or listed for another reason than that it isn't there is a fault, as a file without permission is,
-/// or a file in place of a folder. A file is looked at first and opened by a further call of the system.
+/// or a file in place of a folder; and so it is where the folder itself isn't there. A file is looked at first and opened
+/// by a further call of the system.
 #[derive(Drop)]
 pub struct RealEtc<R: Drop> {
     rt: R,
@@ -25,7 +26,7 @@ pub struct RealEtc<R: Drop> {
 }
 
 impl<R: Files<File = File> + AllocGlobal + Clone + Drop> RealEtc<R> {
-    /// The configuration folder with this path. It need not be there.
+    /// The configuration folder with this path. It is looked for by each call, and not yet.
     pub fn new(alloc: Global, rt: R, folder: &str) -> Result<RealEtc<R>, AllocError>
         ensures faults { IfOk result (λ etc. faults_of etc ≡ 0) }
         ensures folder { IfOk result (λ etc. folder_of etc ≡ folder.now) }

@@ -5,7 +5,7 @@ ghost use Rattle.std.specs.Fs.{IsFile, file_type};
 ghost use Rattle.acq_outside.specs.Etc.{is_folder};
 ghost use Rattle.acq_real.specs.RealEtc as etc;
 
-use crate::answer::unless;
+use crate::answer::{check_folder, unless};
 use crate::path::is_segment;
 use acq_base::{Bytes, Row, Text};
 use acq_outside::{MOST_READ, Place};
@@ -67,13 +67,20 @@ fn part_path(alloc: Global, folder: &str, place: Place, name: &str) -> io::Resul
     Ok(format!(in alloc; "{place}/{name}")?)
 }
 
-/// The names of the files of a folder. Where the folder isn't there it has none, and neither has a single file's place.
+/// Where the configuration folder isn't there it is an error, and so is anything else in its place: a folder that was
+/// mistyped isn't one without sources, for which every list would be removed.
+fn check_there(rt: &impl Files<File = File>, folder: &str) -> io::Result<()> {
+    check_folder(&fs::metadata(rt, folder)?)
+}
+
+/// The names of the files of a place. Where the place isn't there it has none, and neither has a single file's.
 pub fn names<R: Files<File = File> + AllocGlobal + Clone + Drop>(
     rt: &R,
     alloc: Global,
     folder: &str,
     place: Place,
 ) -> io::Result<Row<Text>> {
+    check_there(rt, folder)?;
     let mut names = Vec::new(alloc);
     if is_folder(place) {
         let path = place_path(alloc, folder, place)?;
@@ -129,6 +136,7 @@ pub fn read(
     place: Place,
     name: &Text,
 ) -> io::Result<Option<Bytes>> {
+    check_there(rt, folder)?;
     match file_path(alloc, folder, place, name.as_bytes())? {
         Some(path) => read_path(rt, alloc, path.as_str()),
         None => Ok(None),

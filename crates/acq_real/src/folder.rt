@@ -3,7 +3,9 @@ ghost use Rattle.std.specs.Prelude.{◌≤◌, length, IfOk};
 
 use crate::answer::{check_folder, plain_length, unless};
 use crate::listing::Entry;
-use crate::opened::{LIST_FILE, OpenFolders, make_file, node_of, open_folders, open_found, still};
+use crate::opened::{
+    LIST_FILE, OpenFolders, give_back, make_file, node_of, open_folders, open_found, still,
+};
 use crate::ownership::{is_private, is_private_file, standing_of, user};
 use acq_base::Text;
 use os::RangeLock;
@@ -14,6 +16,9 @@ use std::os::fd::AsRawFd;
 use std::os::unix::fs::{DirBuilderExt, FileExt, MetadataExt, PermissionsExt, fchown};
 use std::rt::Files;
 use std::{fs, io};
+
+/// The permission bits of the lists folder where it is made: everybody may read it, and its owner alone may change it.
+const LISTS_FOLDER: u32 = 0o755;
 
 /// The permission bits of `partial` where it is made or taken over: what is in it is installed, so nobody else may come in.
 const PRIVATE_FOLDER: u32 = 0o700;
@@ -27,18 +32,15 @@ const EVERYBODY: u32 = 0o007;
 /// How many bytes a lock covers that covers a file whole.
 const WHOLE_FILE: u64 = i64::MAX as u64;
 
-/// Makes a folder, and answers whether it was missing.
-fn make_folder(rt: &impl Files, path: &str) -> io::Result<bool> {
-    let made = unless(ErrorKind::AlreadyExists, fs::create_dir(rt, path))?;
-    Ok(made.is_some())
-}
-
-/// Makes the folder `partial`, where it is missing.
-fn make_partial(rt: &impl Files, path: &str) -> io::Result<()> {
+/// Makes a folder with these permission bits whatever the umask, and answers whether it was missing.
+fn make_folder(rt: &impl Files<File = File>, path: &str, mode: u32) -> io::Result<bool> {
     let mut how = DirBuilder::new();
-    how.mode(PRIVATE_FOLDER);
-    unless(ErrorKind::AlreadyExists, how.create(rt, path))?;
-    Ok(())
+    how.mode(mode);
+    if unless(ErrorKind::AlreadyExists, how.create(rt, path))?.is_none() {
+        return Ok(false);
+    }
+    give_back(&File::open(rt, path)?, mode)?;
+    Ok(true)
 }
 
 /// Makes the changes of names in a folder lasting.
@@ -95,7 +97,7 @@ pub fn check_partial(rt: &impl Files, alloc: Global, folder: &str) -> io::Result
 
 /// Makes the folder where its parent is there.
 pub fn make_own(rt: &impl Files<File = File>, alloc: Global, folder: &str) -> io::Result<()> {
-    if make_folder(rt, folder)? {
+    if make_folder(rt, folder, LISTS_FOLDER)? {
         sync_folder(rt, format!(in alloc; "{folder}/..")?.as_str())?;
     }
     Ok(())
@@ -105,7 +107,7 @@ pub fn make_own(rt: &impl Files<File = File>, alloc: Global, folder: &str) -> io
 pub fn make_folders(rt: &impl Files<File = File>, alloc: Global, folder: &str) -> io::Result<()> {
     make_own(rt, alloc, folder)?;
     let partial = partial_path(alloc, folder)?;
-    make_partial(rt, partial.as_str())?;
+    make_folder(rt, partial.as_str(), PRIVATE_FOLDER)?;
     take_over(rt, partial.as_str())
 }
 

@@ -2,10 +2,10 @@
 ghost use Rattle.std.specs.Prelude.{◌≡◌, ◌≢◌, string_bytes, true, IfOk, IfSome, Some};
 ghost use Rattle.acq_real.specs.Opened.{IsClosed, StaysClosed, opened_by};
 
-use std::fs::{File, Metadata, OpenOptions};
+use std::fs::{File, Metadata, OpenOptions, Permissions};
 use std::io;
 use std::io::ErrorKind;
-use std::os::unix::fs::{MetadataExt, OpenOptionsExt};
+use std::os::unix::fs::{MetadataExt, OpenOptionsExt, PermissionsExt};
 use std::rt::Files;
 
 /// The permission bits of a list: everybody may read it, and its owner alone may write it, whatever the umask.
@@ -153,14 +153,25 @@ pub fn create(rt: &impl Files<File = File>, path: String) -> io::Result<OpenFile
     })
 }
 
-/// Makes a file where nothing has the path, with these permission bits at most.
+/// Makes a file where nothing has the path, with these permission bits whatever the umask.
 pub fn make_file(rt: &impl Files<File = File>, path: &str, mode: u32) -> io::Result<File> {
     let mut how = OpenOptions::new();
     how.read(true);
     how.write(true);
     how.create_new(true);
     how.mode(mode);
-    how.open(rt, path)
+    let made = how.open(rt, path)?;
+    give_back(&made, mode)?;
+    Ok(made)
+}
+
+/// Gives what was made with these permission bits those back that the umask took away.
+pub fn give_back(made: &File, bits: u32) -> io::Result<()> {
+    let mode = made.metadata()?.mode();
+    if mode & bits != bits {
+        made.set_permissions(Permissions::from_mode(mode | bits))?;
+    }
+    Ok(())
 }
 
 /// Opens a disk's folder, and `partial` that was found in it.

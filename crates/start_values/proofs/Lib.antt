@@ -1,2 +1,4 @@
+mod Folders
 mod Lanes
 mod Refusals
+mod Texts

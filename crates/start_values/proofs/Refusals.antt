@@ -10,12 +10,12 @@ words_refusal known Words given = given
 words_refusal known Environment given = absurd given
 words_refusal known NoMemory given = given
 
-pub etc_refusal : (known : Known) (refused : Refused) → All IsUtf8 known.words → IsFolderRefusal known (codes "ACQUIRE_ETC") refused → IsRefusal known refused
+pub etc_refusal : (known : Known) (refused : Refused) → All IsUtf8 known.words → IsFolderRefusal (known.value (codes "ACQUIRE_ETC")) refused → IsRefusal known refused
 etc_refusal known Words text given = absurd given
 etc_refusal known Environment text given = (text, inl given)
 etc_refusal known NoMemory text given = given
 
-pub lists_refusal : (known : Known) (refused : Refused) → All IsUtf8 known.words → IsFolderRefusal known (codes "ACQUIRE_LISTS") refused → IsRefusal known refused
+pub lists_refusal : (known : Known) (refused : Refused) → All IsUtf8 known.words → IsFolderRefusal (known.value (codes "ACQUIRE_LISTS")) refused → IsRefusal known refused
 lists_refusal known Words text given = absurd given
 lists_refusal known Environment text given = (text, inr given)
 lists_refusal known NoMemory text given = given

@@ -3,5 +3,6 @@ pub mod Environment
 pub mod Start
 pub mod Refused
 pub mod Telling
+pub mod MemEnvironment
 -- Cited by the real environment's own function alone.
 pub mod RealEnvironment

@@ -1,5 +1,5 @@
 -- What a program makes of the words and variables that it was started with.
-use Rattle.std.specs.Prelude.{◌≡◌, ◌⊎◌, ℕ, ◌-◌, ◌&&◌, nat_le, if◌then◌else◌, List, [], ◌∷◌, codes, All, Option, Some, None, IsSomeAnd, IfSome, IfOk, Result, String, IsUtf8}
+use Rattle.std.specs.Prelude.{◌≡◌, ◌≢◌, ◌⊎◌, ℕ, ◌-◌, ◌&&◌, nat_le, if◌then◌else◌, List, [], ◌∷◌, codes, All, Option, Some, None, IsSomeAnd, IfSome, IfOk, Result, String, IsUtf8}
 use Rattle.start_values.specs.Environment.{Known, IsValue}
 use Rattle.std.specs.Global.{Global}
 use Rattle.start_values.specs.declared.environment.Unread.{Unread}
@@ -7,11 +7,22 @@ use Rattle.start_values.specs.declared.start.Start.{Start}
 use Rattle.start_values.specs.declared.refused.Refused.{Refused}
 use Rattle.start_values.specs.declared.refused.Refused.TheVariants.{Words, Environment, NoMemory}
 
--- a folder is the variable's value; an empty one counts as not set
+-- a folder is the variable's value, or the usual one where it isn't set
 abbrev pub folder_of : List ℕ → Option (List ℕ) → List ℕ
 folder_of usual None = usual
-folder_of usual (Some []) = usual
-folder_of usual (Some (byte ∷ bytes)) = byte ∷ bytes
+folder_of usual (Some path) = path
+
+-- a path is text, and not empty
+abbrev pub IsPath : List ℕ → Type 0
+IsPath bytes = IsUtf8 bytes × (bytes ≢ [])
+
+-- a variable isn't set, so that the usual folder stands, or it is a path
+abbrev pub NamesFolder : Option (List ℕ) → Type 0
+NamesFolder value = IfSome value IsPath
+
+-- it is set, and is no path
+abbrev pub NamesNoFolder : Option (List ℕ) → Type 0
+NamesNoFolder value = IsSomeAnd value (λ bytes. ¬ (IsPath bytes))
 
 -- one digit from 0 to 8 is that number, and anything else counts as 4
 abbrev pub lanes_of_byte : ℕ → ℕ
@@ -29,26 +40,26 @@ lanes_of_value None = 4
 abbrev pub SaysLanes : Result (Option (String Global)) Unread → ℕ → Type 0
 SaysLanes found lanes = (value : Option (List ℕ)) → IsValue value found → lanes ≡ lanes_of_value value
 
--- a variable is set, and is no text
-abbrev pub IsNoText : Known → List ℕ → Type 0
-IsNoText known name = IsSomeAnd (known.value name) (λ bytes. ¬ (IsUtf8 bytes))
-
 -- why reading the words gives no answer
 abbrev pub IsWordsRefusal : Known → Refused → Type 0
 IsWordsRefusal known Words = ¬ (All IsUtf8 known.words)
 IsWordsRefusal known Environment = ⊥
 IsWordsRefusal known NoMemory = Unit {0}
 
--- why reading a folder's variable gives none
-abbrev pub IsFolderRefusal : Known → List ℕ → Refused → Type 0
-IsFolderRefusal known name Words = ⊥
-IsFolderRefusal known name Environment = IsNoText known name
-IsFolderRefusal known name NoMemory = Unit {0}
+-- why reading a folder's variable of this value gives none
+abbrev pub IsFolderRefusal : Option (List ℕ) → Refused → Type 0
+IsFolderRefusal value Words = ⊥
+IsFolderRefusal value Environment = NamesNoFolder value
+IsFolderRefusal value NoMemory = Unit {0}
 
--- a word is no text; or all are, and a folder's variable is none; or memory ran out
+-- the two folders' variables, each unset or a path
+abbrev pub NamesFolders : Known → Type 0
+NamesFolders known = NamesFolder (known.value (codes "ACQUIRE_ETC")) × NamesFolder (known.value (codes "ACQUIRE_LISTS"))
+
+-- a word is no text; or all are, and a folder's variable is no path; or memory ran out
 abbrev pub IsRefusal : Known → Refused → Type 0
 IsRefusal known Words = ¬ (All IsUtf8 known.words)
-IsRefusal known Environment = All IsUtf8 known.words × (IsNoText known (codes "ACQUIRE_ETC") ⊎ IsNoText known (codes "ACQUIRE_LISTS"))
+IsRefusal known Environment = All IsUtf8 known.words × (NamesNoFolder (known.value (codes "ACQUIRE_ETC")) ⊎ NamesNoFolder (known.value (codes "ACQUIRE_LISTS")))
 IsRefusal known NoMemory = Unit {0}
 
 -- P of what was started with and of what was made of it, where the one is told and the other was made

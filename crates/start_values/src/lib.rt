@@ -4,20 +4,22 @@
 //! many workers may fetch; and `ACQUIRE_PLACE`, the folder for package files, which the program doesn't read yet.
 //!
 //! `read_start` gives the words behind the program's own name, the two folders and the lanes that an environment's
-//! variables say (`words`, `etc`, `lists`, `lanes`; each word is UTF-8, `text`), or why there are none (`refused`), and
-//! `read_place` the folder for package files (`place`, `refused`);
-//! `begin_program` tells a refusal on the output with its line and status (`told`), and else leaves the output alone
-//! (`untouched`). These clauses speak of an environment that tells its words and variables, and none here does: std
-//! says nothing of a real one, so that `RealEnvironment` reads it right is only tested.
+//! variables say (`words`, `etc`, `lists`, `lanes`; each word is UTF-8, `text`, and each folder's variable unset or a
+//! path, `folders`), or why there are none (`refused`), and `read_place` the folder for package files (`place`, `named`,
+//! `refused`); `begin_program` tells a refusal on the output with its line and status (`told`), and else leaves the
+//! output alone (`untouched`). These clauses speak of an environment that tells its words and variables, as
+//! `MemEnvironment` does; std says nothing of a real one, so that `RealEnvironment` reads it right is only tested.
 #![tactic(auto)]
 
 pub use environment::{Environment, Unread};
+pub use mem_environment::MemEnvironment;
 pub use real_environment::RealEnvironment;
 pub use refused::Refused;
 pub use start::{Start, read_place, read_start};
 pub use telling::{begin_program, write_refusal};
 
 mod environment;
+mod mem_environment;
 mod real_environment;
 mod refused;
 mod start;

@@ -7,7 +7,7 @@ ghost use Rattle.start_values.specs.Refused.{line_of, status_of};
 pub enum Refused {
     /// A word isn't UTF-8.
     Words,
-    /// The variable of a folder isn't UTF-8.
+    /// The variable of a folder is set and empty, or isn't UTF-8.
     Environment,
     NoMemory,
 }

@@ -1,7 +1,7 @@
 //! What a program makes of the words and variables that it was started with.
 ghost use Rattle.std.specs.Prelude.{◌≡◌, codes, drop, map, string_bytes, All, IsUtf8, IfOk, IfSome, IfErr, OnOk, option_map};
 ghost use Rattle.start_values.specs.Environment.{Known};
-ghost use Rattle.start_values.specs.Start.{ForStart, IsFolderRefusal, IsRefusal, IsWordsRefusal, SaysLanes, etc_of, folder_of, known_lanes, lanes_of, lists_of, place_of};
+ghost use Rattle.start_values.specs.Start.{ForStart, IsFolderRefusal, IsRefusal, IsWordsRefusal, NamesFolder, NamesFolders, SaysLanes, etc_of, folder_of, known_lanes, lanes_of, lists_of, place_of};
 
 use crate::{Environment, Refused, Unread};
 use std::alloc::Global;
@@ -22,13 +22,14 @@ pub struct Start {
     pub lanes: u8,
 }
 
-/// Reads what a program goes by. A folder whose variable isn't set, or is empty, is the usual one; so many lanes as
-/// `ACQUIRE_LANES` says by one digit from 0 to 8, and 4 where it says anything else.
+/// Reads what a program goes by. A folder whose variable isn't set is the usual one, and one that is set and empty is
+/// refused; so many lanes as `ACQUIRE_LANES` says by one digit from 0 to 8, and 4 where it says anything else.
 ///
 /// A word that isn't UTF-8 is refused before any variable is looked at.
 #[tactic(auto, using(crate::proofs::Refusals::refusal))]
 pub fn read_start<E: Environment>(alloc: Global, environment: &E) -> Result<Start, Refused>
     ensures text { IfSome (E.known environment.now) (λ known. OnOk result (All IsUtf8 known.words)) }
+    ensures folders { IfSome (E.known environment.now) (λ known. OnOk result (NamesFolders known)) }
     ensures refused { IfSome (E.known environment.now) (λ known. IfErr result (IsRefusal known)) }
     ensures words { ForStart (E.known environment.now) result (λ known start. map string_bytes start.words.items ≡ drop 1 known.words) }
     ensures etc { ForStart (E.known environment.now) result (λ known start. string_bytes start.etc ≡ etc_of known) }
@@ -47,11 +48,12 @@ pub fn read_start<E: Environment>(alloc: Global, environment: &E) -> Result<Star
     })
 }
 
-/// The path of the folder for package files, that of `ACQUIRE_PLACE`: where it isn't set, or is empty, the folder that the
-/// process works in. It is read apart from the others, so that its value refuses no command that puts no file there.
+/// The path of the folder for package files, that of `ACQUIRE_PLACE`: where it isn't set, the folder that the process
+/// works in. It is read apart from the others, so that its value refuses no command that puts no file there.
 pub fn read_place<E: Environment>(alloc: Global, environment: &E) -> Result<String, Refused>
     ensures place { IfSome (E.known environment.now) (λ known. IfOk result (λ place. string_bytes place ≡ place_of known)) }
-    ensures refused { IfSome (E.known environment.now) (λ known. IfErr result (IsFolderRefusal known (codes "ACQUIRE_PLACE"))) }
+    ensures named { IfSome (E.known environment.now) (λ known. OnOk result (NamesFolder (known.value (codes "ACQUIRE_PLACE")))) }
+    ensures refused { IfSome (E.known environment.now) (λ known. IfErr result (IsFolderRefusal (known.value (codes "ACQUIRE_PLACE")))) }
 {
     read_folder(alloc, environment, "ACQUIRE_PLACE", ".")
 }
@@ -82,6 +84,7 @@ fn drop_first(words: &mut Vec<String>)
 }
 
 /// The folder that a variable names, or the usual one.
+#[tactic(auto, using(crate::proofs::Folders::folder))]
 fn read_folder<E: Environment>(
     alloc: Global,
     environment: &E,
@@ -89,7 +92,8 @@ fn read_folder<E: Environment>(
     usual: &str,
 ) -> Result<String, Refused>
     ensures folder { IfSome (E.known environment.now) (λ known. IfOk result (λ folder. string_bytes folder ≡ folder_of usual.now (known.value name.now))) }
-    ensures refused { IfSome (E.known environment.now) (λ known. IfErr result (IsFolderRefusal known name.now)) }
+    ensures named { IfSome (E.known environment.now) (λ known. OnOk result (NamesFolder (known.value name.now))) }
+    ensures refused { IfSome (E.known environment.now) (λ known. IfErr result (IsFolderRefusal (known.value name.now))) }
 {
     match environment.variable(alloc, name) {
         Ok(found) => folder_or(alloc, found, usual),
@@ -98,14 +102,17 @@ fn read_folder<E: Environment>(
     }
 }
 
-/// The folder that was found, or the usual one where none was, or an empty one.
+/// The folder that was found, or the usual one where none was. An empty one is refused.
+#[tactic(auto, using(crate::proofs::Folders::folder))]
 fn folder_or(alloc: Global, found: Option<String>, usual: &str) -> Result<String, Refused>
     ensures folder { IfOk result (λ folder. string_bytes folder ≡ folder_of usual.now (option_map string_bytes found)) }
-    ensures memory { IfErr result (λ refused. refused ≡ Refused.NoMemory) }
+    ensures named { OnOk result (NamesFolder (option_map string_bytes found)) }
+    ensures refused { IfErr result (IsFolderRefusal (option_map string_bytes found)) }
 {
     match found {
-        Some(folder) if !folder.is_empty() => Ok(folder),
-        _ => match String::from_str(alloc, usual) {
+        Some(folder) if folder.is_empty() => Err(Refused::Environment),
+        Some(folder) => Ok(folder),
+        None => match String::from_str(alloc, usual) {
             Ok(folder) => Ok(folder),
             Err(_) => Err(Refused::NoMemory),
         },

@@ -1,6 +1,6 @@
 //! The beginning of a program: what it goes by, or what it tells where it can't read that.
 ghost use Rattle.std.specs.Prelude.{◌≡◌, ◌≤◌, drop, map, string_bytes, All, IfErr, IfSome, IsUtf8, OnOk};
-ghost use Rattle.start_values.specs.Start.{ForStart, etc_of, known_lanes, lists_of};
+ghost use Rattle.start_values.specs.Start.{ForStart, NamesFolders, etc_of, known_lanes, lists_of};
 ghost use Rattle.start_values.specs.Telling.{IsRefusalWritten, WritesRefusal};
 
 use crate::{Environment, Refused, Start, read_start};
@@ -15,6 +15,7 @@ pub fn begin_program<E: Environment, S: Sink>(
     out: &mut S,
 ) -> Result<Start, u8>
     ensures text { IfSome (E.known environment.now) (λ known. OnOk result (All IsUtf8 known.words)) }
+    ensures folders { IfSome (E.known environment.now) (λ known. OnOk result (NamesFolders known)) }
     ensures words { ForStart (E.known environment.now) result (λ known start. map string_bytes start.words.items ≡ drop 1 known.words) }
     ensures etc { ForStart (E.known environment.now) result (λ known start. string_bytes start.etc ≡ etc_of known) }
     ensures lists { ForStart (E.known environment.now) result (λ known start. string_bytes start.lists ≡ lists_of known) }
