@@ -174,7 +174,10 @@ fn heard(stream: &mut Option<TcpStream>, unanswered: bool, out: &mut [u8]) -> io
 
 /// Whether the peer has reset the connection.
 fn is_reset(error: &io::Error) -> bool {
-    matches!(error.kind(), ErrorKind::ConnectionReset | ErrorKind::BrokenPipe)
+    matches!(
+        error.kind(),
+        ErrorKind::ConnectionReset | ErrorKind::BrokenPipe
+    )
 }
 
 /// The host of a URI as the system looks it up: an IPv6 address stands there between brackets (RFC 3986, section 3.2.2).
