@@ -1,6 +1,6 @@
 -- The frame of a call of a link, in the words of the link's members: how its counts go whatever it answers, and what it
 -- leaves as it was. A contract says it in one clause of that name, beside what the call is for.
-use Rattle.std.specs.Prelude.{◌≡◌, ◌≤◌, ℕ, Option, Result}
+use Rattle.std.specs.Prelude.{◌≡◌, ◌≤◌, ℕ, Bool, true, Option, Result}
 use Rattle.acq_base.specs.Mirror.{MirrorMap}
 use Rattle.acq_outside.specs.Frame.{Counts, CountsOnly}
 use Rattle.acq_net.specs.Due.{Due}
@@ -22,23 +22,26 @@ pub record SaysBy {L T E : Type 0} (faults makes hears : L → ℕ) (before : L 
   pub former : before new ≡ before old
   pub same : world new ≡ world old
 
--- A call that listens on the present connection: none was made, and a peer's end may have been heard.
-pub record ListensBy {L T E : Type 0} (faults makes hears : L → ℕ) (before : L → Option Talk) (world : L → Option MirrorMap) (old new : L) (result : Result T E) : Type 0 where
+-- A call that listens on the present connection: none was made, a peer's end may have been heard, and an answer that has
+-- begun stays so.
+pub record ListensBy {L T E : Type 0} (faults makes hears : L → ℕ) (before : L → Option Talk) (world : L → Option MirrorMap) (answers : L → Bool) (old new : L) (result : Result T E) : Type 0 where
   pub counts : Counts (faults old) (faults new) result
   pub open counts use *
   pub made : makes new ≡ makes old
   pub ends_count : hears old ≤ hears new
   pub former : before new ≡ before old
   pub same : world new ≡ world old
+  pub answered : answers old ≡ true → answers new ≡ true
 
 -- the same where errors of this kind alone are faults
-pub record ListensCountingBy {L T E : Type 0} (kind : E) (faults makes hears : L → ℕ) (before : L → Option Talk) (world : L → Option MirrorMap) (old new : L) (result : Result T E) : Type 0 where
+pub record ListensCountingBy {L T E : Type 0} (kind : E) (faults makes hears : L → ℕ) (before : L → Option Talk) (world : L → Option MirrorMap) (answers : L → Bool) (old new : L) (result : Result T E) : Type 0 where
   pub counts : CountsOnly kind (faults old) (faults new) result
   pub open counts use *
   pub made : makes new ≡ makes old
   pub ends_count : hears old ≤ hears new
   pub former : before new ≡ before old
   pub same : world new ≡ world old
+  pub answered : answers old ≡ true → answers new ≡ true
 
 -- A call that asks, maybe on a new connection: a peer's end may have been heard.
 pub record AsksBy {L T E : Type 0} (faults hears : L → ℕ) (world : L → Option MirrorMap) (old new : L) (result : Result T E) : Type 0 where
@@ -48,7 +51,7 @@ pub record AsksBy {L T E : Type 0} (faults hears : L → ℕ) (world : L → Opt
   pub same : world new ≡ world old
 
 -- A call that leaves all that the link tells as it was. It may close the connection.
-pub record LeavesBy {L : Type 0} (faults makes hears : L → ℕ) (says before : L → Option Talk) (world : L → Option MirrorMap) (owes : L → Option Due) (old new : L) : Type 0 where
+pub record LeavesBy {L : Type 0} (faults makes hears : L → ℕ) (says before : L → Option Talk) (world : L → Option MirrorMap) (owes : L → Option Due) (answers : L → Bool) (old new : L) : Type 0 where
   pub quiet : faults new ≡ faults old
   pub made : makes new ≡ makes old
   pub ends : hears new ≡ hears old
@@ -56,3 +59,4 @@ pub record LeavesBy {L : Type 0} (faults makes hears : L → ℕ) (says before :
   pub former : before new ≡ before old
   pub same : world new ≡ world old
   pub due : owes new ≡ owes old
+  pub answered : answers new ≡ answers old

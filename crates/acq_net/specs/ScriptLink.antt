@@ -1,5 +1,5 @@
 -- What a connection in memory shows.
-use Rattle.std.specs.Prelude.{ℕ, Option, Some}
+use Rattle.std.specs.Prelude.{ℕ, Bool, Option, Some}
 use Rattle.acq_net.specs.Script.{talk_with}
 use Rattle.acq_net.specs.Talk.{Talk}
 use Rattle.acq_net.specs.declared.calls.Calls.{Calls}
@@ -38,3 +38,11 @@ made_of link = link.made
 
 abbrev pub ends_of : ScriptLink → ℕ
 ends_of link = link.ends
+
+-- whether the present connection is open
+abbrev pub opened_of : ScriptLink → Bool
+opened_of link = link.opened
+
+-- whether a byte was received since the last `send` on it
+abbrev pub answered_of : ScriptLink → Bool
+answered_of link = link.answered

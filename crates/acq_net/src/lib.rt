@@ -8,7 +8,10 @@
 //! its count rose (`frame`), and how often it connected and heard a peer's end is counted. `ScriptLink` is one in
 //! memory, whose peers say what a script has; `TcpLink` one over TCP, which tells nothing of content: an address
 //! that doesn't answer within 30 seconds is given up, and a peer that is silent for 30 seconds is a fault, which
-//! no proof or test shows.
+//! no proof or test shows. Both tell whether the connection is open (`opened`, `closed`, `over`), and whether a byte
+//! came since the last `send` (`answered`, `unanswered`). Only tested: that a `send` of a `TcpLink` on a kept
+//! connection is a fault where something waits there, and that a reset before the first byte of a response is the
+//! peer's end.
 //!
 //! A `Port` has the connections that peers make to this program, one at a time. Where it tells, it tells of each that
 //! it accepted the bytes that were sent and received and whether the peer's end was heard (`talks`): `accept` adds one

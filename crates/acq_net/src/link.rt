@@ -1,5 +1,5 @@
 //! A connection to a peer, as the rest of the program asks for it.
-ghost use Rattle.std.specs.Prelude.{◌≡◌, ◌≢◌, ℕ, ◌<◌, ◌≤◌, length, take, Option, Some, option_map, IfOk, IfSome, OnOk, OnErr};
+ghost use Rattle.std.specs.Prelude.{◌≡◌, ◌≢◌, ℕ, ◌<◌, ◌≤◌, Bool, true, false, length, take, Option, Some, option_map, is_ok, IfOk, IfSome, OnOk, OnErr};
 ghost use Rattle.acq_outside.specs.Count.{Rose};
 ghost use Rattle.acq_base.specs.Mirror.{MirrorMap};
 ghost use Rattle.acq_net.specs.Due.{Came, Due, Owes, fresh};
@@ -23,6 +23,13 @@ pub trait Link: Drop {
     /// How often a peer's end was heard.
     ghost ends: { Self → ℕ };
 
+    /// Whether the present connection is open: `connect` that is Ok makes it so; `close`, a failed call and the peer's end
+    /// make it not.
+    ghost opened: { Self → Bool };
+
+    /// Whether a byte was received since the last `send` on the present connection.
+    ghost answered: { Self → Bool };
+
     /// What was said on the present connection, where it tells.
     ghost talk: { Self → Option Talk };
 
@@ -41,6 +48,8 @@ pub trait Link: Drop {
 
         ensures made { Rose (made self.old) (made self.new) }
         ensures made_count { made self.old ≤ made self.new }
+        ensures opened { opened self.new ≡ is_ok result }
+        ensures unanswered { answered self.new ≡ false }
         ensures fresh { talk self.new ≡ option_map (λ _. silent) (talk self.old) }
         ensures former { former self.new ≡ talk self.old }
         ensures due { OnOk result (IfSome (world self.old) (λ _. due self.new ≡ Some (fresh host.now port))) };
@@ -48,6 +57,10 @@ pub trait Link: Drop {
     /// Sends all of these bytes.
     fn send(&mut self, bytes: &[u8]) -> Result<(), Fault>
         ensures frame { SaysBy faults made ends former world self.old self.new result }
+
+        ensures opened { OnOk result (opened self.new ≡ opened self.old) }
+        ensures closed { OnErr result (opened self.new ≡ false) }
+        ensures unanswered { answered self.new ≡ false }
         ensures sent { OnOk result (talk self.new ≡ option_map (sends bytes.now) (talk self.old)) }
         ensures part { OnErr result (SendsPart bytes.now (talk self.old) (talk self.new)) }
         ensures owes { OnOk result (IfSome (world self.old) (λ entries. Owes entries bytes.now (due self.old) (due self.new))) };
@@ -56,11 +69,16 @@ pub trait Link: Drop {
     fn receive(&mut self, out: &mut [u8]) -> Result<usize, Fault>
         requires { 0 < length out.old }
 
-        ensures frame { ListensBy faults made ends former world self.old self.new result }
+        ensures frame { ListensBy faults made ends former world answered self.old self.new result }
 
         ensures ends { IfOk result (λ n. n ≡ 0 → Rose (ends self.old) (ends self.new)) }
         ensures goes_on { IfOk result (λ n. n ≢ 0 → ends self.new ≡ ends self.old) }
         ensures failed { OnErr result (ends self.new ≡ ends self.old) }
+        ensures opened { IfOk result (λ n. n ≢ 0 → opened self.new ≡ opened self.old) }
+        ensures over { IfOk result (λ n. n ≡ 0 → opened self.new ≡ false) }
+        ensures closed { OnErr result (opened self.new ≡ false) }
+        ensures answered { IfOk result (λ n. n ≢ 0 → answered self.new ≡ true) }
+        ensures unanswered { IfOk result (λ n. n ≡ 0 → answered self.new ≡ answered self.old) }
         ensures within { IfOk result (λ n. n ≤ length out.old) }
         ensures room { length out.new ≡ length out.old }
         ensures received { IfOk result (λ n. talk self.new ≡ option_map (receives (take n out.new)) (talk self.old)) }
@@ -69,5 +87,6 @@ pub trait Link: Drop {
 
     /// Closes the connection, if there is one. What was said on it stays as it was.
     fn close(&mut self)
-        ensures frame { LeavesBy faults made ends talk former world due self.old self.new };
+        ensures frame { LeavesBy faults made ends talk former world due answered self.old self.new }
+        ensures closed { opened self.new ≡ false };
 }

@@ -19,7 +19,7 @@ use Rattle.http_method.specs.declared.reading.Reading.{Reading}
 use Rattle.http_method.specs.declared.reading.Place.{Place}
 use Rattle.http_method.specs.declared.reading.Said.{Said}
 use Rattle.http_method.specs.Line.{Connects, Line, Sends}
-use Rattle.http_method.specs.Reading.{Hears, HearsSo, IsAsked, IsOpen, IsOwed, IsReading, Reads, Goes, SaysOn, BeginsAnew, BeginsAgain, BeginsOn, asked, is_for, place_of}
+use Rattle.http_method.specs.Reading.{Hears, HearsSo, IsAsked, IsOpen, IsOwed, IsReading, IsFromPeer, Reads, Goes, SaysOn, BeginsAnew, BeginsAgain, BeginsOn, asked, is_for, place_of}
 use Rattle.http_method.proofs.Received.{small_none}
 
 asked_with : Talk → List ℕ → List ℕ → Bool → Talk
@@ -117,3 +117,7 @@ dry_hears later job said dry = subst (λ w. Hears later job silent [] w said.kep
 
 pub dry_anew : (later : Line) (job : Job) (said : Said) → said.word ≡ NoMemory → BeginsAnew later job said
 dry_anew later job said dry = record { is = dry_hears later job said dry }
+
+-- want of memory is no word of a peer
+pub dry_heard : (made : Type 0) (said : Said) → said.word ≡ NoMemory → IsFromPeer said.word → made
+dry_heard made said dry from_peer = absurd (subst IsFromPeer dry from_peer)

@@ -23,7 +23,7 @@ use Rattle.http_method.specs.declared.reading.Place.{Place}
 use Rattle.http_method.specs.declared.reading.Reading.{Reading}
 use Rattle.http_method.specs.declared.reading.Said.{Said}
 use Rattle.http_method.specs.HttpMethod.{HttpState, CountsFault}
-use Rattle.http_method.specs.Reading.{Hears, IsMirrorsWord, SaysOn, has_no_file, is_http, under_of, world_of}
+use Rattle.http_method.specs.Reading.{Hears, IsFromPeer, IsMirrorsWord, Keeps, SaysOn, StandsOpen, has_no_file, is_http, is_open_for, under_of, world_of}
 use Rattle.http_method.proofs.Mirrors.{means_fault, told_word, untold_word}
 
 fault_word : (world : Option MirrorMap) (n k m : ℕ) (fetch : Fetch) → k ≡ n → m ≡ one_more n → IsWord n m world fetch None (Not (nots.Fault k m))
@@ -127,3 +127,17 @@ file_means (Some entries) job is = file_told entries (has_no_file entries) job r
 
 pub file_word : (n m : ℕ) (world : Option MirrorMap) (job : Job) (under : Option Fetch) → m ≡ n → under ≡ None → job.uri.scheme ≡ File → IsWord n m (world_of world) (begun job) under (Not (nots.Absent 404))
 file_word n m world job under same none is = record { counted = same; ended = none; told = file_means world job is }
+
+-- ---- whether the connection is open
+
+-- so it stands where it is open just as what is kept wants it
+pub stands_open : (line : Line) (opened : Bool) (kept : Option Place) (reading : Option Reading) → Keeps line kept reading → opened ≡ is_open_for kept reading → StandsOpen opened kept reading
+stands_open line opened None None keeps is = record { kept_is = tt; reads_on = tt }
+stands_open line opened None (Some one) keeps is = record { kept_is = tt; reads_on = is }
+stands_open line opened (Some place) None keeps is = record { kept_is = is; reads_on = tt }
+stands_open line opened (Some place) (Some one) keeps is = absurd (let none : Some place ≡ None = keeps.one refl in cc)
+
+-- a word of the peer comes on a connection that was made, or on which the peer has answered
+pub heard_so : (made : Type 0) (x y : ℕ) (said : Result Said Fault) (word : Word) → IfOk said (λ one. IsFromPeer one.word → made) → IfOk said (λ one. word ≡ one.word) → OnErr said (word ≡ Not (nots.Fault x y)) → IsFromPeer word → made
+heard_so made x y (Ok one) word heard is fault from_peer = heard (subst IsFromPeer is from_peer)
+heard_so made x y (Err error) word heard is fault from_peer = absurd (subst IsFromPeer fault from_peer)

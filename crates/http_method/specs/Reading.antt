@@ -1,5 +1,5 @@
 -- What a method hears of a peer: the stream of a connection since its last request, in words.
-use Rattle.std.specs.Prelude.{◌≡◌, ◌≢◌, ◌⊎◌, ℕ, ◌+◌, ◌≤◌, length, ◌∷◌, [], ◌==◌, ◌&&◌, nat_lt, not, Bool, true, false, if◌then◌else◌, List, ◌++◌, bytes_eq, Option, Some, None, IfSome, IsSome, option_map, unwrap_or}
+use Rattle.std.specs.Prelude.{◌≡◌, ◌≢◌, ◌⊎◌, ℕ, ◌+◌, ◌≤◌, length, ◌∷◌, [], ◌==◌, ◌&&◌, nat_lt, not, Bool, true, false, if◌then◌else◌, List, ◌++◌, bytes_eq, Option, Some, None, IfSome, IsSome, is_some, option_map, unwrap_or}
 use Rattle.acq_base.specs.declared.fetch.Job.{Job}
 use Rattle.acq_base.specs.declared.fetch.Reply.{Reply}
 use Rattle.acq_base.specs.declared.fetch.NotServed.TheVariants as nots
@@ -198,6 +198,16 @@ pub record IsOpen (line : Line) (place : Place) : Type 0 where
   pub told : IfSome line.talk (λ talk. talk.ended ≡ false)
   pub ready : IfSome line.world (λ entries. line.due ≡ Some (fresh place.host place.port))
 
+-- whether the connection is open behind a word: where it is kept, or, while a response is read, where its peer hasn't ended
+abbrev pub is_open_for : Option Place → Option Reading → Bool
+is_open_for kept None = is_some kept
+is_open_for kept (Some reading) = not (is_end reading.behind)
+
+-- the connection that is kept is open, and so is the one that a response is read from, until its peer ends
+pub record StandsOpen (opened : Bool) (kept : Option Place) (reading : Option Reading) : Type 0 where
+  pub kept_is : IfSome kept (λ _. opened ≡ true)
+  pub reads_on : IfSome reading (λ one. opened ≡ not (is_end one.behind))
+
 -- what a method keeps
 pub record Keeps (line : Line) (kept : Option Place) (reading : Option Reading) : Type 0 where
   pub reads : IfSome reading (λ one. IsReading line one [])
@@ -235,6 +245,17 @@ word_of size replies.NoMemory = NoMemory
 abbrev pub is_file : Reply → Bool
 is_file (replies.Served bytes) = true
 is_file reply = false
+
+-- a word that stands for bytes of a peer, or for its end
+abbrev pub IsFromPeer : Word → Type 0
+IsFromPeer (Piece place bytes) = Unit {0}
+IsFromPeer (Done size) = Unit {0}
+IsFromPeer (Not (nots.Moved place)) = Unit {0}
+IsFromPeer (Not (nots.Absent status)) = Unit {0}
+IsFromPeer (Not nots.TooBig) = Unit {0}
+IsFromPeer (Not (nots.Garbled at)) = Unit {0}
+IsFromPeer (Not (nots.Fault told_before told_after)) = ⊥
+IsFromPeer NoMemory = ⊥
 
 -- a connection is kept only behind a whole file
 abbrev pub IsKeptBehind : Word → Option Place → Type 0

@@ -1,5 +1,5 @@
 //! Receives bytes of a link's peer into the response that is being read.
-ghost use Rattle.std.specs.Prelude.{◌≡◌, ◌≢◌, ◌<◌, ◌≤◌, true, false, [], length, vec_len, IfOk, OnOk, option_map};
+ghost use Rattle.std.specs.Prelude.{◌≡◌, ◌≢◌, ◌<◌, ◌≤◌, true, false, not, [], length, vec_len, IfOk, OnOk, option_map};
 ghost use Rattle.acq_outside.specs.Count.{Rose};
 ghost use Rattle.acq_net.specs.OverLink.{ListensCounting};
 ghost use Rattle.acq_net.specs.Talk.{receives};
@@ -62,6 +62,7 @@ fn behind_of(taken: usize, size: usize) -> Behind
 fn end(reading: &mut Reading)
     requires nothing { reading.old.behind ≡ Behind.Nothing }
     ensures fetch { reading.new.fetch ≡ reading.old.fetch }
+    ensures behind { reading.new.behind ≡ Behind.End }
     ensures going { wire_state reading.new.wire ≢ State.More }
     ensures received { Received reading.old reading.new [] }
     ensures small { StaysSmall reading.old reading.new }
@@ -105,6 +106,8 @@ pub fn receive_once<L: Link>(
 
     ensures frame { ListensCounting OutError.Fault L.Link link.old link.new result }
 
+    ensures opened { L.opened link.old ≡ true → OnOk result (L.opened link.new ≡ not (is_end reading.new.behind)) }
+    ensures answered { OnOk result (is_end reading.new.behind ≡ false → L.answered link.new ≡ true) }
     ensures ended { OnOk result (is_end reading.new.behind ≡ true → Rose (L.ends link.old) (L.ends link.new)) }
     ensures over { OnOk result (is_end reading.new.behind ≡ true → L.talk link.new ≡ option_map (receives []) (L.talk link.old)) }
     ensures fetch { reading.new.fetch ≡ reading.old.fetch }
@@ -152,9 +155,11 @@ pub fn listen<L: Link>(
     reading: &mut Reading,
 ) -> Result<Bytes, OutError>
     requires is { IsReading (line_of L.Link link.old) reading.old [] }
+    requires opened { L.opened link.old ≡ not (is_end reading.old.behind) }
 
     ensures frame { ListensCounting OutError.Fault L.Link link.old link.new result }
 
+    ensures opened { OnOk result (L.opened link.new ≡ not (is_end reading.new.behind)) }
     ensures fetch { reading.new.fetch ≡ reading.old.fetch }
     ensures is { IfOk result (IsReading (line_of L.Link link.new) reading.new) }
     ensures small { IfOk result (λ bytes. length bytes ≤ 65536) }

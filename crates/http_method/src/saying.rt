@@ -1,10 +1,10 @@
 //! What is said next to a fetch.
-ghost use Rattle.std.specs.Prelude.{◌≡◌, ◌≢◌, ◌+◌, ◌<◌, ◌≤◌, ◌&&◌, [], length, IfOk, None};
+ghost use Rattle.std.specs.Prelude.{◌≡◌, ◌≢◌, ◌+◌, ◌<◌, ◌≤◌, ◌&&◌, [], false, is_some, length, not, true, IfOk, None, OnErr};
 ghost use Rattle.acq_outside.specs.Word.{IsSoundWord};
 ghost use Rattle.acq_net.specs.OverLink.{Leaves, Listens};
 ghost use Rattle.http_wire.specs.Wire.{IsDone, held, wire_state};
 ghost use Rattle.http_method.specs.Line.{line_of};
-ghost use Rattle.http_method.specs.Reading.{GivesOn, IsKeptBehind, IsReading, IsMirrorsWord, Keeps, SaysOn, is_file, is_kept, kept_if, part_of, word_of};
+ghost use Rattle.http_method.specs.Reading.{GivesOn, IsKeptBehind, IsReading, IsMirrorsWord, Keeps, SaysOn, is_end, is_file, is_kept, is_open_for, kept_if, part_of, word_of};
 
 use crate::hearing::listen;
 use crate::reading::{Behind, Place, Reading, Said};
@@ -32,10 +32,13 @@ pub fn starved() -> Said
 /// What comes next of the peer's response.
 #[tactic(auto, using(crate::proofs::Ending::goes_says, crate::proofs::Ending::dry_says))]
 pub fn next_word<L: Link>(alloc: Global, link: &mut L, reading: Reading) -> Result<Said, Fault>
-    requires { IsReading (line_of L.Link link.old) reading [] }
+    requires is { IsReading (line_of L.Link link.old) reading [] }
+    requires opened { L.opened link.old ≡ not (is_end reading.behind) }
 
     ensures frame { Listens L.Link link.old link.new result }
 
+    ensures opened { IfOk result (λ said. L.opened link.new ≡ is_open_for said.kept said.reading) }
+    ensures closed { OnErr result (L.opened link.new ≡ false) }
     ensures sound { IfOk result (λ said. IsSoundWord said.word) }
     ensures told { IfOk result (IsMirrorsWord (L.world link.old) reading.fetch) }
     ensures keeps { IfOk result (λ said. Keeps (line_of L.Link link.new) said.kept said.reading) }
@@ -59,6 +62,7 @@ pub fn next_word<L: Link>(alloc: Global, link: &mut L, reading: Reading) -> Resu
 /// Says what was heard.
 fn say<L: Link>(alloc: Global, link: &mut L, reading: Reading, bytes: Bytes) -> Said
     requires is { IsReading (line_of L.Link link.old) reading bytes }
+    requires opened { L.opened link.old ≡ not (is_end reading.behind) }
     requires over { bytes ≡ [] → wire_state reading.wire ≢ State.More }
     requires all { bytes ≡ [] → IsDone (wire_state reading.wire) → held reading.wire ≡ [] }
     requires small { length bytes ≤ 65536 }
@@ -66,6 +70,7 @@ fn say<L: Link>(alloc: Global, link: &mut L, reading: Reading, bytes: Bytes) -> 
 
     ensures frame { Leaves L.Link link.old link.new }
 
+    ensures opened { L.opened link.new ≡ is_open_for result.kept result.reading }
     ensures sound { IsSoundWord result.word }
     ensures told { IsMirrorsWord (L.world link.old) reading.fetch result }
     ensures keeps { Keeps (line_of L.Link link.new) result.kept result.reading }
@@ -107,11 +112,13 @@ fn part(reading: Reading, bytes: Bytes) -> Said
 /// The last word: the response is whole, or refused.
 fn finish<L: Link>(alloc: Global, link: &mut L, reading: Reading) -> Said
     requires is { IsReading (line_of L.Link link.old) reading [] }
+    requires opened { L.opened link.old ≡ not (is_end reading.behind) }
     requires over { wire_state reading.wire ≢ State.More }
     requires all { IsDone (wire_state reading.wire) → held reading.wire ≡ [] }
 
     ensures frame { Leaves L.Link link.old link.new }
 
+    ensures opened { L.opened link.new ≡ is_open_for result.kept result.reading }
     ensures sound { IsSoundWord result.word }
     ensures told { IsMirrorsWord (L.world link.old) reading.fetch result }
     ensures keeps { Keeps (line_of L.Link link.new) result.kept result.reading }
@@ -133,7 +140,8 @@ fn finish<L: Link>(alloc: Global, link: &mut L, reading: Reading) -> Said
 
 /// Whether the connection may serve another request.
 fn is_kept(behind: Behind, state: State) -> bool
-    ensures { result ≡ is_kept behind state }
+    ensures kept { result ≡ is_kept behind state }
+    ensures going { result ≡ true → is_end behind ≡ false }
 {
     match (behind, state) {
         (Behind::Nothing, State::Done { keep }) => keep,
@@ -160,9 +168,11 @@ fn word_of(size: u64, reply: Reply) -> Word
 }
 
 /// Keeps the connection to the URI's host and port behind a file, where it may be kept, or closes it.
-fn keep_open<L: Link>(link: &mut L, file: bool, keep: bool, uri: Uri) -> Option<Place>
-    ensures frame { Leaves L.Link link.old link.new }
+fn keep_open<L: Link>(connection: &mut L, file: bool, keep: bool, uri: Uri) -> Option<Place>
+    requires { keep ≡ true → L.opened connection.old ≡ true }
+    ensures frame { Leaves L.Link connection.old connection.new }
     ensures kept { result ≡ kept_if (file && keep) uri }
+    ensures opened { L.opened connection.new ≡ is_some result }
 {
     if file && keep {
         return Some(Place {
@@ -170,6 +180,6 @@ fn keep_open<L: Link>(link: &mut L, file: bool, keep: bool, uri: Uri) -> Option<
             port: uri.port,
         });
     }
-    link.close();
+    connection.close();
     None
 }

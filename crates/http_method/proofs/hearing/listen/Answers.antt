@@ -1,7 +1,8 @@
-use Rattle.std.proofs.Common.{◌∙◌, [], sym, refl, subst, arith, length, ◌≤◌}
+use Rattle.std.proofs.Common.{◌∙◌, [], ap, sym, refl, subst, arith, length, not, ◌≤◌}
 use Rattle.acq_net.proofs.LinkFramed.{listened_on}
 use Rattle.http_method.specs.declared.reading.Reading.{Reading}
 use Rattle.http_method.specs.Line.{line_of}
+use Rattle.http_method.specs.Reading.{is_end}
 use Rattle.http_method.proofs.Received.{empty_is, goes_given, goes_on, reading_on, small_none, small_on}
 use Rattle.http_method.proofs.hearing.listen.Goals as goal
 
@@ -43,6 +44,7 @@ loop-preserved g c =
       room = (let same = c.in_ok-receive_once.ensures.room in let few = c.in_ok-room.ensures.few in omega (arith, same, few));
       frame = listened_on c.loop.invariant.frame c.in_ok-receive_once.ensures.frame;
       fetch = c.in_ok-receive_once.ensures.fetch ∙ c.loop.invariant.fetch;
+      opened = c.in_ok-receive_once.ensures.opened (c.loop.invariant.opened ∙ ap (λ b. not (is_end b)) (c.loop.invariant.is.going (sym c.in_ok-bytes.ensures.state ∙ c.is_going.ensures.going c.if-not-is_going.false)));
       is = reading_on line later c.loop.reading c.receive_once.new.reading [] c.loop.invariant.is on c.in_ok-receive_once.ensures.fetch c.in_ok-receive_once.ensures.going
           (small_on line middle c.receive_once.new.reading [] between c.in_ok-receive_once.ensures.small (c.is_going.ensures.going c.if-not-is_going.false) c.in_ok-bytes.ensures.none);
       goes = goes_on first line later c.args.reading.now c.loop.reading c.receive_once.new.reading [] c.loop.invariant.goes on;

@@ -1,7 +1,8 @@
-use Rattle.std.proofs.Common.{◌∙◌, None, ap, arith, refl, subst}
+use Rattle.std.proofs.Common.{◌≡◌, ◌⊎◌, ◌∙◌, None, ap, arith, refl, subst, sym, true}
+use Rattle.acq_outside.specs.Count.{Rose}
 use Rattle.acq_outside.specs.Word.{IsWord, begun}
 use Rattle.http_method.specs.Reading.{under_of, world_of}
-use Rattle.http_method.proofs.Settled.{faults_same, file_word, link_same, narrowed, settled_link, settled_word}
+use Rattle.http_method.proofs.Settled.{faults_same, file_word, heard_so, link_same, narrowed, settled_link, settled_word}
 use Rattle.http_method.proofs.method.HttpMethodMethod.begin.Goals as goal
 
 pub returns-in-Http-clause-word : goal.returns-in-Http-clause-word
@@ -31,3 +32,12 @@ returns-in-Http-clause-frame g c =
 
 pub returns-in-File-clause-word : goal.returns-in-File-clause-word
 returns-in-File-clause-word g c = file_word c.args.self.now.faults c.self.inside.faults (g.L.Link.world c.args.self.now.link) c.args.job.now None (faults_same c.self.view_is) refl c.in-File.is
+
+pub returns-in-Http-clause-heard : goal.returns-in-Http-clause-heard
+returns-in-Http-clause-heard g c = λ http from_peer.
+    let made = g.L.Link.made in
+    let answered = g.L.Link.answered in
+    let last = c.ask-said.new.link in
+    subst (λ l. Rose (made c.args.self.now.link) (made l) ⊎ (answered l ≡ true)) (sym c.record_step.ensures.link)
+    (subst (λ n. Rose n (made last) ⊎ (answered last ≡ true)) (link_same made c.self.view_is)
+    (heard_so (Rose (made c.self.inside.link) (made last) ⊎ (answered last ≡ true)) c.self.inside.faults c.record_step.new.self.faults c.ask-said.result c.record_step.result c.ask-said.ensures.heard c.record_step.ensures.word c.record_step.ensures.fault from_peer))
