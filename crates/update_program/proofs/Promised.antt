@@ -95,7 +95,7 @@ module _
       by : WritesWhyNoLog run before after status → status ≡ 103 → IsTrue before.tells → damage_of before.files ≡ None → WasSynced before.engine → StopsOnSameLists run before.engine after.engine
       by (inl said) is tells whole synced = absurd (not_memory before.out after.out status said is)
       by (inr (inl damaged)) is tells whole synced = let found = damaged.1 tells in absurd (cc)
-      by (inr (inr memory)) is tells whole synced = same_lists run before.engine after.engine (memory.0 synced) synced
+      by (inr (inr memory)) is tells whole synced = same_lists run before.engine after.engine (memory.0.whole synced) synced
 
   refused_run : (run : Run) (log : Option RunLog) → MakesRun run before after log status → IfNone log (status ≡ 100 → IsRefused told options before)
   refused_run run None ran = by_why run ran.why

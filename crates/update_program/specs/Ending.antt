@@ -45,9 +45,8 @@ MakesNoRun seen ran = IsNoRun seen.before seen.after ran.log
 -- ---- a run
 
 -- over a folder that tells and was synced, each commit that was begun is acknowledged
-abbrev pub StopsNoCommit : Run → Objects → Objects → Type 0
-StopsNoCommit run before after =
-    ToldAs IsSynced before.engine.trace → StopsForMemory run before.engine.mirrors before.engine.trace after.engine.trace
+pub record StopsNoCommit (run : Run) (before after : Objects) : Type 0 where
+  pub whole : ToldAs IsSynced before.engine.trace → StopsForMemory run before.engine.mirrors before.engine.trace after.engine.trace
 
 -- why it answers no log: the lists folder failed, the journal is damaged at this place and no file was touched, or memory
 -- ran out, and no commit was stopped

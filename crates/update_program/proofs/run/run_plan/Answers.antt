@@ -1,4 +1,4 @@
-use Rattle.std.proofs.Common.{rules, inl, inr, refl, w64}
+use Rattle.std.proofs.Common.{inl, inr, refl, w64}
 use Rattle.std.proofs.lemmas.Int.{to_z-of_z}
 use Rattle.update_program.proofs.Damage.{none_told}
 use Rattle.update_program.proofs.Endings.{says_damage}
@@ -17,8 +17,8 @@ returns-in-Ok-run_update-clause-ended g c =
       undamaged = λ tells some. none_told _ c.in-Ok-run_update.log (by.run.damage tells);
     })
 
-pub returns-in-Err-NoMemory-clause-ended : goal.returns-in-Err-NoMemory-clause-ended
-returns-in-Err-NoMemory-clause-ended g c =
+pub returns-clause-ended : goal.returns-clause-ended
+returns-clause-ended g c =
     let dry = rw c.in-Err-NoMemory.field-0-is at c.in-Err-NoMemory.ensures.run.dry in
     let left = c.without_log-in-Err-NoMemory.ensures in
     inl (record {
@@ -26,7 +26,7 @@ returns-in-Err-NoMemory-clause-ended g c =
       log = rw left.log tt;
       begins = rw left.log tt;
       said = rw left.log tt;
-      why = rw (left.log, left.status) (inr (inr (rw (c.new-judge.ensures, to_z-of_z w64 c.args.now c.ranges.now) at (dry refl), search rules)));
+      why = rw (left.log, left.status) (inr (inr (record { whole = rw (c.new-judge.ensures, to_z-of_z w64 c.args.now c.ranges.now) at (dry refl) }, c.write_fixed-in-Err-NoMemory.ensures.said)));
       undamaged = λ tells some. let never = rw left.log at some in absurd cc;
     })
 
