@@ -10,6 +10,7 @@ returns g c =
     inr (record {
       words = c.as_slice.result.now;
       words_are = rw c.as_slice.ensures.value begun.words;
+      folders_are = begun.folders;
       etc = c.in-Ok-open.outside.etc;
       etc_is = named_by _ _ _ etc_of c.in-Ok-open.ensures.etc begun.etc;
       lists = c.in-Ok-open.outside.lists;
