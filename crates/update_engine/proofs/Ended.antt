@@ -138,7 +138,7 @@ groups_last start notes now (p ∷ picks) names told each none =
     )
 
 loose_apart : (sources : List Source) (names : List (List ℕ)) → ((name : List ℕ) → Contains names name → IsLoose sources name) → (name : List ℕ) → Contains names name → Contains (flat_map names_of sources) name → ⊥
-loose_apart sources names loose name is own = loose name is (there lock (journal ∷ flat_map kept_of sources) name (there journal (flat_map kept_of sources) name (all_kept sources name own)))
+loose_apart sources names loose name is own = (loose name is).other (there lock (journal ∷ flat_map kept_of sources) name (there journal (flat_map kept_of sources) name (all_kept sources name own)))
 
 of_none : (start : RunStart) (cleanup : Bool) (verdicts : List Verdict2) (loose : List (List ℕ)) → ((name : List ℕ) → Contains loose name → IsLoose start.config.sources name) → IfSome (names_to_remove cleanup verdicts loose) (AreRemovable (begun_of start))
 of_none start cleanup verdicts loose are = one (cleans cleanup verdicts)
