@@ -90,15 +90,23 @@ fn answer_of(
     list: Option<&ListName>,
     has: &Has,
 ) -> Result<Closed, Refused> {
-    Ok(Closed::Not(match has {
-        Has::File(file) => return served(alloc, given, job, list, file),
-        Has::Whole(_) if job.from > 0 => NotServed::Absent(200),
-        Has::Whole(file) => return served(alloc, given, job, list, file),
+    match has {
+        Has::File(file) => served(alloc, given, job, list, file),
+        Has::Whole(file) if job.from == 0 => served(alloc, given, job, list, file),
+        _ => Ok(Closed::Not(not_served(alloc, has)?)),
+    }
+}
+
+/// What the mirror answers where it has this and serves nothing of it: a file that is given as a whole alone stands for an
+/// ask for its rest.
+fn not_served(alloc: Global, has: &Has) -> Result<NotServed, Refused> {
+    Ok(match has {
+        Has::File(_) | Has::Whole(_) => NotServed::Absent(200),
         Has::Moved(Some(place)) => NotServed::Moved(Some(read_uri(alloc, place.as_bytes())?)),
         Has::Moved(None) => NotServed::Moved(None),
         Has::Absent(status) => NotServed::Absent(*status),
         Has::TooBig => NotServed::TooBig,
         Has::Garbled(at) => NotServed::Garbled(*at),
         Has::Letters(_) => return Err(Refused::Methods),
-    }))
+    })
 }

@@ -9,20 +9,11 @@ use crate::objects::etc_of;
 use crate::refused::Refused;
 use acq_base::{Bytes, ListName, NoMemory, Old, Row, Source, Target, Text, TryCopy};
 use configuration::{Configured, configure};
-use kept_hooks::Judge;
 use std::alloc::Global;
 use update_core::Board;
 
 /// How many lanes each board has.
 pub const LANES: u32 = 2;
-
-/// A board with its judge.
-#[derive(Drop)]
-pub struct Judged {
-    pub board: Board,
-    pub judge: Judge,
-    ghost change: { judge.change ≡ (board_of board).config.change },
-}
 
 /// What the configuration folder and the options among the words give.
 pub fn configured(alloc: Global, given: &Given) -> Result<Configured, Refused>
@@ -91,28 +82,17 @@ fn parts(alloc: Global, given: &Given) -> Result<Row<(ListName, u64)>, Refused> 
     let mut row = Row::new(alloc);
     for (name, content) in given.disk.iter() {
         if let Some(list) = name.as_bytes().strip_prefix(b"partial/".as_slice()) {
-            row.push((ListName(Text::from_bytes(alloc, list)?), content.len() as u64))?;
+            row.push((
+                ListName(Text::from_bytes(alloc, list)?),
+                content.len() as u64,
+            ))?;
         }
     }
     Ok(row)
 }
 
-/// The board with its judge, before anything is asked.
-pub fn begin_update(
-    alloc: Global,
-    given: &Given,
-    configured: Configured,
-    judge: Judge,
-) -> Result<Judged, Refused>
-    requires plan { IsSound configured.plan }
-    requires change { judge.change ≡ configured.change }
-{
-    let board = begin(alloc, given, configured)?;
-    Ok(Judged { board, judge })
-}
-
 /// The board before anything is asked.
-fn begin(alloc: Global, given: &Given, configured: Configured) -> Result<Board, Refused>
+pub fn begin(alloc: Global, given: &Given, configured: Configured) -> Result<Board, Refused>
     requires { IsSound configured.plan }
     ensures { IfOk result (λ board. (board_of board).config.change ≡ configured.change) }
 {

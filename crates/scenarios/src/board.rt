@@ -5,10 +5,10 @@ ghost use Rattle.board_model.specs.Boards.{first_ready, is_out};
 ghost use Rattle.update_core.specs.BoardRefinement.{board_of};
 
 use crate::answers::{answer, faults_at};
-use crate::beginning::{Judged, LANES, begin_update, configured};
+use crate::beginning::{LANES, begin, configured};
 use crate::given::Given;
 use crate::refused::Refused;
-use acq_base::{Job, NoMemory, NotServed, Row, Text};
+use acq_base::{Job, NoMemory, NotServed, Row, Text, Uri};
 use kept_hooks::Judge;
 use release_file::{Head, is_allowed};
 use std::alloc::Global;
@@ -59,6 +59,16 @@ impl Course {
         }
     }
 
+    /// Whether an ask at this URI is to fail once more, which is then noted.
+    fn fails(&mut self, alloc: Global, given: &Given, uri: &Uri) -> Result<bool, NoMemory> {
+        let uri = uri_text(alloc, uri)?;
+        if times(self.faults.as_slice(), &uri) >= faults_at(given, &uri) {
+            return Ok(false);
+        }
+        self.faults.push(uri)?;
+        Ok(true)
+    }
+
     /// The method of a lane fails once more.
     fn fault(&mut self, lane: u32) -> Result<Closed, Refused> {
         let Some(failed) = self.failed.get_mut(lane as usize) else {
@@ -72,33 +82,38 @@ impl Course {
 }
 
 /// The next job of a lane goes out, if there is one.
-fn issue(alloc: Global, judged: Judged, course: &mut Course, lane: u32) -> Result<Judged, Refused> {
-    let (judged, job) = issued(alloc, judged, lane)?;
-    if let Some(job) = job {
+fn issue(alloc: Global, board: &mut Board, course: &mut Course, lane: u32) -> Result<(), Refused>
+    ensures { OnOk result ((board_of board.new).config.change ≡ (board_of board.old).config.change) }
+{
+    if let Some(job) = issued(alloc, board, lane)? {
         course.out.push((lane, job))?;
     }
-    Ok(judged)
+    Ok(())
 }
 
-#[tactic(auto, using(crate::proofs::Kept::after_issued))]
-fn issued(alloc: Global, judged: Judged, lane: u32) -> Result<(Judged, Option<Job>), Refused> {
-    let Judged { mut board, judge } = judged;
-    let job = board.issue(alloc, lane)?;
-    Ok((Judged { board, judge }, job))
+/// The next job of a lane, which goes out. That changes nothing of what may change.
+fn issued(alloc: Global, board: &mut Board, lane: u32) -> Result<Option<Job>, NoMemory>
+    ensures { OnOk result ((board_of board.new).config.change ≡ (board_of board.old).config.change) }
+{
+    board.issue(alloc, lane)
 }
 
 /// The job that went out last is answered, if one is out.
 fn absorb_last(
     alloc: Global,
     given: &Given,
-    judged: Judged,
+    board: &mut Board,
+    judge: &Judge,
     course: &mut Course,
-) -> Result<Judged, Refused> {
+) -> Result<(), Refused>
+    requires { judge.now.change ≡ (board_of board.old).config.change }
+    ensures { OnOk result ((board_of board.new).config.change ≡ (board_of board.old).config.change) }
+{
     let Some((lane, job)) = course.out.pop() else {
-        return Ok(judged);
+        return Ok(());
     };
-    let closed = closed(alloc, given, &judged.board, course, lane, &job)?;
-    absorbed(alloc, judged, lane, job.no, closed)
+    let closed = closed(alloc, given, board, course, lane, &job)?;
+    absorbed(alloc, board, judge, lane, job.no, closed)
 }
 
 /// The answer to a job of a lane: a fault, as long as asks at its URI are to fail, or what the mirror answers.
@@ -110,9 +125,7 @@ fn closed(
     lane: u32,
     job: &Job,
 ) -> Result<Closed, Refused> {
-    let uri = uri_text(alloc, &job.uri)?;
-    if times(course.faults.as_slice(), &uri) < faults_at(given, &uri) {
-        course.faults.push(uri)?;
+    if course.fails(alloc, given, &job.uri)? {
         return course.fault(lane);
     }
     answer(alloc, given, job, board.stage(job.no))
@@ -126,17 +139,19 @@ fn times(texts: &[Text], text: &Text) -> u64 {
 /// The board takes an answer in.
 fn absorbed(
     alloc: Global,
-    judged: Judged,
+    board: &mut Board,
+    judge: &Judge,
     lane: u32,
     number: u64,
     closed: Closed,
-) -> Result<Judged, Refused> {
-    let Judged { mut board, judge } = judged;
+) -> Result<(), Refused>
+    requires { judge.now.change ≡ (board_of board.old).config.change }
+    ensures { OnOk result ((board_of board.new).config.change ≡ (board_of board.old).config.change) }
+{
     if !board.is_out(number) {
         return Err(Refused::Board);
     }
-    take_in(alloc, &mut board, &judge, lane, number, closed)?;
-    Ok(Judged { board, judge })
+    Ok(take_in(alloc, board, judge, lane, number, closed)?)
 }
 
 /// The answer to a job that is out comes in. It changes nothing of what may change.
@@ -156,33 +171,33 @@ fn take_in(
 }
 
 /// The first source that is ready is settled, if there is one.
-fn settle(alloc: Global, judged: Judged, course: &mut Course) -> Result<Judged, Refused> {
-    let Some(source) = judged.board.ready() else {
-        return Ok(judged);
-    };
-    let (judged, settled) = settled_as(alloc, judged, source)?;
-    course.settled.push((source, settled))?;
-    Ok(judged)
+fn settle(alloc: Global, board: &mut Board, course: &mut Course) -> Result<(), Refused>
+    ensures { OnOk result ((board_of board.new).config.change ≡ (board_of board.old).config.change) }
+{
+    if let Some(source) = board.ready() {
+        let settled = settled(alloc, board, source)?;
+        course.settled.push((source, settled))?;
+    }
+    Ok(())
 }
 
-/// A source is settled.
-#[tactic(auto, using(crate::proofs::Kept::after_settled))]
-fn settled_as(alloc: Global, judged: Judged, source: u32) -> Result<(Judged, Settled), Refused>
-    requires { first_ready (board_of judged.board).slots ≡ Some source }
+/// A source is settled. That changes nothing of what may change.
+fn settled(alloc: Global, board: &mut Board, source: u32) -> Result<Settled, NoMemory>
+    requires { first_ready (board_of board.old).slots ≡ Some source }
+    ensures { OnOk result ((board_of board.new).config.change ≡ (board_of board.old).config.change) }
 {
-    let Judged { mut board, judge } = judged;
-    let settled = board.settle(alloc, source)?;
-    Ok((Judged { board, judge }, settled))
+    board.settle(alloc, source)
 }
 
 /// The jobs that go out before the next answer.
 fn issue_all(
     alloc: Global,
-    judged: Judged,
+    board: &mut Board,
     course: &mut Course,
     schedule: Schedule,
-) -> Result<Judged, Refused> {
-    let mut judged = judged;
+) -> Result<(), Refused>
+    ensures { OnOk result ((board_of board.new).config.change ≡ (board_of board.old).config.change) }
+{
     for turn in 0..LANES {
         if schedule == Schedule::Held || course.out.is_empty() {
             let lane = if schedule == Schedule::LastLane {
@@ -190,43 +205,64 @@ fn issue_all(
             } else {
                 turn
             };
-            judged = issue(alloc, judged, course, lane)?;
+            issue(alloc, board, course, lane)?;
         }
     }
-    Ok(judged)
+    Ok(())
 }
 
 /// One answer, with what goes before it and what is settled behind it.
 fn step(
     alloc: Global,
     given: &Given,
-    judged: Judged,
+    board: &mut Board,
+    judge: &Judge,
     course: &mut Course,
     schedule: Schedule,
-) -> Result<Judged, Refused> {
-    let judged = issue_all(alloc, judged, course, schedule)?;
+) -> Result<(), Refused>
+    requires { judge.now.change ≡ (board_of board.old).config.change }
+    ensures { OnOk result ((board_of board.new).config.change ≡ (board_of board.old).config.change) }
+{
+    issue_all(alloc, board, course, schedule)?;
     if schedule == Schedule::Held && course.out.is_empty() {
-        return settle(alloc, judged, course);
+        return settle(alloc, board, course);
     }
-    let judged = absorb_last(alloc, given, judged, course)?;
+    absorb_last(alloc, given, board, judge, course)?;
     if schedule == Schedule::Held {
-        return Ok(judged);
+        return Ok(());
     }
-    settle(alloc, judged, course)
+    settle(alloc, board, course)
 }
 
 /// A run over the mirror to its end.
 pub fn finish(alloc: Global, given: &Given, schedule: Schedule) -> Result<Finished, Refused> {
     let configured = configured(alloc, given)?;
     let change = configured.change;
+    let board = begin(alloc, given, configured)?;
     let test = Box::new(alloc, move |old: &Head, new: &Head| {
         is_allowed(&change, old, new)
     })?;
-    let judged = begin_update(alloc, given, configured, Judge::new(test, change))?;
+    ended(alloc, given, board, &Judge::new(test, change), schedule)
+}
+
+/// What a run comes to that begins with this board.
+fn ended(
+    alloc: Global,
+    given: &Given,
+    board: Board,
+    judge: &Judge,
+    schedule: Schedule,
+) -> Result<Finished, Refused>
+    requires { judge.now.change ≡ (board_of board).config.change }
+{
+    let mut board = board;
     let mut course = Course::new(alloc);
-    let log = ended(steps(alloc, given, judged, &mut course, schedule)?)?;
+    steps(alloc, given, &mut board, judge, &mut course, schedule)?;
+    if !board.finished() {
+        return Err(Refused::Endless);
+    }
     Ok(Finished {
-        log,
+        log: board.into_log(),
         settled: course.settled,
     })
 }
@@ -235,24 +271,18 @@ pub fn finish(alloc: Global, given: &Given, schedule: Schedule) -> Result<Finish
 fn steps(
     alloc: Global,
     given: &Given,
-    judged: Judged,
+    board: &mut Board,
+    judge: &Judge,
     course: &mut Course,
     schedule: Schedule,
-) -> Result<Judged, Refused> {
-    let mut judged = judged;
-    for _ in 0..500u32 {
-        if judged.board.finished() {
-            break;
+) -> Result<(), Refused>
+    requires { judge.now.change ≡ (board_of board.old).config.change }
+{
+    for _turn in 0..500u32 {
+        if board.finished() {
+            return Ok(());
         }
-        judged = step(alloc, given, judged, course, schedule)?;
+        step(alloc, given, board, judge, course, schedule)?;
     }
-    Ok(judged)
-}
-
-/// The log of a run, which has ended.
-fn ended(judged: Judged) -> Result<RunLog, Refused> {
-    if !judged.board.finished() {
-        return Err(Refused::Endless);
-    }
-    Ok(judged.board.into_log())
+    Ok(())
 }

@@ -56,12 +56,17 @@ fn read_rename(alloc: Global, from: &str, to: &str) -> Result<DiskCall, Refused>
 
 fn read_write(alloc: Global, rest: &str) -> Result<DiskCall, Refused> {
     let (place, bytes) = read_named(alloc, rest)?;
-    let Some((name, at)) = place.split_once(' ') else {
-        return Err(Refused::Line);
-    };
-    let at = read_number(at)?;
+    let (name, at) = read_place(place)?;
     let name = text(alloc, name)?;
     Ok(DiskCall::Write { name, at, bytes })
+}
+
+/// A name, and from which byte on is written.
+fn read_place(place: &str) -> Result<(&str, u64), Refused> {
+    match place.split_once(' ') {
+        Some((name, at)) => Ok((name, read_number(at)?)),
+        None => Err(Refused::Line),
+    }
 }
 
 fn text(alloc: Global, name: &str) -> Result<Text, Refused> {

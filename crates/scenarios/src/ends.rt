@@ -106,8 +106,20 @@ fn put_ends(alloc: Global, page: &mut Page, given: &Given, plan: &Plan) -> Resul
     let first = finish(alloc, given, Schedule::FirstLane)?;
     let what = told(alloc, plan, &first)?;
     page.put(what.as_str());
+    put_others(alloc, page, given, plan, &first, what.as_str())
+}
+
+/// Puts a line for each other order of answers under which a run doesn't come to the same.
+fn put_others(
+    alloc: Global,
+    page: &mut Page,
+    given: &Given,
+    plan: &Plan,
+    first: &Finished,
+    what: &str,
+) -> Result<(), Refused> {
     for schedule in [Schedule::LastLane, Schedule::Held] {
-        if !ends_so(alloc, given, plan, schedule, &first, what.as_str())? {
+        if !ends_so(alloc, given, plan, schedule, first, what)? {
             page.put("another order of answers comes to another end\n");
         }
     }

@@ -6,7 +6,7 @@ use crate::ends::put_body;
 use crate::given::{Given, Kind};
 use crate::refused::{Refused, utf8};
 use crate::telling::put_place;
-use acq_base::{Job, ListName, Plan, Row, Settings, Source, Target, TryCopy};
+use acq_base::{Bytes, Job, ListName, NoMemory, Plan, Row, Settings, Source, Sum, Target, TryCopy};
 use case_words::Page;
 use configuration::Configured;
 use item_graph::{Ask, End, Item};
@@ -66,13 +66,24 @@ fn single_item(
     target: &Target,
     settings: &Settings,
 ) -> Result<Item, Refused> {
-    let release = installed_release(alloc, given, source)?;
-    let Some(sum) = find_file(&release, target.path.as_bytes()) else {
-        return Err(Refused::Board);
-    };
+    let sum = listed_sum(alloc, given, source, target)?;
     let uri = target.uri.copy(alloc)?;
     let path = target.path.copy(alloc)?;
-    Ok(Item::for_file(alloc, uri, path, *sum, settings)?)
+    Ok(Item::for_file(alloc, uri, path, sum, settings)?)
+}
+
+/// The sum of a list in the Release that is installed.
+fn listed_sum(
+    alloc: Global,
+    given: &Given,
+    source: &Source,
+    target: &Target,
+) -> Result<Sum, Refused> {
+    let release = installed_release(alloc, given, source)?;
+    match find_file(&release, target.path.as_bytes()) {
+        Some(sum) => Ok(*sum),
+        None => Err(Refused::Board),
+    }
 }
 
 /// The item of what is given: the first list's, as a single file or not, or where no Release is installed the Release's.
@@ -168,7 +179,12 @@ fn closed(
         max: ask.max,
         from: ask.from,
     };
-    answer(alloc, given, &job, if ask.stage { Some(name) } else { None })
+    answer(
+        alloc,
+        given,
+        &job,
+        if ask.stage { Some(name) } else { None },
+    )
 }
 
 /// Puts a line for an ask, with the most bytes that may come, and whether they go into a partial file.
@@ -195,17 +211,26 @@ fn put_end(alloc: Global, page: &mut Page, plan: &Plan, end: End) -> Result<(), 
 
 /// Puts the line of a report in which the plan's only source is kept for this cause.
 fn put_cause(alloc: Global, page: &mut Page, plan: &Plan, cause: Cause) -> Result<(), Refused> {
+    let report = kept_report(alloc, plan, cause)?;
+    page.put(first_line(report.as_slice())?);
+    Ok(())
+}
+
+fn first_line(report: &[u8]) -> Result<&str, Refused> {
+    Ok(utf8(report)?.lines().next().unwrap_or(""))
+}
+
+/// The report in which the plan's only source is kept for this cause.
+fn kept_report(alloc: Global, plan: &Plan, cause: Cause) -> Result<Bytes, Refused> {
     let log = log_of(alloc, cause)?;
     if log.verdicts.len() != plan.sources.len() {
         return Err(Refused::Board);
     }
-    let report = report(alloc, plan, &log)?;
-    page.put(utf8(report.as_slice())?.lines().next().unwrap_or(""));
-    Ok(())
+    Ok(report(alloc, plan, &log)?)
 }
 
 /// A log of one source, which is kept for this cause.
-fn log_of(alloc: Global, cause: Cause) -> Result<RunLog, Refused> {
+fn log_of(alloc: Global, cause: Cause) -> Result<RunLog, NoMemory> {
     let mut verdicts = Row::new(alloc);
     verdicts.push(Verdict2::Kept(cause))?;
     Ok(RunLog {

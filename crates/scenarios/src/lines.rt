@@ -1,9 +1,9 @@
 //! The lines of a scenario.
 
-use crate::given::{Configured, Given, Has, Kind, Stop, Tell};
+use crate::given::{Configured, Fails, Given, Has, Kind, Stop, Tell};
 use crate::quoted::{read_bytes, read_named, read_pieces};
 use crate::refused::{Refused, said, utf8};
-use acq_base::{Row, Text};
+use acq_base::{Bytes, Row, Text};
 use acq_outside::{Place, is_name};
 use std::alloc::Global;
 
@@ -13,24 +13,28 @@ pub fn take_line(alloc: Global, given: &mut Given, line: &str) -> Result<(), Ref
     match kind {
         "word" => given.words.push(read_word(alloc, rest)?)?,
         "etc" => given.etc.push(read_configured(alloc, rest)?)?,
-        "now" => given.now = said(rest.parse::<i64>())?,
         "mirror" => given.mirror.push(read_answer(alloc, rest)?)?,
         "faulty" => given.faulty.push(read_faulty(alloc, rest)?)?,
+        "tree" => given.tree.push(read_file(alloc, rest)?)?,
+        "peer" => given.peers.push(read_pieces(alloc, rest)?)?,
+        "disk" => take_file(alloc, given, rest)?,
+        _ => return take_way(alloc, given, kind, rest),
+    }
+    Ok(())
+}
+
+/// Takes a line that says how it is run.
+fn take_way(alloc: Global, given: &mut Given, kind: &str, rest: &str) -> Result<(), Refused> {
+    match kind {
+        "now" => given.now = said(rest.parse::<i64>())?,
+        "methods" => given.methods = said(rest.parse::<u8>())?,
+        "fails" => take_fails(&mut given.fails, rest)?,
+        "stop" => given.stop = read_stop(alloc, rest)?,
+        "tell" => take_tell(&mut given.tell, rest)?,
+        "held" if rest.is_empty() => given.held = true,
         "board" if rest.is_empty() => given.kind = Kind::Board,
         "item" if rest.is_empty() => given.kind = Kind::Item,
         "single" if rest.is_empty() => given.kind = Kind::Single,
-        "tree" => {
-            let (path, content) = read_named(alloc, rest)?;
-            let path = Text::from_bytes(alloc, path.as_bytes())?;
-            given.tree.push((path, content))?;
-        }
-        "peer" => given.peers.push(read_pieces(alloc, rest)?)?,
-        "disk" => take_file(alloc, given, rest)?,
-        "held" if rest.is_empty() => given.held = true,
-        "methods" => given.methods = said(rest.parse::<u8>())?,
-        "fails" => take_fails(given, rest)?,
-        "stop" => given.stop = read_stop(alloc, rest)?,
-        "tell" => take_tell(&mut given.tell, rest)?,
         _ => return Err(Refused::Line),
     }
     Ok(())
@@ -75,42 +79,53 @@ fn read_faulty(alloc: Global, rest: &str) -> Result<(Text, u64), Refused> {
     Ok((Text::from_bytes(alloc, uri.as_bytes())?, times))
 }
 
-/// What a mirror has under a URI.
+/// A URI, and what a mirror has under it.
 fn read_answer(alloc: Global, rest: &str) -> Result<(Text, Has), Refused> {
     let (uri, rest) = halves(rest);
+    let has = read_has(alloc, rest)?;
+    Ok((Text::from_bytes(alloc, uri.as_bytes())?, has))
+}
+
+/// What a mirror has under a URI.
+fn read_has(alloc: Global, rest: &str) -> Result<Has, Refused> {
     let (kind, value) = halves(rest);
-    let has = match kind {
+    Ok(match kind {
         "served" => Has::File(read_bytes(alloc, value)?),
         "whole" => Has::Whole(read_bytes(alloc, value)?),
         "big" if value.is_empty() => Has::TooBig,
-        "garbled" => Has::Garbled(said(value.parse::<u64>())?),
+        "garbled" => Has::Garbled(read_number(value)?),
         "letters" => Has::Letters(read_number(value)?),
         "moved" if value == "-" => Has::Moved(None),
         "moved" => Has::Moved(Some(Text::from_bytes(alloc, value.as_bytes())?)),
         "absent" => Has::Absent(said(value.parse::<u16>())?),
         _ => return Err(Refused::Line),
-    };
-    Ok((Text::from_bytes(alloc, uri.as_bytes())?, has))
+    })
+}
+
+/// A file by its path, and its bytes.
+fn read_file(alloc: Global, rest: &str) -> Result<(Text, Bytes), Refused> {
+    let (path, content) = read_named(alloc, rest)?;
+    Ok((Text::from_bytes(alloc, path.as_bytes())?, content))
 }
 
 fn take_file(alloc: Global, given: &mut Given, rest: &str) -> Result<(), Refused> {
-    let (name, content) = read_named(alloc, rest)?;
+    let (name, content) = read_file(alloc, rest)?;
     if !is_name(name.as_bytes()) {
         return Err(Refused::Names);
     }
-    given.put(Text::from_bytes(alloc, name.as_bytes())?, content)
+    given.put(name, content)
 }
 
-fn take_fails(given: &mut Given, rest: &str) -> Result<(), Refused> {
+fn take_fails(fails: &mut Fails, rest: &str) -> Result<(), Refused> {
     let (object, numbers) = halves(rest);
     let calls = match object {
-        "begin" => &mut given.fails.begin,
-        "more" => &mut given.fails.more,
-        "disk" => &mut given.fails.disk,
-        "etc" => &mut given.fails.etc,
-        "sink" => &mut given.fails.sink,
-        "tree" => &mut given.fails.tree,
-        "link" => &mut given.fails.link,
+        "begin" => &mut fails.begin,
+        "more" => &mut fails.more,
+        "disk" => &mut fails.disk,
+        "etc" => &mut fails.etc,
+        "sink" => &mut fails.sink,
+        "tree" => &mut fails.tree,
+        "link" => &mut fails.link,
         _ => return Err(Refused::Line),
     };
     for number in numbers.split(' ') {

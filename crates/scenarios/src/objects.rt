@@ -4,11 +4,12 @@ ghost use Rattle.std.specs.Prelude.{IfOk};
 ghost use Rattle.acq_base.specs.Fetch.{IsSoundAnswer};
 ghost use Rattle.acq_memory.specs.MapMethod.{HasSoundAnswers};
 
-use crate::given::{Folder, Given, Has};
+use crate::given::{Configured, Folder, Given, Has};
 use crate::refused::Refused;
 use acq_base::{Answer, Bytes, Mirror, NoMemory, Row, Text, TryCopy};
 use acq_memory::{MapMethod, MemDisk, MemEtc, MemTree};
 use acq_net::ScriptLink;
+use acq_outside::Place;
 use file_method::FileMethod;
 use http_method::HttpMethod;
 use std::alloc::Global;
@@ -61,14 +62,26 @@ fn named(alloc: Global, name: &Text, content: &Bytes) -> Result<(Text, Bytes), N
 
 /// A method that gives the tree's files.
 pub fn file_method(alloc: Global, given: &Given) -> Result<FileMethod<MemTree>, Refused> {
-    let mut files = Row::new(alloc);
-    for file in given.tree.as_slice() {
-        files.push(named(alloc, &file.0, &file.1)?)?;
-    }
+    let failing = given.fails.tree.copy(alloc)?;
+    Ok(FileMethod::new(tree(alloc, given.tree.as_slice(), failing)?))
+}
+
+/// A tree of these files.
+fn tree(alloc: Global, files: &[(Text, Bytes)], failing: Row<u64>) -> Result<MemTree, Refused> {
+    let files = copies(alloc, files)?;
     if !MemTree::takes(&files) {
         return Err(Refused::Names);
     }
-    Ok(FileMethod::new(MemTree::new(files, given.fails.tree.copy(alloc)?)))
+    Ok(MemTree::new(files, failing))
+}
+
+/// The same files.
+fn copies(alloc: Global, files: &[(Text, Bytes)]) -> Result<Row<(Text, Bytes)>, NoMemory> {
+    let mut rows = Row::new(alloc);
+    for file in files {
+        rows.push(named(alloc, &file.0, &file.1)?)?;
+    }
+    Ok(rows)
 }
 
 /// A method that asks the peers.
@@ -88,25 +101,43 @@ pub fn disk_of(
     held: bool,
     failing: Row<u64>,
 ) -> Result<MemDisk, Refused> {
-    let mut files = Row::new(alloc);
-    for (name, content) in folder.iter() {
-        files.push(named(alloc, name, content)?)?;
-    }
+    let files = rows_of(alloc, folder)?;
     if !MemDisk::takes(&files) {
         return Err(Refused::Names);
     }
     Ok(MemDisk::new(alloc, files, held, failing)?)
 }
 
+/// The files of a folder.
+fn rows_of(alloc: Global, folder: &Folder) -> Result<Row<(Text, Bytes)>, NoMemory> {
+    let mut rows = Row::new(alloc);
+    for (name, content) in folder.iter() {
+        rows.push(named(alloc, name, content)?)?;
+    }
+    Ok(rows)
+}
+
 /// The configuration folder.
 pub fn etc_of(alloc: Global, given: &Given) -> Result<MemEtc, Refused> {
+    let failing = given.fails.etc.copy(alloc)?;
+    etc(alloc, given.etc.as_slice(), failing)
+}
+
+/// A configuration folder of these files, of which these calls are to fail.
+fn etc(alloc: Global, files: &[Configured], failing: Row<u64>) -> Result<MemEtc, Refused> {
+    let files = placed(alloc, files)?;
+    if !MemEtc::takes(&files) {
+        return Err(Refused::Names);
+    }
+    Ok(MemEtc::new(files, failing))
+}
+
+/// The same files of a configuration folder.
+fn placed(alloc: Global, files: &[Configured]) -> Result<Row<(Place, Text, Bytes)>, NoMemory> {
     let mut rows = Row::new(alloc);
-    for file in given.etc.as_slice() {
+    for file in files {
         let (name, content) = named(alloc, &file.name, &file.content)?;
         rows.push((file.place, name, content))?;
     }
-    if !MemEtc::takes(&rows) {
-        return Err(Refused::Names);
-    }
-    Ok(MemEtc::new(rows, given.fails.etc.copy(alloc)?))
+    Ok(rows)
 }

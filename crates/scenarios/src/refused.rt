@@ -4,8 +4,7 @@ use acq_base::NoMemory;
 use acq_outside::OutError;
 use case_words::Page;
 use std::alloc::{AllocError, AllocFailed};
-use std::fmt;
-use std::str;
+use std::{fmt, str};
 use uri_names::UriError;
 
 /// Why a line or a run is refused.

@@ -116,7 +116,13 @@ impl Scene {
 
     fn crash_by(&mut self, alloc: Global, page: &mut Page, bytes: &str) -> Result<(), Refused> {
         let choice = read_choice(alloc, bytes)?;
-        let left = crash_by(alloc, page, &self.given.disk, self.calls.as_slice(), &choice)?;
+        let left = crash_by(
+            alloc,
+            page,
+            &self.given.disk,
+            self.calls.as_slice(),
+            &choice,
+        )?;
         self.given.disk = left;
         self.calls = Row::new(alloc);
         Ok(())
@@ -155,9 +161,23 @@ where
 {
     let mut disk = disk_before(rt.alloc(), given)?;
     let came = came_to(rt, given, &mut disk)?;
-    put_came(rt.alloc(), page, &came, given.tell);
+    told(rt, page, given, &came, disk)
+}
+
+/// Puts what a run came to on the page, and answers what it left.
+fn told<R>(
+    rt: &R,
+    page: &mut Page,
+    given: &Given,
+    came: &Came,
+    disk: MemDisk,
+) -> Result<Folder, Refused>
+where
+    R: AllocGlobal + Threads + Wait + Copy + Send + 'static,
+{
+    put_came(rt.alloc(), page, came, given.tell);
     let left = left_by(rt.alloc(), page, given, disk)?;
-    put_stops(rt, page, given, &came, &left)?;
+    put_stops(rt, page, given, came, &left)?;
     Ok(left)
 }
 
@@ -172,7 +192,12 @@ fn disk_before(alloc: Global, given: &Given) -> Result<MemDisk, Refused> {
 }
 
 /// Puts what a run left of its lists folder on the page, and answers it.
-fn left_by(alloc: Global, page: &mut Page, given: &Given, disk: MemDisk) -> Result<Folder, Refused> {
+fn left_by(
+    alloc: Global,
+    page: &mut Page,
+    given: &Given,
+    disk: MemDisk,
+) -> Result<Folder, Refused> {
     let mut disk = disk_behind(alloc, page, given, disk)?;
     let left = files_of(alloc, &mut disk)?;
     put_folder(page, &left, given.tell);

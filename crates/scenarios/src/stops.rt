@@ -129,10 +129,16 @@ impl<'a> Stops<'a> {
     where
         R: AllocGlobal + Threads + Wait + Copy + Send + 'static,
     {
-        let mut disk = self.disk(rt.alloc(), Row::new(rt.alloc()))?.with_fuse(calls);
+        let mut disk = self.disk_until(rt.alloc(), calls)?;
         let came = came_to(rt, self.given, &mut disk)?;
-        self.note(rt, page, &came, left_by(rt.alloc(), disk, bits)?)?;
-        Ok(was_stopped(&came))
+        let mut left = left_by(rt.alloc(), disk, bits)?;
+        self.note(rt, page, &came, &mut left)
+    }
+
+    /// The lists folder before the run, which is stopped after so many calls.
+    fn disk_until(&self, alloc: Global, calls: u64) -> Result<MemDisk, Refused> {
+        let disk = disk_of(alloc, &self.given.disk, self.given.held, Row::new(alloc))?;
+        Ok(disk.with_fuse(calls))
     }
 
     /// Lets each call of the lists folder fail by itself, and answers how many there are.
@@ -153,40 +159,88 @@ impl<'a> Stops<'a> {
     where
         R: AllocGlobal + Threads + Wait + Copy + Send + 'static,
     {
-        let mut disk = self.disk(rt.alloc(), single(rt.alloc(), number)?)?;
+        let mut disk = self.disk_failing(rt.alloc(), number)?;
         let came = came_to(rt, self.given, &mut disk)?;
-        if !was_stopped(&came) {
-            put_otherwise(page, self.came, &came);
-            return Ok(false);
-        }
-        self.note(rt, page, &came, reopened(rt.alloc(), disk)?)?;
-        Ok(true)
+        self.note_fault(rt, page, &came, &mut disk)
     }
 
-    /// The lists folder before the run, of which these calls are to fail.
-    fn disk(&self, alloc: Global, failing: Row<u64>) -> Result<MemDisk, Refused> {
+    /// The lists folder before the run, of which the call of this number is to fail.
+    fn disk_failing(&self, alloc: Global, number: u64) -> Result<MemDisk, Refused> {
+        let failing = single(alloc, number)?;
         disk_of(alloc, &self.given.disk, self.given.held, failing)
     }
 
+    /// Tells what a run left whose lists folder was to fail. Answers whether the run was stopped by it.
+    fn note_fault<R>(
+        &mut self,
+        rt: &R,
+        page: &mut Page,
+        came: &Came,
+        disk: &mut MemDisk,
+    ) -> Result<bool, Refused>
+    where
+        R: AllocGlobal + Threads + Wait + Copy + Send + 'static,
+    {
+        if !was_stopped(came) {
+            put_otherwise(page, self.came, came);
+            return Ok(false);
+        }
+        open(rt.alloc(), disk)?;
+        self.note(rt, page, came, disk)
+    }
+
     /// Tells which set each source has once a call was stopped or came to its end, and the run that is then made again,
-    /// where that hasn't been told yet.
+    /// where that hasn't been told yet. Answers whether the call was stopped.
     fn note<R>(
         &mut self,
         rt: &R,
         page: &mut Page,
         came: &Came,
-        disk: MemDisk,
-    ) -> Result<(), Refused>
+        disk: &mut MemDisk,
+    ) -> Result<bool, Refused>
     where
         R: AllocGlobal + Threads + Wait + Copy + Send + 'static,
     {
-        let mut disk = disk;
-        let mut entry = Page::new(rt.alloc());
-        if self.put_left(rt.alloc(), &mut entry, came, &mut disk)? {
-            return Ok(());
+        if let Some(entry) = self.entry(rt, came, disk)? {
+            self.tell(page, entry)?;
         }
-        self.put_again(rt, &mut entry, &mut disk)?;
-        self.tell(page, finished(entry)?)
+        Ok(was_stopped(came))
+    }
+
+    /// What is told of a call and of the run that is made again, or none where a stop has left the same files before.
+    fn entry<R>(
+        &mut self,
+        rt: &R,
+        came: &Came,
+        disk: &mut MemDisk,
+    ) -> Result<Option<String>, Refused>
+    where
+        R: AllocGlobal + Threads + Wait + Copy + Send + 'static,
+    {
+        let mut entry = Page::new(rt.alloc());
+        if self.put_entry(rt, &mut entry, came, disk)? {
+            Ok(Some(finished(entry)?))
+        } else {
+            Ok(None)
+        }
+    }
+
+    /// Puts what is told of a call and of the run that is made again. Answers whether it is to be told.
+    fn put_entry<R>(
+        &mut self,
+        rt: &R,
+        entry: &mut Page,
+        came: &Came,
+        disk: &mut MemDisk,
+    ) -> Result<bool, Refused>
+    where
+        R: AllocGlobal + Threads + Wait + Copy + Send + 'static,
+    {
+        if self.put_left(rt.alloc(), entry, came, disk)? {
+            return Ok(false);
+        }
+        self.put_again(rt, entry, disk)?;
+        Ok(true)
     }
 
     /// Puts which set each source has in a folder. Answers whether a stop has left its files before, which is then all.
@@ -229,13 +283,24 @@ impl<'a> Stops<'a> {
         }
     }
 
-    /// Makes the run again, and puts what it comes to, and the lists where they aren't those of the run that isn't stopped.
+    /// Makes the run again, and puts what it comes to.
     fn put_again<R>(&self, rt: &R, entry: &mut Page, disk: &mut MemDisk) -> Result<(), Refused>
     where
         R: AllocGlobal + Threads + Wait + Copy + Send + 'static,
     {
-        put_call(entry, "again", &came_to(rt, self.given, disk)?);
-        let folder = files_of(rt.alloc(), disk)?;
+        let again = came_to(rt, self.given, disk)?;
+        put_call(entry, "again", &again);
+        self.put_others(rt.alloc(), entry, disk)
+    }
+
+    /// Puts the lists where they aren't those of the run that isn't stopped.
+    fn put_others(
+        &self,
+        alloc: Global,
+        entry: &mut Page,
+        disk: &mut MemDisk,
+    ) -> Result<(), Refused> {
+        let folder = files_of(alloc, disk)?;
         if !same_lists(&folder, self.left) {
             entry.put("other lists\n");
             put_folder(entry, &folder, self.given.tell);

@@ -1,0 +1,7 @@
+-- No turn changes what the run was begun with.
+use Rattle.std.proofs.Common.{◌≡◌}
+use Rattle.update_core.specs.BoardRefinement.{board_of}
+use Rattle.scenarios.proofs.board.steps.Given as goal
+
+abbrev pub invariant-loop-_turn : goal.invariant-loop-_turn
+invariant-loop-_turn l = (board_of l.board).config.change ≡ (board_of l.fn.board).config.change
