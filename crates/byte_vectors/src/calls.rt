@@ -30,6 +30,7 @@ fn put_called(alloc: Global, page: &mut Page, name: &str, rest: &[&[u8]]) -> Res
         ("frame", [text]) => frames::put_within(alloc, page, text),
         ("command", words) => command::put_asked(alloc, page, words)?,
         ("start", words) => started::put_started(alloc, page, words)?,
+        ("told-start", words) => started::put_told(alloc, page, words)?,
         ("place", words) => started::put_place(alloc, page, words)?,
         ("without-memory", []) => started::put_without_memory(page),
         ("index", [text]) => indexes::put_read(alloc, page, text),

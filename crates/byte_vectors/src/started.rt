@@ -1,9 +1,12 @@
 //! What a program is given when it starts.
 ghost use Rattle.std.specs.Io.{WritesAtMost};
 
-use acq_base::{NoMemory, Text};
+use acq_base::{NoMemory, Row, Text};
 use case_words::{Page, Refused};
-use start_values::{RealEnvironment, Refused as Unstarted, Start, read_place, read_start};
+use start_values::{
+    Environment, MemEnvironment, RealEnvironment, Refused as Unstarted, Start, read_place,
+    read_start,
+};
 use std::alloc::Global;
 use std::env::FillError;
 use std::rt::Env;
@@ -83,11 +86,23 @@ fn variable_of(alloc: Global, pair: &[&[u8]]) -> Result<(Text, Text), Refused> {
 /// Appends what a program goes by that was started so.
 pub fn put_started(alloc: Global, page: &mut Page, words: &[&[u8]]) -> Result<(), Refused> {
     let environment = RealEnvironment::new((process_of(alloc, words)?, alloc));
-    match read_start(alloc, &environment) {
+    put_read(alloc, page, &environment);
+    Ok(())
+}
+
+/// Appends the same over such words and variables in memory, which are told.
+pub fn put_told(alloc: Global, page: &mut Page, words: &[&[u8]]) -> Result<(), Refused> {
+    let given = process_of(alloc, words)?;
+    let environment = MemEnvironment::new(Row::from(given.words), Row::from(given.variables));
+    put_read(alloc, page, &environment);
+    Ok(())
+}
+
+fn put_read<E: Environment>(alloc: Global, page: &mut Page, environment: &E) {
+    match read_start(alloc, environment) {
         Ok(start) => put_start(page, &start),
         Err(refused) => put_unstarted(page, refused),
     }
-    Ok(())
 }
 
 /// Appends the folder for package files of a program that was started so.
