@@ -1,5 +1,5 @@
 -- A text of lines is unfinished before its first byte.
-use Rattle.std.proofs.Common.{◌≡◌, ℕ, ◌<◌, ⊎_elim, false, List, [], ◌∷◌, ◌++◌, length, arith, sym, ap, ◌∙◌, refl, append-nil, length-append, None}
+use Rattle.std.proofs.Common.{◌≡◌, ℕ, ◌<◌, ⊎_elim, List, [], ◌∷◌, ◌++◌, length, arith, sym, ap, ◌∙◌, refl, append-nil, length-append, None}
 use Rattle.std.specs.Prelude.{IsTrue}
 use Rattle.std.specs.Char.{is_ascii_digit, is_ascii_hexdigit}
 use Rattle.std.proofs.lemmas.List.Elements.{All-cons, All-nil}
@@ -60,7 +60,7 @@ few_lines : lines_behind_blank [] ≡ 0
 unfolding lines_behind_blank
 few_lines = refl
 
-pub no_head_yet : Unfinished head_form false []
+pub no_head_yet : Unfinished head_form []
 no_head_yet = record {
   none = none_of_nothing head_form head_facts;
   may = (print_response some_head ++ [], some_head, some_valid, refl);
@@ -75,14 +75,14 @@ line_valid : IsChunkLine some_line
 unfolding some_line
 line_valid = record { digits = (omega arith, omega arith, All-cons (λ b. IsTrue (is_ascii_hexdigit b)) 48 [] refl (All-nil (λ b. IsTrue (is_ascii_hexdigit b)))); pad = All-nil (λ b. IsTrue (is_ows b)); extension = tt }
 
-pub no_size_yet : Unfinished size_form false []
+pub no_size_yet : Unfinished size_form []
 no_size_yet = record {
   none = none_of_nothing size_form size_facts;
   may = (print_chunk_line some_line ++ [], some_line, line_valid, refl);
   within = λ (long : 4096 < length {A = ℕ} []). let x : ⊥ = omega arith in x;
 }
 
-pub no_trailers_yet : Unfinished trailer_form false []
+pub no_trailers_yet : Unfinished trailer_form []
 no_trailers_yet = record {
   none = none_of_nothing trailer_form trailer_facts;
   may = (print_section [] lf ++ [], ([], lf), All-nil IsField, refl);

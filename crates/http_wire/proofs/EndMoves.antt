@@ -1,32 +1,23 @@
 -- What a wire hears where the peer ends.
-use Rattle.std.proofs.Common.{◌≡◌, ◌≢◌, ℕ, ◌+◌, ◌<◌, ◌≤◌, ◌⊎◌, inl, inr, ⊎_elim, Bool, true, false, List, [], ◌∷◌, ◌++◌, length, arith, sym, ap, ◌∙◌, refl, subst, append_assoc, length-append, Some, None}
+use Rattle.std.proofs.Common.{◌≡◌, ◌≢◌, ℕ, ◌+◌, ◌<◌, ◌≤◌, ◌⊎◌, inl, inr, Bool, true, false, List, [], ◌∷◌, ◌++◌, length, arith, sym, ap, ◌∙◌, refl, subst, length-append, Some, None}
 use Rattle.http_wire.specs.declared.ending.Response.{Response}
 use Rattle.http_wire.specs.declared.ending.Response.TheVariants.{Served, Garbled}
 use Rattle.http_wire.specs.declared.phase.Phase.TheVariants as phases
-use Rattle.http_wire.specs.Forms.{Form, Whole, whole_lines, Never, Unfinished, Bad, head_form, size_form, trailer_form}
+use Rattle.http_wire.specs.Forms.{Form, Unfinished, head_form, size_form, trailer_form}
 use Rattle.http_wire.specs.Stream.{Stage, Heads, Counted, Unbounded, SizeLine, Chunk, Closing, Trailing, Heard, hear, capped, Halts, Stops, IsHeard}
 use Rattle.http_wire.specs.State.{WireState}
 use Rattle.http_wire.specs.Wire.{GoesOn, HasEnded, IsAt, Follows}
-use Rattle.http_wire.specs.Steps.{Closes, stopped, garbled, cut_off}
-use Rattle.http_wire.proofs.Lists.{lines_split}
-use Rattle.http_wire.proofs.Moving.{going, stops_at, stands_at, lines_bad, lines_cut, head_in, size_in, trailers_in}
+use Rattle.http_wire.specs.Steps.{Closes, stopped, cut_off}
+use Rattle.http_wire.proofs.Moving.{going, stops_at, stands_at, lines_cut, head_in, size_in, trailers_in}
 
 -- ---- what is decided stays so when the peer ends
-
-bad_end : {V : Type 0} (form : Form V) (text : List ℕ) → Bad form false text → Bad form true text
-bad_end {V} form text bad = record { none = bad.none; why = ⊎_elim (λ never. inl (whole never)) (λ passes. inr passes) bad.why }
-  where
-    whole : Never form (whole_lines text) → Never form text
-    whole never more v rest valid same =
-        let split = lines_split text in
-        never (split.0 ++ more) v rest valid (sym (append_assoc (whole_lines text) split.0 more) ∙ ap (λ t. t ++ more) (sym split.1) ∙ same)
 
 unheard : (x : Heard) (start : ℕ) (body : List ℕ) → x.ending ≢ None → x ≡ hear None start body [] → ⊥
 unheard x start body some is = some (ap (λ z. z.ending) is)
 
 halts_end : {V : Type 0} (form : Form V) (count start : ℕ) (body text : List ℕ) (x : Heard) → x.ending ≢ None → Halts form false count start body text x → Halts form true count start body text x
 halts_end form count start body text x some (inl a) = absurd (unheard x start body some a.1)
-halts_end form count start body text x some (inr a) = inr (bad_end form text a.0, a.1)
+halts_end form count start body text x some (inr a) = inr a
 
 stops_end : (max from count : ℕ) (s : Stage) (text : List ℕ) (x : Heard) → x.ending ≢ None → Stops max from false count s text x → Stops max from true count s text x
 stops_end max from count (Heads passed) text x some (inl a) = inl (halts_end head_form count 0 [] text x some a)
@@ -64,56 +55,26 @@ going_on w none max from given bytes ended h = (let at : IsAt None w given bytes
 
 -- ---- the parts in which a peer may end
 
-pub head_cut : (passed : ℕ) (w : WireState) → w.phase ≡ phases.Heads passed → w.ending ≡ None → Unfinished head_form true w.part → Closes w (cut_off w)
-head_cut passed w is none part max from given bytes h =
-    let g = going w max from given bytes none h in
-    stops_at (cut_off w) max from given bytes true (Garbled w.count) h.max_is h.from_is refl (lines_cut head_form w given bytes w.part (head_in w given bytes passed is g) part)
-
-pub head_broken : (passed : ℕ) (w : WireState) → w.phase ≡ phases.Heads passed → w.ending ≡ None → Bad head_form true w.part → Closes w (garbled w)
-head_broken passed w is none bad max from given bytes h =
-    let g = going w max from given bytes none h in
-    stops_at (garbled w) max from given bytes true (Garbled w.place) h.max_is h.from_is refl (lines_bad head_form w given bytes w.part true (head_in w given bytes passed is g) bad)
-
-pub no_whole_head : (passed : ℕ) (w : WireState) (v : WireState) → w.phase ≡ phases.Heads passed → w.ending ≡ None → (h : _) (rest : List ℕ) → Whole head_form w.part h rest → Closes w v
-no_whole_head passed w v is none head rest whole max from given bytes h =
+pub head_cut : (passed : ℕ) (w : WireState) → w.phase ≡ phases.Heads passed → w.ending ≡ None → Closes w (cut_off w)
+head_cut passed w is none max from given bytes h =
     let g = going w max from given bytes none h in
     let s = stands_at w given bytes (phases.Heads passed) is g in
-    let unfinished : Unfinished head_form false w.part = subst (λ z. Unfinished head_form false z) s.1 s.4 in
-    absurd (unfinished.none head rest whole)
+    let part : Unfinished head_form w.part = subst (λ z. Unfinished head_form z) s.1 s.4 in
+    stops_at (cut_off w) max from given bytes true (Garbled w.count) h.max_is h.from_is refl (lines_cut head_form w given bytes w.part (head_in w given bytes passed is g) part)
 
-pub size_cut : (w : WireState) → w.phase ≡ phases.SizeLine → w.ending ≡ None → Unfinished size_form true w.part → Closes w (cut_off w)
-size_cut w is none part max from given bytes h =
-    let g = going w max from given bytes none h in
-    stops_at (cut_off w) max from given bytes true (Garbled w.count) h.max_is h.from_is refl (lines_cut size_form w given bytes w.part (size_in w given bytes is g) part)
-
-pub size_broken : (w : WireState) → w.phase ≡ phases.SizeLine → w.ending ≡ None → Bad size_form true w.part → Closes w (garbled w)
-size_broken w is none bad max from given bytes h =
-    let g = going w max from given bytes none h in
-    stops_at (garbled w) max from given bytes true (Garbled w.place) h.max_is h.from_is refl (lines_bad size_form w given bytes w.part true (size_in w given bytes is g) bad)
-
-pub no_whole_size : (w : WireState) (v : WireState) → w.phase ≡ phases.SizeLine → w.ending ≡ None → (l : _) (rest : List ℕ) → Whole size_form w.part l rest → Closes w v
-no_whole_size w v is none l rest whole max from given bytes h =
+pub size_cut : (w : WireState) → w.phase ≡ phases.SizeLine → w.ending ≡ None → Closes w (cut_off w)
+size_cut w is none max from given bytes h =
     let g = going w max from given bytes none h in
     let s = stands_at w given bytes phases.SizeLine is g in
-    let unfinished : Unfinished size_form false w.part = subst (λ z. Unfinished size_form false z) s.1 s.3 in
-    absurd (unfinished.none l rest whole)
+    let part : Unfinished size_form w.part = subst (λ z. Unfinished size_form z) s.1 s.3 in
+    stops_at (cut_off w) max from given bytes true (Garbled w.count) h.max_is h.from_is refl (lines_cut size_form w given bytes w.part (size_in w given bytes is g) part)
 
-pub trailers_cut : (w : WireState) → w.phase ≡ phases.Trailing → w.ending ≡ None → Unfinished trailer_form true w.part → Closes w (cut_off w)
-trailers_cut w is none part max from given bytes h =
-    let g = going w max from given bytes none h in
-    stops_at (cut_off w) max from given bytes true (Garbled w.count) h.max_is h.from_is refl (lines_cut trailer_form w given bytes w.part (trailers_in w given bytes is g) part)
-
-pub trailers_broken : (w : WireState) → w.phase ≡ phases.Trailing → w.ending ≡ None → Bad trailer_form true w.part → Closes w (garbled w)
-trailers_broken w is none bad max from given bytes h =
-    let g = going w max from given bytes none h in
-    stops_at (garbled w) max from given bytes true (Garbled w.place) h.max_is h.from_is refl (lines_bad trailer_form w given bytes w.part true (trailers_in w given bytes is g) bad)
-
-pub no_whole_trailers : (w : WireState) (v : WireState) → w.phase ≡ phases.Trailing → w.ending ≡ None → (t : _) (rest : List ℕ) → Whole trailer_form w.part t rest → Closes w v
-no_whole_trailers w v is none t rest whole max from given bytes h =
+pub trailers_cut : (w : WireState) → w.phase ≡ phases.Trailing → w.ending ≡ None → Closes w (cut_off w)
+trailers_cut w is none max from given bytes h =
     let g = going w max from given bytes none h in
     let s = stands_at w given bytes phases.Trailing is g in
-    let unfinished : Unfinished trailer_form false w.part = subst (λ z. Unfinished trailer_form false z) s.1 s.2 in
-    absurd (unfinished.none t rest whole)
+    let part : Unfinished trailer_form w.part = subst (λ z. Unfinished trailer_form z) s.1 s.2 in
+    stops_at (cut_off w) max from given bytes true (Garbled w.count) h.max_is h.from_is refl (lines_cut trailer_form w given bytes w.part (trailers_in w given bytes is g) part)
 
 -- a body that is cut
 cut_body : (w : WireState) (given bytes : List ℕ) (g : GoesOn w given bytes) (heard : Heard) → Stops w.max w.from true (length bytes) g.stage g.text heard → heard ≡ hear (Some (Garbled (capped (length bytes)))) w.start (given ++ w.body) [] → HasEnded (Garbled w.count) (cut_off w) given bytes true

@@ -28,7 +28,7 @@ size_ends l =
     (start ++ 13 ∷ [], sym (append_assoc start (13 ∷ []) (10 ∷ [])))
 
 -- the bytes behind a text, up to the value's line feed, have one
-last_feed : (text more front : List ℕ) (b : ℕ) → text ++ b ∷ more ≡ front ++ 10 ∷ [] → 1 ≤ line_feeds (b ∷ more)
+pub last_feed : (text more front : List ℕ) (b : ℕ) → text ++ b ∷ more ≡ front ++ 10 ∷ [] → 1 ≤ line_feeds (b ∷ more)
 last_feed text more front b same =
     let ends = snoc b more in
     let e : (text ++ ends.0) ++ ends.1 ∷ [] ≡ front ++ 10 ∷ [] = append_assoc text ends.0 (ends.1 ∷ []) ∙ ap (λ t. text ++ t) (sym ends.2) ∙ same in

@@ -2,8 +2,9 @@ use Rattle.std.proofs.Common.{◌≡◌, ℕ, inl, inr, ⊎_elim, Bool, true, fa
 use Rattle.std.specs.List.{list_any}
 use Rattle.std.proofs.lemmas.Bool.{cases_lt}
 use Rattle.std.proofs.lemmas.List.{same_from_push, append_cancel_left}
-use Rattle.http_wire.specs.Forms.{Form, Whole, HasNone, May, Never, is_line_feed, whole_lines, Unfinished, Bad}
-use Rattle.http_wire.proofs.Lists.{front_of, beyond, snoc, lines_split, lines_more, lines_same, lines_all, has_feed}
+use Rattle.http_wire.specs.Forms.{Form, Whole, HasNone, Never, is_line_feed, Unfinished, Bad}
+use Rattle.http_wire.specs.Steps.{IsFront}
+use Rattle.http_wire.proofs.Lists.{front_of, beyond, snoc, has_feed}
 
 -- what the laws of reading rest on: a text has one value, which ends in a line feed; and a value within the limits doesn't
 -- go beyond a text that passes them
@@ -20,19 +21,14 @@ one_whole form facts text v w r q a b = facts.unique v w r q a.valid b.valid (sy
 pub whole_more : {V : Type 0} (form : Form V) (text : List ℕ) (v : V) (rest more : List ℕ) → Whole form text v rest → Whole form (text ++ more) v (rest ++ more)
 whole_more form text v rest more a = record { valid = a.valid; fits = a.fits; is = ap (λ t. t ++ more) a.is ∙ append_assoc (form.print v) rest more }
 
-pub not_both : {V : Type 0} (form : Form V) (ended : Bool) (text : List ℕ) → Unfinished form ended text → Bad form ended text → ⊥
-not_both form ended text a b = ⊎_elim (λ never. never a.may.0 a.may.1 [] a.may.2 a.may.3) (λ passes. a.within passes) b.why
+pub not_both : {V : Type 0} (form : Form V) (text : List ℕ) → Unfinished form text → Bad form text → ⊥
+not_both form text a b = ⊎_elim (λ never. never a.may.0 a.may.1 [] a.may.2 a.may.3) (λ passes. a.within passes) b.why
 
 -- no value comes of a text that can have none
-none_more : {V : Type 0} (form : Form V) → Facts form → (text more : List ℕ) → Bad form false text → HasNone form (text ++ more)
+none_more : {V : Type 0} (form : Form V) → Facts form → (text more : List ℕ) → Bad form text → HasNone form (text ++ more)
 none_more {V} form facts text more bad v rest whole =
-    ⊎_elim (λ never. by_lines never) (λ passes. by_limit passes) bad.why
+    ⊎_elim (λ never. never more v rest whole.valid whole.is) (λ passes. by_limit passes) bad.why
   where
-    by_lines : Never form (whole_lines text) → ⊥
-    by_lines never =
-        let split = lines_split text in
-        never (split.0 ++ more) v rest whole.valid (sym (append_assoc (whole_lines text) split.0 more) ∙ ap (λ t. t ++ more) (sym split.1) ∙ whole.is)
-
     by_limit : form.passes text → ⊥
     by_limit passes =
         elim (cases_lt (length text) (length (form.print v))) [
@@ -41,16 +37,14 @@ none_more {V} form facts text more bad v rest whole =
         ]
 
 -- a text that can have no value stays so, whatever follows
-pub bad_more : {V : Type 0} (form : Form V) → Facts form → (text more : List ℕ) → Bad form false text → Bad form false (text ++ more)
+pub bad_more : {V : Type 0} (form : Form V) → Facts form → (text more : List ℕ) → Bad form text → Bad form (text ++ more)
 bad_more {V} form facts text more bad = record {
   none = none_more form facts text more bad;
-  why = ⊎_elim (λ never. inl (by_lines never)) (λ passes. inr (facts.grows text more passes)) bad.why;
+  why = ⊎_elim (λ never. inl (never_more never)) (λ passes. inr (facts.grows text more passes)) bad.why;
 }
   where
-    by_lines : Never form (whole_lines text) → Never form (whole_lines (text ++ more))
-    by_lines never further v rest valid same =
-        let lines = lines_more text more in
-        never (lines.0 ++ further) v rest valid (sym (append_assoc (whole_lines text) lines.0 further) ∙ ap (λ t. t ++ further) (sym lines.1) ∙ same)
+    never_more : Never form text → Never form (text ++ more)
+    never_more never further v rest valid same = never (more ++ further) v rest valid (sym (append_assoc text more further) ∙ same)
 
 -- a part of a line that hasn't ended makes no value whole
 pub none_in_line : {V : Type 0} (form : Form V) → Facts form → (text front : List ℕ) → list_any is_line_feed front ≡ false → HasNone form text → HasNone form (text ++ front)
@@ -71,27 +65,6 @@ none_in_line {V} form facts text front line none v rest whole =
         let any : list_any is_line_feed front ≡ true = ap (list_any is_line_feed) (inside ∙ ap (λ t. t ++ rest) (last ∙ ap (λ z. a ++ z ∷ []) feed)) ∙ has_feed a rest in
         cc
 
--- ---- a text that grows by a part of a line, or by its end
-
-pub part_line : {V : Type 0} (form : Form V) → Facts form → (text front : List ℕ) → list_any is_line_feed front ≡ false → Unfinished form false text → ¬ (form.passes (text ++ front)) → Unfinished form false (text ++ front)
-part_line form facts text front line part within = record {
-  none = none_in_line form facts text front line part.none;
-  may = subst (May form) (sym (lines_same text front line)) part.may;
-  within = within;
-}
-
-pub bad_line : {V : Type 0} (form : Form V) → Facts form → (text front : List ℕ) → list_any is_line_feed front ≡ false → Unfinished form false text → form.passes (text ++ front) → Bad form false (text ++ front)
-bad_line form facts text front line part passes = record { none = none_in_line form facts text front line part.none; why = inr passes }
-
-lines_whole : (text a : List ℕ) → text ≡ a ++ 10 ∷ [] → whole_lines text ≡ text
-lines_whole text a is = ap whole_lines is ∙ lines_all a ∙ sym is
-
-pub part_judged : {V : Type 0} (form : Form V) (text a : List ℕ) → text ≡ a ++ 10 ∷ [] → Unfinished form true text → Unfinished form false text
-part_judged form text a is part = record { none = part.none; may = subst (May form) (sym (lines_whole text a is)) part.may; within = part.within }
-
-pub bad_judged : {V : Type 0} (form : Form V) (text a : List ℕ) → text ≡ a ++ 10 ∷ [] → Bad form true text → Bad form false text
-bad_judged form text a is bad = record { none = bad.none; why = ⊎_elim (λ never. inl (subst (Never form) (sym (lines_whole text a is)) never)) (λ passes. inr passes) bad.why }
-
 nothing : (rest : List ℕ) → length rest ≡ 0 → rest ≡ []
 nothing [] none = refl
 nothing (x ∷ rest) none = absurd (omega arith)
@@ -108,3 +81,9 @@ whole_here form facts text line v rest plain none whole =
           nothing rest (omega (arith, e, a, b, longer)))
       | inr within ↦ absurd (before v (drop (length (form.print v)) (text ++ line)) (record { valid = whole.valid; fits = whole.fits; is = front_of (text ++ line) (10 ∷ []) (form.print v) rest within split }))
     ]
+
+-- a value that further bytes make whole ends with them, where no line feed stands before their end
+pub whole_front : {V : Type 0} (form : Form V) → Facts form → (ends : Bool) (text front : List ℕ) (v : V) (rest : List ℕ) → IsFront ends front → HasNone form text → Whole form (text ++ front) v rest → rest ≡ []
+whole_front form facts true text front v rest line none whole =
+    whole_here form facts text line.0 v rest line.2 none (subst (λ z. Whole form (text ++ z) v rest) line.1 whole)
+whole_front form facts false text front v rest line none whole = absurd (none_in_line form facts text front line none v rest whole)

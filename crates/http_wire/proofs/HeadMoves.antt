@@ -1,5 +1,5 @@
 -- How a wire takes the bytes of heads.
-use Rattle.std.proofs.Common.{◌≡◌, ℕ, suc, ◌+◌, ◌-◌, ◌<◌, ◌≤◌, inl, inr, ⊎_elim, Bool, true, false, List, [], ◌∷◌, ◌++◌, length, drop, map, arith, sym, ap, ◌∙◌, refl, subst, append_assoc, Some, None, nat_lt}
+use Rattle.std.proofs.Common.{◌≡◌, ℕ, suc, ◌+◌, ◌-◌, ◌<◌, ◌≤◌, inl, inr, ⊎_elim, Bool, true, false, List, [], ◌∷◌, ◌++◌, length, drop, map, arith, sym, ap, ◌∙◌, refl, subst, Some, None, nat_lt}
 use Rattle.std.specs.Prelude.{◌==◌, if◌then◌else◌}
 use Rattle.std.proofs.lemmas.Bool.Decides.{nat_tests}
 use Rattle.httparse.specs.Grammar.{ResponseHead, status_code}
@@ -13,17 +13,19 @@ use Rattle.http_wire.specs.declared.phase.Phase.TheVariants as phases
 use Rattle.http_wire.specs.declared.reading.HeadRead.{HeadRead}
 use Rattle.http_wire.specs.declared.reading.HeadRead.TheVariants as heads
 use Rattle.http_wire.specs.Meaning.{meaning}
-use Rattle.http_wire.specs.Forms.{Whole, Unfinished, lines_behind_blank, head_form}
+use Rattle.http_wire.specs.Forms.{Whole, Unfinished, Bad, lines_behind_blank, head_form}
+use Rattle.http_wire.specs.Plain.{IsPlain, GoesPlain}
 use Rattle.http_wire.specs.Stream.{Stage, Heads, Counted, Unbounded, SizeLine, Heard, hear, Next, Goes, Ends, Breaks, capped, announced, stage_of, next_of, start_of, behind_head, garbled_at, EndsBehind, Leads, IsHeard}
 use Rattle.http_wire.specs.State.{WireState}
 use Rattle.http_wire.specs.Wire.{Stands, GoesOn, Follows}
 use Rattle.http_wire.specs.Steps.{Moves, IsHeadRead, IsFront, IsEmptyLine, stopped, garbled, marked, joined, blank_passed, in_line, body_framed, final_head, head_whole, head_read}
 use Rattle.http_wire.proofs.Decided.{leads_more, leads_on}
-use Rattle.http_wire.proofs.FormLemmas.{one_whole, part_line, bad_line, part_judged, bad_judged, whole_here}
+use Rattle.http_wire.proofs.FormLemmas.{one_whole, none_in_line, whole_front}
 use Rattle.http_wire.proofs.FormFacts.{head_facts}
 use Rattle.http_wire.proofs.LineCounts.{same_lines}
 use Rattle.http_wire.proofs.Begins.{no_head_yet, no_size_yet}
-use Rattle.http_wire.proofs.Blanks.{blank_none, blank_more, blank_whole, all_blank, blank_unfinished, blank_bad}
+use Rattle.http_wire.proofs.Plain.{not_plain, plain_more, head_goes, goes_in_line}
+use Rattle.http_wire.proofs.Blanks.{blank_none, blank_more, blank_whole, all_blank, blank_unfinished, blank_bad, return_behind, return_unfinished, return_bad}
 use Rattle.http_wire.proofs.Moving.{InLines, place_here, going, goes, stops_at, stands_at, grown, lines_bad, head_in}
 
 -- a head is whole with the last byte that the wire took
@@ -98,7 +100,7 @@ interim v given bytes passed status i none max from m f true is =
       stage = Heads (passed + 1);
       text = [];
       leads = goes_by v given bytes passed status meanings.Interim (Heads (passed + 1)) i (ap (λ t. if t then Goes (Heads (passed + 1)) else Breaks) is);
-      stands = (refl, refl, i.nothing, i.start, no_head_yet, blank_none);
+      stands = (refl, refl, i.nothing, i.start, no_head_yet, blank_none, not_plain []);
       count = i.count;
       place = place_here v.count bytes i.count;
     })
@@ -225,10 +227,10 @@ head_front_read passed front h (heads.Whole status says) w is none whole found =
     let last : found.1 ≡ [] = (one_whole head_form head_facts (w.part ++ front) found.0 h found.1 [] found.2 whole).1 in
     ends_whole passed front status says found.0 w is none (subst (λ z. Whole head_form (w.part ++ front) found.0 z) last found.2) found.3 found.4
 
--- ---- the line of a head ends
+-- ---- a part of a head, up to the end of a line or of a piece
 
-pub head_line_read : (passed : ℕ) (front : List ℕ) (read : HeadRead) (w : WireState) → w.phase ≡ phases.Heads passed → w.ending ≡ None → IsFront true front → IsHeadRead w.from (w.part ++ front) read → Moves w (head_read passed read (joined front w)) front
-head_line_read passed front heads.More w is none line part max from given bytes h =
+pub head_line_read : (passed : ℕ) (ends : Bool) (front : List ℕ) (read : HeadRead) (w : WireState) → w.phase ≡ phases.Heads passed → w.ending ≡ None → IsFront ends front → IsPlain w.named w.valued (w.part ++ front) → IsHeadRead w.from (w.part ++ front) read → Moves w (head_read passed read (joined front w)) front
+head_line_read passed ends front heads.More w is none line plain part max from given bytes h =
     let g = going w max from given bytes none h in
     let s = stands_at w given bytes (phases.Heads passed) is g in
     let i = grown head_form w given bytes w.part front (head_in w given bytes passed is g) in
@@ -237,69 +239,65 @@ head_line_read passed front heads.More w is none line part max from given bytes 
       stage = g.stage;
       text = w.part ++ front;
       leads = leads_more w.max w.from g.parts (Heads 0) bytes g.stage w.part front (subst (λ z. Leads w.max w.from g.parts (Heads 0) bytes g.stage z) s.1 g.leads);
-      stands = subst (λ p. Stands p (joined front w) given g.stage (w.part ++ front)) (sym is) (s.0, refl, s.2, s.3, part_judged head_form (w.part ++ front) (w.part ++ line.0) (ap (λ z. w.part ++ z) line.1 ∙ sym (append_assoc w.part line.0 (10 ∷ []))) part, blank_more w.blank w.part front s.5);
+      stands = subst (λ p. Stands p (joined front w) given g.stage (w.part ++ front)) (sym is) (s.0, refl, s.2, s.3, part, blank_more w.blank w.part front s.5, plain);
       count = i.count;
       place = i.place;
     })
-head_line_read passed front heads.Bad w is none line bad max from given bytes h =
+head_line_read passed ends front heads.Bad w is none line plain bad max from given bytes h =
     let g = going w max from given bytes none h in
     let i = grown head_form w given bytes w.part front (head_in w given bytes passed is g) in
     stops_at (garbled (joined front w)) max from given (bytes ++ front) false (Garbled w.place) h.max_is h.from_is refl
-    (lines_bad head_form (joined front w) given (bytes ++ front) (w.part ++ front) false i (bad_judged head_form (w.part ++ front) (w.part ++ line.0) (ap (λ z. w.part ++ z) line.1 ∙ sym (append_assoc w.part line.0 (10 ∷ []))) bad))
-head_line_read passed front (heads.Whole status says) w is none line whole max from given bytes h =
+    (lines_bad head_form (joined front w) given (bytes ++ front) (w.part ++ front) false i bad)
+head_line_read passed ends front (heads.Whole status says) w is none line plain whole max from given bytes h =
     let g = going w max from given bytes none h in
     let s = stands_at w given bytes (phases.Heads passed) is g in
-    let at_end : Whole head_form (w.part ++ (line.0 ++ 10 ∷ [])) whole.0 whole.1 = subst (λ z. Whole head_form (w.part ++ z) whole.0 whole.1) line.1 whole.2 in
-    let unfinished : Unfinished head_form false w.part = subst (λ z. Unfinished head_form false z) s.1 s.4 in
-    let last : whole.1 ≡ [] = whole_here head_form head_facts w.part line.0 whole.0 whole.1 line.2 unfinished.none at_end in
+    let unfinished : Unfinished head_form w.part = subst (λ z. Unfinished head_form z) s.1 s.4 in
+    let last : whole.1 ≡ [] = whole_front head_form head_facts ends w.part front whole.0 whole.1 line unfinished.none whole.2 in
     ends_whole passed front status says whole.0 w is none (subst (λ z. Whole head_form (w.part ++ front) whole.0 z) last whole.2) whole.3 whole.4 max from given bytes h
 
--- ---- a part of a head's line
+-- ---- bytes of a name or of a value, which need no reading
 
-in_limit : (passed : ℕ) (front : List ℕ) (w : WireState) → w.phase ≡ phases.Heads passed → w.ending ≡ None → IsFront false front → (max from : ℕ) (given bytes : List ℕ) → Follows w max from given bytes false → GoesOn w given bytes → (t : Bool) → nat_lt 65536 (length (w.part ++ front)) ≡ t → Follows (if t then garbled (joined front w) else joined front w) max from given (bytes ++ front) false
-in_limit passed front w is none line max from given bytes h g true test =
+plain_head : (passed : ℕ) (front : List ℕ) (w : WireState) → w.phase ≡ phases.Heads passed → w.ending ≡ None → GoesPlain w.named w.valued front → (max from : ℕ) (given bytes : List ℕ) → Follows w max from given bytes false → GoesOn w given bytes → (t : Bool) → nat_lt 65536 (length (w.part ++ front)) ≡ t
+    → Follows (if t then garbled (joined front w) else joined front w) max from given (bytes ++ front) false
+plain_head passed front w is none on max from given bytes h g true test =
     let s = stands_at w given bytes (phases.Heads passed) is g in
-    let unfinished : Unfinished head_form false w.part = subst (λ z. Unfinished head_form false z) s.1 s.4 in
-    let i = grown head_form w given bytes w.part front (head_in w given bytes passed is g) in
+    let line = goes_in_line w.named w.valued front on in
+    let unfinished : Unfinished head_form w.part = subst (λ z. Unfinished head_form z) s.1 s.4 in
     let long : 65536 < length (w.part ++ front) = grind (arith, nat_tests) in
-    stops_at (garbled (joined front w)) max from given (bytes ++ front) false (Garbled w.place) h.max_is h.from_is refl
-    (lines_bad head_form (joined front w) given (bytes ++ front) (w.part ++ front) false i (bad_line head_form head_facts w.part front line unfinished (inl long)))
-in_limit passed front w is none line max from given bytes h g false test =
+    let bad : Bad head_form (w.part ++ front) = record { none = none_in_line head_form head_facts w.part front line unfinished.none; why = inr (inl long) } in
+    head_line_read passed false front heads.Bad w is none line (plain_more w.named w.valued w.part front s.6 on) bad max from given bytes h
+plain_head passed front w is none on max from given bytes h g false test =
     let s = stands_at w given bytes (phases.Heads passed) is g in
-    let unfinished : Unfinished head_form false w.part = subst (λ z. Unfinished head_form false z) s.1 s.4 in
-    let i = grown head_form w given bytes w.part front (head_in w given bytes passed is g) in
+    let line = goes_in_line w.named w.valued front on in
+    let unfinished : Unfinished head_form w.part = subst (λ z. Unfinished head_form z) s.1 s.4 in
     let short : length (w.part ++ front) ≤ 65536 = grind (arith, nat_tests) in
     let lines = same_lines w.part front line in
-    let fits : ¬ (head_form.passes (w.part ++ front)) = λ p. ⊎_elim (λ (long : 65536 < length (w.part ++ front)). let x : ⊥ = omega arith in x) (λ (many : 129 < lines_behind_blank (w.part ++ front)). unfinished.within (inr (let x : 129 < lines_behind_blank w.part = omega (arith, lines, many) in x))) p in
-    goes (joined front w) max from given (bytes ++ front) h.max_is h.from_is none (record {
-      parts = g.parts;
-      stage = g.stage;
-      text = w.part ++ front;
-      leads = leads_more w.max w.from g.parts (Heads 0) bytes g.stage w.part front (subst (λ z. Leads w.max w.from g.parts (Heads 0) bytes g.stage z) s.1 g.leads);
-      stands = subst (λ p. Stands p (joined front w) given g.stage (w.part ++ front)) (sym is) (s.0, refl, s.2, s.3, part_line head_form head_facts w.part front line unfinished fits, blank_more w.blank w.part front s.5);
-      count = i.count;
-      place = i.place;
-    })
+    let part : Unfinished head_form (w.part ++ front) = record {
+      none = none_in_line head_form head_facts w.part front line unfinished.none;
+      may = head_goes w.named w.valued w.part front unfinished.may s.6 on;
+      within = λ p. ⊎_elim (λ (long : 65536 < length (w.part ++ front)). let x : ⊥ = omega (arith, short, long) in x) (λ (many : 129 < lines_behind_blank (w.part ++ front)). unfinished.within (inr (let x : 129 < lines_behind_blank w.part = omega (arith, lines, many) in x))) p;
+    } in
+    head_line_read passed false front heads.More w is none line (plain_more w.named w.valued w.part front s.6 on) part max from given bytes h
 
-pub head_line_part : (passed : ℕ) (front : List ℕ) (w : WireState) → w.phase ≡ phases.Heads passed → w.ending ≡ None → IsFront false front → Moves w (in_line 65536 (joined front w)) front
-head_line_part passed front w is none line max from given bytes h =
-    in_limit passed front w is none line max from given bytes h (going w max from given bytes none h) (nat_lt 65536 (length (w.part ++ front))) refl
+pub head_line_plain : (passed : ℕ) (front : List ℕ) (w : WireState) → w.phase ≡ phases.Heads passed → w.ending ≡ None → GoesPlain w.named w.valued front → Moves w (in_line 65536 (joined front w)) front
+head_line_plain passed front w is none on max from given bytes h =
+    plain_head passed front w is none on max from given bytes h (going w max from given bytes none h) (nat_lt 65536 (length (w.part ++ front))) refl
 
 -- ---- an empty line ends, behind empty lines alone
 
 passed_in : (w : WireState) (given bytes text : List ℕ) → InLines head_form w given bytes text → InLines head_form (blank_passed w) given bytes text
 passed_in w given bytes text i = record { parts = i.parts; stage = i.stage; leads = i.leads; halts = i.halts; count = i.count; place = i.place }
 
-past_blank : (passed : ℕ) (front : List ℕ) (w : WireState) → w.phase ≡ phases.Heads passed → w.ending ≡ None → IsEmptyLine (drop w.blank (w.part ++ front)) → (max from : ℕ) (given bytes : List ℕ) → Follows w max from given bytes false → GoesOn w given bytes
+past_blank : (passed : ℕ) (front : List ℕ) (w : WireState) → w.phase ≡ phases.Heads passed → w.ending ≡ None → IsEmptyLine (drop w.blank (w.part ++ front)) → IsPlain w.named w.valued (w.part ++ front) → (max from : ℕ) (given bytes : List ℕ) → Follows w max from given bytes false → GoesOn w given bytes
     → (t : Bool) → nat_lt 65536 (length (w.part ++ front)) ≡ t → Follows (if t then garbled (blank_passed (joined front w)) else blank_passed (joined front w)) max from given (bytes ++ front) false
-past_blank passed front w is none line max from given bytes h g true test =
+past_blank passed front w is none line plain max from given bytes h g true test =
     let s = stands_at w given bytes (phases.Heads passed) is g in
     let ends = all_blank w.blank (w.part ++ front) (blank_more w.blank w.part front s.5) line in
     let i = passed_in (joined front w) given (bytes ++ front) (w.part ++ front) (grown head_form w given bytes w.part front (head_in w given bytes passed is g)) in
     let long : 65536 < length (w.part ++ front) = grind (arith, nat_tests) in
     stops_at (garbled (blank_passed (joined front w))) max from given (bytes ++ front) false (Garbled w.place) h.max_is h.from_is refl
     (lines_bad head_form (blank_passed (joined front w)) given (bytes ++ front) (w.part ++ front) false i (blank_bad ends.0 (w.part ++ front) ends.1 long))
-past_blank passed front w is none line max from given bytes h g false test =
+past_blank passed front w is none line plain max from given bytes h g false test =
     let s = stands_at w given bytes (phases.Heads passed) is g in
     let ends = all_blank w.blank (w.part ++ front) (blank_more w.blank w.part front s.5) line in
     let i = grown head_form w given bytes w.part front (head_in w given bytes passed is g) in
@@ -309,11 +307,30 @@ past_blank passed front w is none line max from given bytes h g false test =
       stage = g.stage;
       text = w.part ++ front;
       leads = leads_more w.max w.from g.parts (Heads 0) bytes g.stage w.part front (subst (λ z. Leads w.max w.from g.parts (Heads 0) bytes g.stage z) s.1 g.leads);
-      stands = subst (λ p. Stands p (blank_passed (joined front w)) given g.stage (w.part ++ front)) (sym is) (s.0, refl, s.2, s.3, blank_unfinished ends.0 (w.part ++ front) ends.1 short, blank_whole (w.part ++ front) ends.0 ends.1);
+      stands = subst (λ p. Stands p (blank_passed (joined front w)) given g.stage (w.part ++ front)) (sym is) (s.0, refl, s.2, s.3, blank_unfinished ends.0 (w.part ++ front) ends.1 short, blank_whole (w.part ++ front) ends.0 ends.1, plain);
       count = i.count;
       place = i.place;
     })
 
-pub head_line_blank : (passed : ℕ) (front : List ℕ) (w : WireState) → w.phase ≡ phases.Heads passed → w.ending ≡ None → IsEmptyLine (drop w.blank (w.part ++ front)) → Moves w (in_line 65536 (blank_passed (joined front w))) front
-head_line_blank passed front w is none line max from given bytes h =
-    past_blank passed front w is none line max from given bytes h (going w max from given bytes none h) (nat_lt 65536 (length (w.part ++ front))) refl
+pub head_line_blank : (passed : ℕ) (front : List ℕ) (w : WireState) → w.phase ≡ phases.Heads passed → w.ending ≡ None → IsEmptyLine (drop w.blank (w.part ++ front)) → IsPlain w.named w.valued (w.part ++ front) → Moves w (in_line 65536 (blank_passed (joined front w))) front
+head_line_blank passed front w is none line plain max from given bytes h =
+    past_blank passed front w is none line plain max from given bytes h (going w max from given bytes none h) (nat_lt 65536 (length (w.part ++ front))) refl
+
+-- ---- a carriage return behind empty lines, which may end one more
+
+at_return : (passed : ℕ) (ends : Bool) (front : List ℕ) (w : WireState) → w.phase ≡ phases.Heads passed → w.ending ≡ None → IsFront ends front → drop w.blank (w.part ++ front) ≡ 13 ∷ [] → IsPlain w.named w.valued (w.part ++ front) → (max from : ℕ) (given bytes : List ℕ) → Follows w max from given bytes false → GoesOn w given bytes
+    → (t : Bool) → nat_lt 65536 (length (w.part ++ front)) ≡ t → Follows (if t then garbled (joined front w) else joined front w) max from given (bytes ++ front) false
+at_return passed ends front w is none line last plain max from given bytes h g true test =
+    let s = stands_at w given bytes (phases.Heads passed) is g in
+    let blank = return_behind w.blank (w.part ++ front) (blank_more w.blank w.part front s.5) last in
+    let long : 65536 < length (w.part ++ front) = grind (arith, nat_tests) in
+    head_line_read passed ends front heads.Bad w is none line plain (return_bad blank.0 (w.part ++ front) blank.1 long) max from given bytes h
+at_return passed ends front w is none line last plain max from given bytes h g false test =
+    let s = stands_at w given bytes (phases.Heads passed) is g in
+    let blank = return_behind w.blank (w.part ++ front) (blank_more w.blank w.part front s.5) last in
+    let short : length (w.part ++ front) ≤ 65536 = grind (arith, nat_tests) in
+    head_line_read passed ends front heads.More w is none line plain (return_unfinished blank.0 (w.part ++ front) blank.1 short) max from given bytes h
+
+pub head_line_return : (passed : ℕ) (ends : Bool) (front : List ℕ) (w : WireState) → w.phase ≡ phases.Heads passed → w.ending ≡ None → IsFront ends front → drop w.blank (w.part ++ front) ≡ 13 ∷ [] → IsPlain w.named w.valued (w.part ++ front) → Moves w (in_line 65536 (joined front w)) front
+head_line_return passed ends front w is none line last plain max from given bytes h =
+    at_return passed ends front w is none line last plain max from given bytes h (going w max from given bytes none h) (nat_lt 65536 (length (w.part ++ front))) refl

@@ -2,6 +2,7 @@ pub mod Lists
 pub mod FormLemmas
 pub mod LineCounts
 pub mod FormFacts
+pub mod Plain
 pub mod OneReading
 pub mod Decided
 pub mod Spans
@@ -15,6 +16,7 @@ pub mod BodyMoves
 pub mod LineMoves
 pub mod Fresh
 pub mod EndMoves
+pub mod Settling
 pub mod Telling
 pub mod Feeding
 pub mod Glue

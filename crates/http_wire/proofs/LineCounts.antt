@@ -19,13 +19,13 @@ feeds-append xs ys = sum_by-append (λ x. cond (is_line_feed x) 1 0) xs ys
 
 -- ---- parts without a line feed
 
-other_byte : (p : ℕ → Bool) → p 10 ≡ false → (x : ℕ) → p x ≡ true → is_line_feed x ≡ false
+pub other_byte : (p : ℕ → Bool) → p 10 ≡ false → (x : ℕ) → p x ≡ true → is_line_feed x ≡ false
 other_byte p other x passes = grind (arith, differs)
   where
     differs : x ≡ 10 → ⊥
     differs same = let e : p x ≡ p 10 = ap p same in cc
 
-no_feeds : (p : ℕ → Bool) → p 10 ≡ false → (xs : List ℕ) → AllPass p xs → line_feeds xs ≡ 0
+pub no_feeds : (p : ℕ → Bool) → p 10 ≡ false → (xs : List ℕ) → AllPass p xs → line_feeds xs ≡ 0
 no_feeds p other [] all = refl
 no_feeds p other (x ∷ xs) all =
     let here : is_line_feed x ≡ false = other_byte p other x (All-head (λ b. IsTrue (p b)) x xs all) in
@@ -38,11 +38,11 @@ token_byte : is_token_byte 10 ≡ false
 unfolding is_token_byte
 token_byte = refl
 
-end_feeds : (e : LineEnd) → line_feeds (print_end e) ≡ 1
+pub end_feeds : (e : LineEnd) → line_feeds (print_end e) ≡ 1
 end_feeds crlf = refl
 end_feeds lf = refl
 
-field_feeds : (f : Field) → IsField f → line_feeds (print_field f) ≡ 1
+pub field_feeds : (f : Field) → IsField f → line_feeds (print_field f) ≡ 1
 field_feeds f is =
     let a = feeds-append (f.name ++ 58 ∷ f.raw) (print_end f.end) in
     let b = feeds-append f.name (58 ∷ f.raw) in
@@ -66,12 +66,12 @@ section_feeds fs last all =
     let d = fields_feeds fs all in
     omega (arith, a, b, d)
 
-version_feeds : (minor : ℕ) → minor ≤ 1 → line_feeds (print_version minor) ≡ 0
+pub version_feeds : (minor : ℕ) → minor ≤ 1 → line_feeds (print_version minor) ≡ 0
 version_feeds zero few = refl
 version_feeds (suc zero) few = refl
 version_feeds (suc (suc m)) few = absurd (omega arith)
 
-reason_feeds : (r : Option (List ℕ)) → AllPass is_value_byte (reason_phrase r) → line_feeds (print_reason r) ≡ 0
+pub reason_feeds : (r : Option (List ℕ)) → AllPass is_value_byte (reason_phrase r) → line_feeds (print_reason r) ≡ 0
 reason_feeds None all = refl
 reason_feeds (Some phrase) all = no_feeds is_value_byte refl phrase all
 
@@ -125,6 +125,10 @@ skip_all [] all = refl
 skip_all (y ∷ xs) all =
     let both = and_parts (is_newline y) (list_all is_newline xs) all in
     skip_newline y xs both.0 ∙ skip_all xs both.1
+
+pub newline_lines : (xs : List ℕ) → list_all is_newline xs ≡ true → lines_behind_blank xs ≡ 0
+unfolding lines_behind_blank
+newline_lines xs all = ap line_feeds (skip_all xs all)
 
 -- behind empty lines alone no line stands
 pub blank_lines : (ends : List LineEnd) → lines_behind_blank (print_blank ends) ≡ 0

@@ -71,7 +71,7 @@ grown form w given bytes text front i = record {
   place = place_more w.place bytes text front i.place;
 }
 
-pub lines_bad : {V : Type 0} (form : Form V) (w : WireState) (given bytes text : List ℕ) (ended : Bool) → InLines form w given bytes text → Bad form ended text → HasEnded (Garbled w.place) (garbled w) given bytes ended
+pub lines_bad : {V : Type 0} (form : Form V) (w : WireState) (given bytes text : List ℕ) (ended : Bool) → InLines form w given bytes text → Bad form text → HasEnded (Garbled w.place) (garbled w) given bytes ended
 lines_bad form w given bytes text ended i bad = record {
   heard = hear (garbled_at (length bytes) text) w.start (given ++ w.body) text;
   is = record {
@@ -86,7 +86,7 @@ lines_bad form w given bytes text ended i bad = record {
   holds = refl;
 }
 
-pub lines_cut : {V : Type 0} (form : Form V) (w : WireState) (given bytes text : List ℕ) → InLines form w given bytes text → Unfinished form true text → HasEnded (Garbled w.count) (stopped (Garbled w.count) w) given bytes true
+pub lines_cut : {V : Type 0} (form : Form V) (w : WireState) (given bytes text : List ℕ) → InLines form w given bytes text → Unfinished form text → HasEnded (Garbled w.count) (stopped (Garbled w.count) w) given bytes true
 lines_cut form w given bytes text i part = record {
   heard = hear (Some (Garbled (capped (length bytes)))) w.start (given ++ w.body) [];
   is = record {

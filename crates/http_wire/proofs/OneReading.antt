@@ -9,8 +9,8 @@ use Rattle.http_wire.proofs.FormFacts.{head_facts, size_facts, trailer_facts}
 
 halts_once : {V : Type 0} (form : Form V) (ended : Bool) (count start : ℕ) (body text : List ℕ) (x y : Heard) → Halts form ended count start body text x → Halts form ended count start body text y → x ≡ y
 halts_once form ended count start body text x y (inl a) (inl b) = a.1 ∙ sym b.1
-halts_once form ended count start body text x y (inl a) (inr b) = absurd (not_both form ended text a.0 b.0)
-halts_once form ended count start body text x y (inr a) (inl b) = absurd (not_both form ended text b.0 a.0)
+halts_once form ended count start body text x y (inl a) (inr b) = absurd (not_both form text a.0 b.0)
+halts_once form ended count start body text x y (inr a) (inl b) = absurd (not_both form text b.0 a.0)
 halts_once form ended count start body text x y (inr a) (inr b) = a.1 ∙ sym b.1
 
 pub halts_not_whole : {V : Type 0} (form : Form V) (ended : Bool) (count start : ℕ) (body text : List ℕ) (x : Heard) (v : V) (rest : List ℕ) → Halts form ended count start body text x → Whole form text v rest → ⊥

@@ -1,5 +1,5 @@
 -- What httparse's answers say of heads, size lines and trailers within the limits.
-use Rattle.std.proofs.Common.{◌≡◌, ℕ, ◌<◌, ◌≤◌, inl, inr, ⊎_elim, true, List, [], ◌++◌, length, take, drop, get_or, map, arith, sym, ap, ◌∙◌, append-nil, length-append, length-take, All}
+use Rattle.std.proofs.Common.{◌≡◌, ℕ, ◌<◌, ◌≤◌, inl, inr, ⊎_elim, List, [], ◌++◌, length, take, drop, get_or, map, arith, sym, ap, ◌∙◌, append-nil, length-append, length-take, All}
 use Rattle.std.proofs.lemmas.List.{length-map}
 use Rattle.httparse.specs.declared.spans.HeaderSpan.{HeaderSpan}
 use Rattle.httparse.specs.declared.spans.ResponseSpans.{ResponseSpans}
@@ -14,20 +14,20 @@ use Rattle.http_wire.proofs.LineCounts.{head_exceeds, section_exceeds}
 no_head : (text : List ℕ) → HasNoResponse text → HasNone head_form text
 no_head text none h rest is = none h rest (is.valid, is.is)
 
-pub head_more : (text : List ℕ) → HasNoResponse text → MayBecomeResponse text → length text ≤ 65536 → lines_behind_blank text ≤ 129 → Unfinished head_form true text
+pub head_more : (text : List ℕ) → HasNoResponse text → MayBecomeResponse text → length text ≤ 65536 → lines_behind_blank text ≤ 129 → Unfinished head_form text
 head_more text none may short few = record {
   none = no_head text none;
   may = (may.0, may.1, may.2.0, may.2.1);
   within = λ p. ⊎_elim (λ (long : 65536 < length text). let x : ⊥ = omega arith in x) (λ (many : 129 < lines_behind_blank text). let x : ⊥ = omega arith in x) p;
 }
 
-pub head_long : (text : List ℕ) → HasNoResponse text → 65536 < length text → Bad head_form true text
+pub head_long : (text : List ℕ) → HasNoResponse text → 65536 < length text → Bad head_form text
 head_long text none long = record { none = no_head text none; why = inr (inl long) }
 
-pub head_many : (text : List ℕ) → HasNoResponse text → 129 < lines_behind_blank text → Bad head_form true text
+pub head_many : (text : List ℕ) → HasNoResponse text → 129 < lines_behind_blank text → Bad head_form text
 head_many text none many = record { none = no_head text none; why = inr (inr many) }
 
-pub head_never : (text : List ℕ) → NeverHasResponse text → Bad head_form true text
+pub head_never : (text : List ℕ) → NeverHasResponse text → Bad head_form text
 head_never text never = record {
   none = λ h rest is. never [] h rest (is.valid, append-nil text ∙ is.is);
   why = inl (λ more h rest valid is. never more h rest (valid, is));
@@ -41,7 +41,7 @@ few_fields text spans head h at room =
     let d = length-take head.headers spans in
     omega (arith, counts, a, b, d, room)
 
-pub head_too_long : (text : List ℕ) (spans : List HeaderSpan) (head : ResponseSpans) → (h : ResponseHead) × IsResponseAt text spans head h → 65536 < head.len → head.len ≤ length text → Bad head_form true text
+pub head_too_long : (text : List ℕ) (spans : List HeaderSpan) (head : ResponseSpans) → (h : ResponseHead) × IsResponseAt text spans head h → 65536 < head.len → head.len ≤ length text → Bad head_form text
 head_too_long text spans head found long inside = record {
   none = λ k rest is. (let both = response_same text found.0 k (drop head.len text) rest found.1.reads is in let f : length (print_response found.0) ≡ length (print_response k) = ap (λ x. length (print_response x)) both in let g = found.1.len in let s = is.fits.1 in omega (arith, f, g, s));
   why = inr (inl (omega arith));
@@ -54,7 +54,7 @@ pub head_whole : (text : List ℕ) (spans : List HeaderSpan) (head : ResponseSpa
 head_whole text spans head found within short room =
     (found.0, record { valid = found.1.reads.0; fits = (few_fields text spans head found.0 found.1 room, (let g = found.1.len in omega (arith, g))); is = found.1.reads.1 }, found.1, within)
 
-pub head_too_many : (text : List ℕ) → ResponseOverflows 128 text → ResponseExceeds 128 text → Bad head_form true text
+pub head_too_many : (text : List ℕ) → ResponseOverflows 128 text → ResponseExceeds 128 text → Bad head_form text
 head_too_many text over exceeds = record {
   none = λ h rest is. (let more = over [] h rest (is.valid, append-nil text ∙ is.is) in let few = is.fits.0 in omega (arith, more, few));
   why = inr (inr (head_exceeds text exceeds));
@@ -77,13 +77,13 @@ all_within n m spans less all k x here = within_more n m (get_or spans k x) less
 no_size : (text : List ℕ) → HasNoChunkLine text → HasNone size_form text
 no_size text none l rest is = none l rest (is.valid, is.is)
 
-pub size_more : (text : List ℕ) → HasNoChunkLine text → MayBecomeChunkLine text → length text ≤ 4096 → Unfinished size_form true text
+pub size_more : (text : List ℕ) → HasNoChunkLine text → MayBecomeChunkLine text → length text ≤ 4096 → Unfinished size_form text
 size_more text none may short = record { none = no_size text none; may = (may.0, may.1, may.2.0, may.2.1); within = λ (long : 4096 < length text). let x : ⊥ = omega arith in x }
 
-pub size_long : (text : List ℕ) → HasNoChunkLine text → 4096 < length text → Bad size_form true text
+pub size_long : (text : List ℕ) → HasNoChunkLine text → 4096 < length text → Bad size_form text
 size_long text none long = record { none = no_size text none; why = inr long }
 
-pub size_never : (text : List ℕ) → NeverHasChunkLine text → Bad size_form true text
+pub size_never : (text : List ℕ) → NeverHasChunkLine text → Bad size_form text
 size_never text never = record {
   none = λ l rest is. never [] l rest (is.valid, append-nil text ∙ is.is);
   why = inl (λ more l rest valid is. never more l rest (valid, is));
@@ -93,7 +93,7 @@ pub size_whole : (text : List ℕ) (len size : ℕ) → (l : ChunkLine) × IsChu
 size_whole text len size found short =
     (found.0, drop len text, record { valid = found.1.reads.0; fits = (let g = found.1.len_is in omega (arith, g)); is = found.1.reads.1 }, found.1.size_is)
 
-pub size_too_long : (text : List ℕ) (len size : ℕ) → (l : ChunkLine) × IsChunkLineAt text len size l → 4096 < len → Bad size_form true text
+pub size_too_long : (text : List ℕ) (len size : ℕ) → (l : ChunkLine) × IsChunkLineAt text len size l → 4096 < len → Bad size_form text
 size_too_long text len size found long = record {
   none = λ k rest is. (let both = size_facts.unique found.0 k (drop len text) rest found.1.reads.0 is.valid (sym found.1.reads.1 ∙ is.is) in let f : length (print_chunk_line found.0) ≡ length (print_chunk_line k) = ap (λ x. length (print_chunk_line x)) both.0 in let g = found.1.len_is in let s = is.fits in omega (arith, f, g, s));
   why = inr (let e : length text ≡ length (print_chunk_line found.0 ++ drop len text) = ap length found.1.reads.1 in let a = length-append (print_chunk_line found.0) (drop len text) in let g = found.1.len_is in omega (arith, e, a, g));
@@ -106,20 +106,20 @@ pub ruleset sizes = (size_more, size_long, size_never, size_whole, size_too_long
 no_trailers : (text : List ℕ) → HasNoSection text → HasNone trailer_form text
 no_trailers text none t rest is = none t.0 t.1 rest (is.valid, is.is)
 
-pub trailers_more : (text : List ℕ) → HasNoSection text → MayBecomeSection text → length text ≤ 65536 → line_feeds text ≤ 128 → Unfinished trailer_form true text
+pub trailers_more : (text : List ℕ) → HasNoSection text → MayBecomeSection text → length text ≤ 65536 → line_feeds text ≤ 128 → Unfinished trailer_form text
 trailers_more text none may short few = record {
   none = no_trailers text none;
   may = (may.0, (may.1, may.2), may.3.0, may.3.1);
   within = λ p. ⊎_elim (λ (long : 65536 < length text). let x : ⊥ = omega arith in x) (λ (many : 128 < line_feeds text). let x : ⊥ = omega arith in x) p;
 }
 
-pub trailers_long : (text : List ℕ) → HasNoSection text → 65536 < length text → Bad trailer_form true text
+pub trailers_long : (text : List ℕ) → HasNoSection text → 65536 < length text → Bad trailer_form text
 trailers_long text none long = record { none = no_trailers text none; why = inr (inl long) }
 
-pub trailers_many : (text : List ℕ) → HasNoSection text → 128 < line_feeds text → Bad trailer_form true text
+pub trailers_many : (text : List ℕ) → HasNoSection text → 128 < line_feeds text → Bad trailer_form text
 trailers_many text none many = record { none = no_trailers text none; why = inr (inr many) }
 
-pub trailers_never : (text : List ℕ) → NeverHasSection text → Bad trailer_form true text
+pub trailers_never : (text : List ℕ) → NeverHasSection text → Bad trailer_form text
 trailers_never text never = record {
   none = λ t rest is. never [] t.0 t.1 rest (is.valid, append-nil text ∙ is.is);
   why = inl (λ more t rest valid is. never more t.0 t.1 rest (valid, is));
@@ -137,13 +137,13 @@ pub trailers_whole : (text : List ℕ) (spans : List HeaderSpan) (len count : �
 trailers_whole text spans len count found short room =
     ((found.0, found.1), drop len text, record { valid = found.2.reads.0; fits = (few_trailers text spans len count found.0 found.1 found.2 room, (let g = found.2.len_is in omega (arith, g))); is = found.2.reads.1 })
 
-pub trailers_too_long : (text : List ℕ) (spans : List HeaderSpan) (len count : ℕ) → (fields : List Field) × (last : LineEnd) × IsSectionAt text 0 spans len count fields last → 65536 < len → Bad trailer_form true text
+pub trailers_too_long : (text : List ℕ) (spans : List HeaderSpan) (len count : ℕ) → (fields : List Field) × (last : LineEnd) × IsSectionAt text 0 spans len count fields last → 65536 < len → Bad trailer_form text
 trailers_too_long text spans len count found long = record {
   none = λ t rest is. (let both = trailer_facts.unique (found.0, found.1) t (drop len text) rest found.2.reads.0 is.valid (sym found.2.reads.1 ∙ is.is) in let f : length (print_section found.0 found.1) ≡ length (print_section t.0 t.1) = ap (λ x. length (print_section x.0 x.1)) both.0 in let g = found.2.len_is in let s = is.fits.1 in omega (arith, f, g, s));
   why = inr (inl (let e : length text ≡ length (print_section found.0 found.1 ++ drop len text) = ap length found.2.reads.1 in let a = length-append (print_section found.0 found.1) (drop len text) in let g = found.2.len_is in omega (arith, e, a, g)));
 }
 
-pub trailers_too_many : (text : List ℕ) → SectionOverflows 128 text → SectionExceeds 128 text → Bad trailer_form true text
+pub trailers_too_many : (text : List ℕ) → SectionOverflows 128 text → SectionExceeds 128 text → Bad trailer_form text
 trailers_too_many text over exceeds = record {
   none = λ t rest is. (let more = over [] t.0 t.1 rest (is.valid, append-nil text ∙ is.is) in let few = is.fits.0 in omega (arith, more, few));
   why = inr (inr (section_exceeds text exceeds));

@@ -98,14 +98,14 @@ reach_kept : (w : WireState) (given : List ℕ) → InReach w given → InReach 
 reach_kept w given r = record { is = r.is ∙ ap (λ z. w.start + length z) (sym (append-nil (given ++ w.body))); within = r.within }
 
 stands_kept : (w : WireState) (given : List ℕ) (p : Phase) (stage : Stage) (text : List ℕ) → Stands p w given stage text → Stands p (emptied w) (given ++ w.body) stage text
-stands_kept w given (phases.Heads passed) stage text s = (s.0, s.1, append-nil (given ++ w.body) ∙ s.2, s.3, s.4, s.5)
+stands_kept w given (phases.Heads passed) stage text s = (s.0, s.1, append-nil (given ++ w.body) ∙ s.2, s.3, s.4, s.5, s.6)
 stands_kept w given (phases.Counted left) stage text s = (s.0 ∙ ap (λ z. Counted w.start w.keep (length z + left)) (sym (append-nil (given ++ w.body))), s.1 ∙ sym (append-nil (given ++ w.body)), s.2)
 stands_kept w given phases.Unbounded stage text s = (s.0, s.1 ∙ sym (append-nil (given ++ w.body)), reach_kept w given s.2)
 stands_kept w given phases.SizeLine stage text s = (s.0 ∙ ap (SizeLine w.start w.keep) (sym (append-nil (given ++ w.body))), s.1, reach_kept w given s.2, s.3)
 stands_kept w given (phases.Chunk left) stage text s = (s.0, s.1, append-nil (given ++ w.body) ∙ s.2, s.3, reach_kept w given s.4)
 stands_kept w given phases.ChunkCr stage text s = (s.0 ∙ ap (Closing w.start w.keep) (sym (append-nil (given ++ w.body))), s.1, reach_kept w given s.2)
 stands_kept w given phases.ChunkLf stage text s = (s.0 ∙ ap (Closing w.start w.keep) (sym (append-nil (given ++ w.body))), s.1, reach_kept w given s.2)
-stands_kept w given phases.Trailing stage text s = (s.0 ∙ ap (Trailing w.start w.keep) (sym (append-nil (given ++ w.body))), s.1, s.2)
+stands_kept w given phases.Trailing stage text s = (s.0 ∙ ap (Trailing w.start w.keep) (sym (append-nil (given ++ w.body))), s.1, s.2, s.3)
 
 kept_at : (w : WireState) (given bytes : List ℕ) (ended : Bool) (e : Option Response) → IsAt e w given bytes ended → IsAt e (emptied w) (given ++ w.body) bytes ended
 kept_at w given bytes ended None at = (

@@ -1,7 +1,7 @@
 -- The texts of lines that a stream is read in: heads, chunk-size lines and trailers. What makes one whole, unfinished or
 -- wrong, by the grammar of RFC 9112 and this profile's limits.
-use Rattle.std.specs.Prelude.{◌≡◌, ℕ, ◌<◌, ◌≤◌, ◌⊎◌, ◌==◌, Bool, true, false, if◌then◌else◌, List, [], ◌∷◌, ◌++◌, length, drop, All}
-use Rattle.std.specs.List.{count_by, list_any, prefix_len}
+use Rattle.std.specs.Prelude.{◌≡◌, ℕ, ◌<◌, ◌≤◌, ◌⊎◌, ◌==◌, Bool, List, [], ◌++◌, length, drop, All}
+use Rattle.std.specs.List.{count_by, prefix_len}
 use Rattle.httparse.specs.Pieces.{is_newline}
 use Rattle.httparse.specs.Grammar.{ResponseHead, print_response, IsResponseHead, ChunkLine, print_chunk_line, IsChunkLine, Field, LineEnd, IsField, print_section}
 
@@ -29,29 +29,19 @@ May {V} form text = (more : List ℕ) × (v : V) × form.valid v × (text ++ mor
 abbrev pub Never : {V : Type 0} → Form V → List ℕ → Type 0
 Never {V} form text = (more : List ℕ) (v : V) (rest : List ℕ) → form.valid v → ¬ (text ++ more ≡ form.print v ++ rest)
 
-abbrev pub is_line_feed : ℕ → Bool
-is_line_feed b = b == 10
-
--- the lines of a text that have ended
-abbrev pub whole_lines : List ℕ → List ℕ
-whole_lines [] = []
-whole_lines (b ∷ rest) = if list_any is_line_feed (b ∷ rest) then b ∷ whole_lines rest else []
-
--- a line is judged when it has ended, or when the peer has
-abbrev pub judged : Bool → List ℕ → List ℕ
-judged true text = text
-judged false text = whole_lines text
-
 -- no value yet, but one may come
-pub record Unfinished {V : Type 0} (form : Form V) (ended : Bool) (text : List ℕ) : Type 0 where
+pub record Unfinished {V : Type 0} (form : Form V) (text : List ℕ) : Type 0 where
   pub none : HasNone form text
-  pub may : May form (judged ended text)
+  pub may : May form text
   pub within : ¬ (form.passes text)
 
--- no value, and none can come
-pub record Bad {V : Type 0} (form : Form V) (ended : Bool) (text : List ℕ) : Type 0 where
+-- No value, and none can come: it is told by the first byte that shows it, wherever that stands in a line.
+pub record Bad {V : Type 0} (form : Form V) (text : List ℕ) : Type 0 where
   pub none : HasNone form text
-  pub why : Never form (judged ended text) ⊎ form.passes text
+  pub why : Never form text ⊎ form.passes text
+
+abbrev pub is_line_feed : ℕ → Bool
+is_line_feed b = b == 10
 
 abbrev pub line_feeds : List ℕ → ℕ
 line_feeds text = count_by is_line_feed text

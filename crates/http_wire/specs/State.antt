@@ -8,8 +8,9 @@ use Rattle.http_wire.specs.declared.phase.Phase.{Phase}
 
 -- The limits of the request; how many bytes came, and the place of the first that isn't read whole, both of which stand
 -- at the greatest u64; where the body begins in the file, and where it has come to; the part that is being read, or how
--- the reading ended; that part's bytes, where it is of lines, and how many of them are empty lines before a head; and the
--- body's bytes that weren't taken.
+-- the reading ended; that part's bytes, where it is of lines, how many of them are empty lines before a head, and whether
+-- they end within a field's name, or within a value, so that further bytes of it need no reading; and the body's bytes that
+-- weren't taken.
 pub record WireState : Type 0 where
   pub max : ℕ
   pub from : ℕ
@@ -22,6 +23,8 @@ pub record WireState : Type 0 where
   pub ending : Option Response
   pub part : List ℕ
   pub blank : ℕ
+  pub named : Bool
+  pub valued : Bool
   pub body : List ℕ
 
 -- a connection isn't kept behind what isn't a whole body

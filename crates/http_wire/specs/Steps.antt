@@ -36,28 +36,28 @@ abbrev pub Closes : WireState → WireState → Type 0
 Closes before after =
     (max from : ℕ) (given bytes : List ℕ) → Follows before max from given bytes false → Follows after max from given bytes true
 
--- ---- what is read in a text whose last line has ended
+-- ---- what is read in a text
 
 abbrev pub IsHeadAt : List ℕ → List HeaderSpan → HeadSpans → Type 0
-IsHeadAt text spans found.More = Unfinished head_form true text
-IsHeadAt text spans found.Bad = Bad head_form true text
+IsHeadAt text spans found.More = Unfinished head_form text
+IsHeadAt text spans found.Bad = Bad head_form text
 IsHeadAt text spans (found.Whole head) =
     (h : ResponseHead) × Whole head_form text h (drop head.len text) × IsResponseAt text spans head h × IsResponseWithin text spans head
 
 abbrev pub IsHeadRead : ℕ → List ℕ → HeadRead → Type 0
-IsHeadRead from text heads.More = Unfinished head_form true text
-IsHeadRead from text heads.Bad = Bad head_form true text
+IsHeadRead from text heads.More = Unfinished head_form text
+IsHeadRead from text heads.Bad = Bad head_form text
 IsHeadRead from text (heads.Whole status says) =
     (h : ResponseHead) × (rest : List ℕ) × Whole head_form text h rest × (status ≡ status_code h) × (says ≡ meaning from (status_code h) h.minor (map name_and_value h.fields))
 
 abbrev pub IsSizeRead : List ℕ → SizeRead → Type 0
-IsSizeRead text sizes.More = Unfinished size_form true text
-IsSizeRead text sizes.Bad = Bad size_form true text
+IsSizeRead text sizes.More = Unfinished size_form text
+IsSizeRead text sizes.Bad = Bad size_form text
 IsSizeRead text (sizes.Whole size) = (l : ChunkLine) × (rest : List ℕ) × Whole size_form text l rest × (size ≡ chunk_size l)
 
 abbrev pub AreTrailersRead : List ℕ → TrailersRead → Type 0
-AreTrailersRead text trails.More = Unfinished trailer_form true text
-AreTrailersRead text trails.Bad = Bad trailer_form true text
+AreTrailersRead text trails.More = Unfinished trailer_form text
+AreTrailersRead text trails.Bad = Bad trailer_form text
 AreTrailersRead text trails.Whole = (t : Trailers) × (rest : List ℕ) × Whole trailer_form text t rest
 
 -- ---- steps
@@ -77,10 +77,14 @@ counted n w = record w { count = capped (w.count + n) }
 
 -- the next part begins behind the last byte
 abbrev pub marked : Phase → WireState → WireState
-marked next w = record w { place = w.count; part = []; blank = 0; phase = next }
+marked next w = record w { place = w.count; part = []; blank = 0; named = false; valued = false; phase = next }
 
 abbrev pub joined : List ℕ → WireState → WireState
 joined front w = record w { part = w.part ++ front; count = capped (w.count + length front) }
+
+-- where the text of lines stops is known so, or not
+abbrev pub settled : Bool → Bool → WireState → WireState
+settled named valued w = record w { named = named; valued = valued }
 
 -- empty lines before a head are passed over
 abbrev pub blank_passed : WireState → WireState
@@ -161,23 +165,6 @@ return_taken b w = if b == 13 then record w { count = capped (w.count + 1); phas
 
 abbrev pub feed_taken : ℕ → WireState → WireState
 feed_taken b w = if b == 10 then marked phases.SizeLine (counted 1 w) else garbled w
-
--- ---- the peer's end
-
-abbrev pub head_closed : HeadSpans → WireState → WireState
-head_closed found.More w = cut_off w
-head_closed found.Bad w = garbled w
-head_closed (found.Whole head) w = garbled w
-
-abbrev pub size_closed : SizeRead → WireState → WireState
-size_closed sizes.More w = cut_off w
-size_closed sizes.Bad w = garbled w
-size_closed (sizes.Whole size) w = garbled w
-
-abbrev pub trailers_closed : TrailersRead → WireState → WireState
-trailers_closed trails.More w = cut_off w
-trailers_closed trails.Bad w = garbled w
-trailers_closed trails.Whole w = garbled w
 
 -- ---- lines
 

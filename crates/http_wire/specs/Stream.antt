@@ -107,8 +107,8 @@ garbled_at count text = Some (Garbled (capped (count - length text)))
 -- the reading stands in an unfinished text of lines, or before a wrong one
 abbrev pub Halts : {V : Type 0} → Form V → Bool → ℕ → ℕ → List ℕ → List ℕ → Heard → Type 0
 Halts form ended count start body text heard =
-    (Unfinished form ended text × (heard ≡ hear (cut ended count) start body []))
-    ⊎ (Bad form ended text × (heard ≡ hear (garbled_at count text) start body text))
+    (Unfinished form text × (heard ≡ hear (cut ended count) start body []))
+    ⊎ (Bad form text × (heard ≡ hear (garbled_at count text) start body text))
 
 abbrev pub EndsBehind : Next → ℕ → List ℕ → ℕ → List ℕ → Heard → Type 0
 EndsBehind (Goes next) count text start rest heard = ⊥

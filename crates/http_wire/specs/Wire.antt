@@ -13,6 +13,7 @@ use Rattle.http_wire.specs.declared.ending.State.TheVariants as states
 use Rattle.http_wire.specs.declared.phase.Phase.{Phase}
 use Rattle.http_wire.specs.declared.phase.Phase.TheVariants as phases
 use Rattle.http_wire.specs.Forms.{Unfinished, head_form, size_form, trailer_form}
+use Rattle.http_wire.specs.Plain.{IsPlain}
 use Rattle.http_wire.specs.Stream.{Stage, Heads, Counted, Unbounded, SizeLine, Chunk, Closing, Trailing, Heard, capped, Leads, IsHeard}
 use Rattle.http_wire.specs.State.{WireState, state_of}
 
@@ -31,18 +32,18 @@ pub record StartsBlank (size : ℕ) (text : List ℕ) : Type 0 where
 -- the stage and the unread text at which a wire stands that goes on
 abbrev pub Stands : Phase → WireState → List ℕ → Stage → List ℕ → Type 0
 Stands (phases.Heads passed) w given stage text =
-    (stage ≡ Heads passed) × (text ≡ w.part) × (given ++ w.body ≡ []) × (w.start ≡ 0) × Unfinished head_form false text × StartsBlank w.blank w.part
+    (stage ≡ Heads passed) × (text ≡ w.part) × (given ++ w.body ≡ []) × (w.start ≡ 0) × Unfinished head_form text × StartsBlank w.blank w.part × IsPlain w.named w.valued w.part
 Stands (phases.Counted left) w given stage text =
     (stage ≡ Counted w.start w.keep (length (given ++ w.body) + left)) × (text ≡ given ++ w.body) × (0 < left)
 Stands phases.Unbounded w given stage text = (stage ≡ Unbounded w.start) × (text ≡ given ++ w.body) × InReach w given
 Stands phases.SizeLine w given stage text =
-    (stage ≡ SizeLine w.start w.keep (given ++ w.body)) × (text ≡ w.part) × InReach w given × Unfinished size_form false text
+    (stage ≡ SizeLine w.start w.keep (given ++ w.body)) × (text ≡ w.part) × InReach w given × Unfinished size_form text
 Stands (phases.Chunk left) w given stage text =
     (read : List ℕ) × (stage ≡ Chunk w.start w.keep read (length text + left)) × (given ++ w.body ≡ read ++ text) × (0 < left) × InReach w given
 Stands phases.ChunkCr w given stage text = (stage ≡ Closing w.start w.keep (given ++ w.body)) × (text ≡ []) × InReach w given
 Stands phases.ChunkLf w given stage text = (stage ≡ Closing w.start w.keep (given ++ w.body)) × (text ≡ 13 ∷ []) × InReach w given
 Stands phases.Trailing w given stage text =
-    (stage ≡ Trailing w.start w.keep (given ++ w.body)) × (text ≡ w.part) × Unfinished trailer_form false text
+    (stage ≡ Trailing w.start w.keep (given ++ w.body)) × (text ≡ w.part) × Unfinished trailer_form text × IsPlain w.named w.valued w.part
 
 -- the wire goes on
 pub record GoesOn (w : WireState) (given bytes : List ℕ) : Type 0 where

@@ -43,6 +43,8 @@ impl Wire {
         self.place = self.count;
         self.part.clear();
         self.blank = 0;
+        self.named = false;
+        self.valued = false;
         self.phase = phase;
     }
 

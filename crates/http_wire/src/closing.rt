@@ -1,19 +1,14 @@
 //! The peer's end, as a wire is told of it.
 
-ghost use Rattle.std.specs.Prelude.{◌≡◌, ◌≢◌, List, None};
-ghost use Rattle.httparse.specs.declared.spans.HeaderSpan.{HeaderSpan};
-ghost use Rattle.http_wire.specs.declared.reading.HeadSpans.{HeadSpans};
-ghost use Rattle.http_wire.specs.declared.reading.SizeRead.{SizeRead};
-ghost use Rattle.http_wire.specs.declared.reading.TrailersRead.{TrailersRead};
-ghost use Rattle.http_wire.specs.Steps.{Closes, IsHeadAt, IsSizeRead, AreTrailersRead, cut_off, head_closed, size_closed, trailers_closed};
+ghost use Rattle.std.specs.Prelude.{◌≡◌, ◌≢◌, None};
+ghost use Rattle.http_wire.specs.Steps.{Closes, cut_off};
 ghost use Rattle.http_wire.specs.Wire.{wire_state};
 
-use crate::reading::{HeadSpans, SizeRead, TrailersRead, read_size, read_trailers, scan_head};
 use crate::wire::Wire;
 use crate::{Phase, Response, State};
 
 impl Wire {
-    /// The peer has closed.
+    /// The peer has closed. A part that isn't whole is cut off; a body without a known size is whole.
     pub(crate) fn close(&mut self)
         requires { self.old.ending ≡ None }
         ensures closes { Closes self.old self.new }
@@ -44,23 +39,7 @@ impl Wire {
         ensures closes { Closes self.old self.new }
         ensures over { wire_state self.new ≢ State.More }
     {
-        self.end_head();
-    }
-
-    fn end_head(&mut self)
-        ensures { (found : HeadSpans) × (spans : List HeaderSpan) × IsHeadAt self.old.part spans found × (self.new ≡ head_closed found self.old) }
-    {
-        let found = scan_head(&self.part);
-        self.apply_head_end(found);
-    }
-
-    fn apply_head_end(&mut self, found: HeadSpans)
-        ensures { self.new ≡ head_closed found self.old }
-    {
-        match found {
-            HeadSpans::More => self.cut(),
-            HeadSpans::Bad | HeadSpans::Whole(_) => self.garble(),
-        }
+        self.cut();
     }
 
     fn close_in_size(&mut self)
@@ -69,23 +48,7 @@ impl Wire {
         ensures closes { Closes self.old self.new }
         ensures over { wire_state self.new ≢ State.More }
     {
-        self.end_size();
-    }
-
-    fn end_size(&mut self)
-        ensures { (read : SizeRead) × IsSizeRead self.old.part read × (self.new ≡ size_closed read self.old) }
-    {
-        let read = read_size(&self.part);
-        self.apply_size_end(read);
-    }
-
-    fn apply_size_end(&mut self, read: SizeRead)
-        ensures { self.new ≡ size_closed read self.old }
-    {
-        match read {
-            SizeRead::More => self.cut(),
-            SizeRead::Bad | SizeRead::Whole(_) => self.garble(),
-        }
+        self.cut();
     }
 
     fn close_in_trailers(&mut self)
@@ -94,23 +57,7 @@ impl Wire {
         ensures closes { Closes self.old self.new }
         ensures over { wire_state self.new ≢ State.More }
     {
-        self.end_trailers();
-    }
-
-    fn end_trailers(&mut self)
-        ensures { (read : TrailersRead) × AreTrailersRead self.old.part read × (self.new ≡ trailers_closed read self.old) }
-    {
-        let read = read_trailers(&self.part);
-        self.apply_trailers_end(read);
-    }
-
-    fn apply_trailers_end(&mut self, read: TrailersRead)
-        ensures { self.new ≡ trailers_closed read self.old }
-    {
-        match read {
-            TrailersRead::More => self.cut(),
-            TrailersRead::Bad | TrailersRead::Whole => self.garble(),
-        }
+        self.cut();
     }
 
     /// A body that ends with the connection is whole.

@@ -5,7 +5,7 @@
 //!
 //! `request` writes the request for a file, from a byte on. A `Wire` is fed a peer's stream in pieces of any size
 //! and tells what is heard of it: a body, a redirect, a status, too many bytes, or the place at which the peer
-//! broke the protocol. What is heard is defined once, on all bytes together: there is at most one reading of a
+//! broke the protocol, which is told by the first byte that shows it. What is heard is defined once, on all bytes together: there is at most one reading of a
 //! stream (`one_reading`), which stays when more bytes follow (`endings_stay`), each whole response of known
 //! length, within the limit, is heard as its body (`responses_are_heard`), and a wire's state, body and reply are
 //! that reading of the bytes fed, however they were cut (`follows`, `replies`, `wires_tell`). What `take` gave,
@@ -15,7 +15,8 @@
 //! `lines_behind_blank`), so that a server reads requests by the same words. Only tested: that the definition is what RFC 9112
 //! and this profile say of 91 streams cut at every place. By the form of the code, and no clause: a good head that
 //! comes whole in a piece is read twice, and any other one with each of its lines behind the empty ones at its
-//! front, of which there are at most 130, and once more by itself or at the peer's end.
+//! front, of which there are at most 130, and with each piece that stops within one, but for pieces that go on
+//! within a name, a value or a reason behind the first 13 bytes of their line.
 #![tactic(auto)]
 
 pub use ending::{Response, State};
@@ -39,5 +40,6 @@ mod lines;
 mod meaning;
 mod phase;
 mod reading;
+mod runs;
 mod sending;
 mod wire;

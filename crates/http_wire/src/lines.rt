@@ -1,18 +1,19 @@
 //! Heads, size lines and trailers, as a wire takes them.
 
-ghost use Rattle.std.specs.Prelude.{◌≡◌, ◌+◌, ◌<◌, ◌≤◌, nat_lt, true, length, take, drop, None, IfOk, OnOk};
+ghost use Rattle.std.specs.Prelude.{◌≡◌, ◌+◌, ◌<◌, ◌≤◌, ◌∷◌, [], nat_lt, Bool, true, false, length, take, drop, None, IfOk, OnOk};
 ghost use Rattle.std.specs.List.{list_any};
 ghost use Rattle.http_wire.specs.declared.reading.HeadRead.{HeadRead};
 ghost use Rattle.http_wire.specs.declared.reading.SizeRead.{SizeRead};
 ghost use Rattle.http_wire.specs.declared.reading.TrailersRead.{TrailersRead};
 ghost use Rattle.http_wire.specs.Forms.{is_line_feed};
+ghost use Rattle.http_wire.specs.Plain.{GoesPlain, IsPlain};
 ghost use Rattle.http_wire.specs.Stream.{announced};
-ghost use Rattle.http_wire.specs.Steps.{Moves, IsFront, IsHeadRead, IsSizeRead, AreTrailersRead, IsEmptyLine, joined, blank_passed, in_line, body_framed, body_begun, head_ended, final_head, head_whole, head_read, size_read, trailers_read};
+ghost use Rattle.http_wire.specs.Steps.{Moves, IsFront, IsHeadRead, IsSizeRead, AreTrailersRead, IsEmptyLine, joined, settled, blank_passed, in_line, body_framed, body_begun, head_ended, final_head, head_whole, head_read, size_read, trailers_read};
 
 use crate::reading::{
-    HEAD_BYTES, HeadRead, SIZE_BYTES, SizeRead, TrailersRead, head_len, read_head, read_size,
-    read_trailers,
+    HEAD_BYTES, HeadRead, SizeRead, TrailersRead, head_len, read_head, read_size, read_trailers,
 };
+use crate::runs::{are_name_bytes, are_value_bytes, plain_in};
 use crate::wire::Wire;
 use crate::{Framing, Meaning, Phase, Response};
 use acq_base::NoMemory;
@@ -69,7 +70,8 @@ impl Wire {
         ensures took { IfOk result (λ n. (0 < n) × (n ≤ length piece.now)) }
         ensures moves { IfOk result (λ n. Moves self.old self.new (take n piece.now)) }
     {
-        // A head is read again with each of its lines, but for one that comes whole in a piece, as most do.
+        // A head is read again with each of its lines, and with a piece that stops in another place than a long name or
+        // value, but for one that comes whole in a piece, as most do.
         if self.part.is_empty() {
             let n = head_len(piece);
             if n > 0 {
@@ -82,7 +84,7 @@ impl Wire {
         self.take_head_line(alloc, passed, piece)
     }
 
-    /// Takes bytes of a head up to the end of a line, behind so many interim heads.
+    /// Takes bytes of a head up to the end of a line or of the piece, behind so many interim heads.
     fn take_head_line(&mut self, alloc: Global, passed: u8, piece: &[u8]) -> Result<usize, NoMemory>
         requires phase { self.old.phase ≡ Phase.Heads passed }
         requires going { self.old.ending ≡ None }
@@ -90,18 +92,25 @@ impl Wire {
         ensures took { IfOk result (λ n. (0 < n) × (n ≤ length piece.now)) }
         ensures moves { IfOk result (λ n. Moves self.old self.new (take n piece.now)) }
     {
-        let (n, ends) = line_of(piece);
+        let (n, _) = line_of(piece);
         let (front, _) = piece.split_at(n);
-        self.join(front)?;
-        if ends {
-            if self.is_blank() {
-                self.pass_blank();
-                return Ok(n);
-            }
-            self.judge_head(alloc, passed)?;
+        if self.goes_on(front) {
+            self.join(front)?;
+            self.limit(HEAD_BYTES);
             return Ok(n);
         }
-        self.limit(HEAD_BYTES);
+        self.forget_line();
+        self.join(front)?;
+        if self.is_blank() {
+            self.pass_blank();
+            return Ok(n);
+        }
+        if self.is_return() {
+            self.limit(HEAD_BYTES);
+            return Ok(n);
+        }
+        self.judge_head(alloc, passed)?;
+        self.note_line();
         Ok(n)
     }
 
@@ -113,14 +122,10 @@ impl Wire {
         ensures took { IfOk result (λ n. (0 < n) × (n ≤ length piece.now)) }
         ensures moves { IfOk result (λ n. Moves self.old self.new (take n piece.now)) }
     {
-        let (n, ends) = line_of(piece);
+        let (n, _) = line_of(piece);
         let (front, _) = piece.split_at(n);
         self.join(front)?;
-        if ends {
-            self.judge_size();
-            return Ok(n);
-        }
-        self.limit(SIZE_BYTES);
+        self.judge_size();
         Ok(n)
     }
 
@@ -132,15 +137,48 @@ impl Wire {
         ensures took { IfOk result (λ n. (0 < n) × (n ≤ length piece.now)) }
         ensures moves { IfOk result (λ n. Moves self.old self.new (take n piece.now)) }
     {
-        let (n, ends) = line_of(piece);
+        let (n, _) = line_of(piece);
         let (front, _) = piece.split_at(n);
-        self.join(front)?;
-        if ends {
-            self.judge_trailers();
+        if self.goes_on(front) {
+            self.join(front)?;
+            self.limit(HEAD_BYTES);
             return Ok(n);
         }
-        self.limit(HEAD_BYTES);
+        self.forget_line();
+        self.join(front)?;
+        self.judge_trailers();
+        self.note_line();
         Ok(n)
+    }
+
+    /// Whether these bytes go on with a long name or value, so that they need no reading.
+    fn goes_on(&self, bytes: &[u8]) -> bool
+        ensures { result ≡ true → GoesPlain self.now.named self.now.valued bytes.now }
+    {
+        (self.named && are_name_bytes(bytes)) || (self.valued && are_value_bytes(bytes))
+    }
+
+    /// Knows nothing of where the text stops.
+    fn forget_line(&mut self)
+        ensures { self.new ≡ settled false false self.old }
+    {
+        self.named = false;
+        self.valued = false;
+    }
+
+    /// Notes whether the text stops within a long name or value.
+    fn note_line(&mut self)
+        ensures { (named : Bool) × (valued : Bool) × IsPlain named valued self.old.part × (self.new ≡ settled named valued self.old) }
+    {
+        let (named, valued) = plain_in(&self.part);
+        self.settle(named, valued);
+    }
+
+    fn settle(&mut self, named: bool, valued: bool)
+        ensures { self.new ≡ settled named valued self.old }
+    {
+        self.named = named;
+        self.valued = valued;
     }
 
     /// Takes bytes of a text of lines.
@@ -163,6 +201,17 @@ impl Wire {
         is_empty_line(line)
     }
 
+    /// Whether the text is a carriage return, with empty lines alone before it.
+    fn is_return(&self) -> bool
+        ensures { result ≡ true → drop self.now.blank self.now.part ≡ 13 ∷ [] }
+    {
+        if self.blank > self.part.len() {
+            return false;
+        }
+        let (_, line) = self.part.split_at(self.blank);
+        matches!(line, [b'\r'])
+    }
+
     /// Passes over empty lines before a head, which aren't read again with each further line.
     fn pass_blank(&mut self)
         ensures { self.new ≡ in_line 65536 (blank_passed self.old) }
@@ -171,7 +220,7 @@ impl Wire {
         self.limit(HEAD_BYTES);
     }
 
-    /// Refuses a text of lines that is too long and not whole yet.
+    /// Refuses a text that is too long for its kind, and is not whole yet.
     fn limit(&mut self, most: usize)
         ensures { self.new ≡ in_line most self.old }
     {
@@ -180,7 +229,7 @@ impl Wire {
         }
     }
 
-    /// Reads the head that may be whole.
+    /// Reads what came of a head.
     fn judge_head(&mut self, alloc: Global, passed: u8) -> Result<(), NoMemory>
         ensures { OnOk result ((read : HeadRead) × IsHeadRead self.old.from self.old.part read × (self.new ≡ head_read passed read self.old)) }
     {
@@ -265,7 +314,7 @@ impl Wire {
         }
     }
 
-    /// Reads the size line that may be whole.
+    /// Reads what came of a size line.
     fn judge_size(&mut self)
         ensures { (read : SizeRead) × IsSizeRead self.old.part read × (self.new ≡ size_read read self.old) }
     {
@@ -284,7 +333,7 @@ impl Wire {
         }
     }
 
-    /// Reads the trailers that may be whole.
+    /// Reads what came of trailers.
     fn judge_trailers(&mut self)
         ensures { (read : TrailersRead) × AreTrailersRead self.old.part read × (self.new ≡ trailers_read read self.old) }
     {

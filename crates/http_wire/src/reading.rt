@@ -1,4 +1,4 @@
-//! Heads, size lines and trailers in texts whose last line has ended, and where a head ends in any text.
+//! Heads, size lines and trailers, in texts that are whole or go on.
 
 ghost use Rattle.std.specs.Prelude.{◌≡◌, ◌<◌, ◌≤◌, List, [], length, take, IfOk};
 ghost use Rattle.std.specs.List.{prefix_len};
@@ -24,7 +24,7 @@ pub const HEAD_BYTES: usize = 65536;
 const FIELDS: usize = 128;
 
 /// The most bytes of a chunk's size line.
-pub const SIZE_BYTES: usize = 4096;
+const SIZE_BYTES: usize = 4096;
 
 /// What a text is of a head.
 #[derive(Debug, PartialEq, Drop)]
@@ -73,7 +73,7 @@ pub fn read_head(alloc: Global, text: &[u8], from: u64) -> Result<HeadRead, NoMe
 }
 
 /// What a text is of a head, whatever that means.
-pub fn scan_head(text: &[u8]) -> HeadSpans
+fn scan_head(text: &[u8]) -> HeadSpans
     ensures { (spans : List HeaderSpan) × IsHeadAt text.now spans result }
 {
     let mut spans = [EMPTY_HEADER_SPAN; FIELDS];

@@ -37,6 +37,10 @@ pub struct Wire {
     pub(crate) part: Vec<u8>,
     /// How many of these bytes are empty lines before a head.
     pub(crate) blank: usize,
+    /// Whether they end within the name of a field, behind 12 bytes of it.
+    pub(crate) named: bool,
+    /// Whether they end within the value of a field or a reason, behind 12 bytes of its line.
+    pub(crate) valued: bool,
     /// What came of the body and wasn't taken.
     pub(crate) body: Vec<u8>,
 }
@@ -58,6 +62,8 @@ impl Model for Wire {
       ending = wire.ending;
       part = wire.part.items;
       blank = wire.blank;
+      named = wire.named;
+      valued = wire.valued;
       body = wire.body.items;
     } };
 }
@@ -82,6 +88,8 @@ impl Wire {
             ending: None,
             part: Vec::new(alloc),
             blank: 0,
+            named: false,
+            valued: false,
             body: Vec::new(alloc),
         }
     }

@@ -1,8 +1,10 @@
-use Rattle.http_wire.proofs.Glue.{head_closes, head_over}
+use Rattle.http_wire.specs.Steps.{cut_off}
+use Rattle.http_wire.proofs.EndMoves.{head_cut}
+use Rattle.http_wire.proofs.Glue.{closes_to, cut_over}
 use Rattle.http_wire.proofs.wire.Wire.close_in_head.Goals as goal
 
 pub returns-clause-closes : goal.returns-clause-closes
-returns-clause-closes c = head_closes c.args.passed c.args.self.now c.end_head.new.self c.requires.phase c.requires.going c.end_head.ensures
+returns-clause-closes c = closes_to c.args.self.now c.cut.new.self (cut_off c.args.self.now) c.cut.ensures (head_cut c.args.passed c.args.self.now c.requires.phase c.requires.going)
 
 pub returns-clause-over : goal.returns-clause-over
-returns-clause-over c = head_over c.args.self.now c.end_head.new.self c.end_head.ensures
+returns-clause-over c = cut_over c.args.self.now c.cut.new.self c.cut.ensures

@@ -1,8 +1,10 @@
-use Rattle.http_wire.proofs.Glue.{size_closes, size_over}
+use Rattle.http_wire.specs.Steps.{cut_off}
+use Rattle.http_wire.proofs.EndMoves.{size_cut}
+use Rattle.http_wire.proofs.Glue.{closes_to, cut_over}
 use Rattle.http_wire.proofs.wire.Wire.close_in_size.Goals as goal
 
 pub returns-clause-closes : goal.returns-clause-closes
-returns-clause-closes c = size_closes c.args.self.now c.end_size.new.self c.requires.phase c.requires.going c.end_size.ensures
+returns-clause-closes c = closes_to c.args.self.now c.cut.new.self (cut_off c.args.self.now) c.cut.ensures (size_cut c.args.self.now c.requires.phase c.requires.going)
 
 pub returns-clause-over : goal.returns-clause-over
-returns-clause-over c = size_over c.args.self.now c.end_size.new.self c.end_size.ensures
+returns-clause-over c = cut_over c.args.self.now c.cut.new.self c.cut.ensures

@@ -1,8 +1,10 @@
-use Rattle.http_wire.proofs.Glue.{trailers_close, trailers_over}
+use Rattle.http_wire.specs.Steps.{cut_off}
+use Rattle.http_wire.proofs.EndMoves.{trailers_cut}
+use Rattle.http_wire.proofs.Glue.{closes_to, cut_over}
 use Rattle.http_wire.proofs.wire.Wire.close_in_trailers.Goals as goal
 
 pub returns-clause-closes : goal.returns-clause-closes
-returns-clause-closes c = trailers_close c.args.self.now c.end_trailers.new.self c.requires.phase c.requires.going c.end_trailers.ensures
+returns-clause-closes c = closes_to c.args.self.now c.cut.new.self (cut_off c.args.self.now) c.cut.ensures (trailers_cut c.args.self.now c.requires.phase c.requires.going)
 
 pub returns-clause-over : goal.returns-clause-over
-returns-clause-over c = trailers_over c.args.self.now c.end_trailers.new.self c.end_trailers.ensures
+returns-clause-over c = cut_over c.args.self.now c.cut.new.self c.cut.ensures
