@@ -25,8 +25,9 @@ mod calls;
 /// files alone: any other name is a fault, and so is a folder in place of a file, or in place of `partial` anything but a
 /// folder. A link is no file: it isn't read, and a file that is moved to its name takes its place.
 ///
-/// `partial` is this user's alone: it is taken over where it isn't, or else a fault. A file in it that somebody else could
-/// have changed counts as none, and one that is cut to nothing is made anew, so that nobody has it open.
+/// `partial` is this user's alone: where it isn't at the first look, it is taken over, or else a fault, and where it isn't
+/// any more at a later one, it is a fault. A file in it that somebody else could have changed counts as none, and one that
+/// is cut to nothing is made anew, so that nobody has it open.
 ///
 /// The hold is a write lock over the whole file `lock`, which excludes apt's and is excluded by it.
 ///

@@ -1,12 +1,14 @@
 //! What a disk does with files below its folder, each with a few calls of the system. It touches that folder alone.
-ghost use Rattle.std.specs.Prelude.{◌≤◌, length, IfOk};
+ghost use Rattle.std.specs.Prelude.{◌≤◌, length, IfOk, IfSome, IsTrue};
+ghost use Rattle.std.specs.Fs.{IsDir, IsFile, file_type};
+ghost use Rattle.acq_real.specs.Ownership.{IsPrivate, IsPrivateFile, ShowsMode};
 
 use crate::answer::{check_folder, plain_length, unless};
 use crate::listing::Entry;
 use crate::opened::{
     LIST_FILE, OpenFolders, give_back, make_file, node_of, open_folders, open_found, still,
 };
-use crate::ownership::{is_private, is_private_file, standing_of, user};
+use crate::ownership::{Found, is_private, is_private_file, look};
 use acq_base::Text;
 use os::RangeLock;
 use std::alloc::Global;
@@ -32,6 +34,13 @@ const EVERYBODY: u32 = 0o007;
 /// How many bytes a lock covers that covers a file whole.
 const WHOLE_FILE: u64 = i64::MAX as u64;
 
+/// A file that is locked, and what the system found it to be.
+#[derive(Drop)]
+pub struct Locked {
+    pub file: File,
+    pub found: Metadata,
+}
+
 /// Makes a folder with these permission bits whatever the umask, and answers whether it was missing.
 fn make_folder(rt: &impl Files<File = File>, path: &str, mode: u32) -> io::Result<bool> {
     let mut how = DirBuilder::new();
@@ -53,40 +62,52 @@ fn partial_path(alloc: Global, folder: &str) -> io::Result<String> {
 }
 
 /// What is at a path, a folder. Anything else there is an error, a link to a folder too.
-fn find_folder(rt: &impl Files, path: &str) -> io::Result<Metadata> {
+fn find_folder(rt: &impl Files, path: &str) -> io::Result<Metadata>
+    ensures folder { IfOk result (λ found. IsDir (file_type found)) }
+{
     let found = fs::symlink_metadata(rt, path)?;
     check_folder(&found)?;
     Ok(found)
 }
 
-/// Anything but a folder that is this user's alone is an error.
-fn check_private(found: &Metadata) -> io::Result<()> {
-    check_folder(found)?;
-    if is_private(standing_of(found), user()) {
-        Ok(())
-    } else {
-        Err(Error::from(ErrorKind::PermissionDenied))
+/// Whose it is that the system found. Anything but a folder that is this user's alone is an error.
+fn look_at_private(metadata: Metadata) -> io::Result<Found>
+    ensures folder { IfOk result (λ found. IsDir (file_type found.metadata)) }
+    ensures own { IfOk result (λ found. IsPrivate found.standing found.user) }
+    ensures mode { IfOk result ShowsMode }
+{
+    check_folder(&metadata)?;
+    let found = look(metadata);
+    if !is_private(found.standing, found.user) {
+        return Err(Error::from(ErrorKind::PermissionDenied));
     }
-}
-
-/// The folder `partial`, this user's alone. Where somebody else had it meanwhile it is an error.
-fn find_partial(rt: &impl Files, path: &str) -> io::Result<Metadata> {
-    let found = find_folder(rt, path)?;
-    check_private(&found)?;
     Ok(found)
 }
 
-/// Takes the folder `partial` over, where it isn't this user's alone, as apt does for its own user whenever it starts.
-/// Where that isn't allowed, or does nothing, it is an error.
-fn take_over(rt: &impl Files<File = File>, path: &str) -> io::Result<()> {
-    let found = find_folder(rt, path)?;
-    if is_private(standing_of(&found), user()) {
-        return Ok(());
+/// The folder `partial`, this user's alone. Where somebody else had it meanwhile it is an error.
+fn find_partial(rt: &impl Files, path: &str) -> io::Result<Found>
+    ensures folder { IfOk result (λ found. IsDir (file_type found.metadata)) }
+    ensures own { IfOk result (λ found. IsPrivate found.standing found.user) }
+    ensures mode { IfOk result ShowsMode }
+{
+    look_at_private(find_folder(rt, path)?)
+}
+
+/// Takes the folder `partial` over, where it isn't this user's alone, as apt does for its own user whenever it starts, and
+/// answers whose it is then. Where that isn't allowed, or does nothing, it is an error.
+fn take_over(rt: &impl Files<File = File>, path: &str) -> io::Result<Found>
+    ensures folder { IfOk result (λ found. IsDir (file_type found.metadata)) }
+    ensures own { IfOk result (λ found. IsPrivate found.standing found.user) }
+    ensures mode { IfOk result ShowsMode }
+{
+    let found = look(find_folder(rt, path)?);
+    if is_private(found.standing, found.user) {
+        return Ok(found);
     }
-    let opened = open_found(rt, path, node_of(&found), false)?;
-    fchown(&opened, Some(user()), None)?;
+    let opened = open_found(rt, path, node_of(&found.metadata), false)?;
+    fchown(&opened, Some(found.user), None)?;
     opened.set_permissions(Permissions::from_mode(PRIVATE_FOLDER))?;
-    check_private(&opened.metadata()?)
+    look_at_private(opened.metadata()?)
 }
 
 /// Anything but a folder as `partial` is an error. A link to a folder leads out of the disk's own.
@@ -108,7 +129,8 @@ pub fn make_folders(rt: &impl Files<File = File>, alloc: Global, folder: &str) -
     make_own(rt, alloc, folder)?;
     let partial = partial_path(alloc, folder)?;
     make_folder(rt, partial.as_str(), PRIVATE_FOLDER)?;
-    take_over(rt, partial.as_str())
+    take_over(rt, partial.as_str())?;
+    Ok(())
 }
 
 /// Makes the changes of names in the folder and in `partial` lasting: the folder's first, so that a crash between the two
@@ -120,7 +142,7 @@ pub fn sync_names(
     folder: &str,
 ) -> io::Result<()> {
     let partial = partial_path(alloc, folder)?;
-    let found = node_of(&find_partial(rt, partial.as_str())?);
+    let found = node_of(&find_partial(rt, partial.as_str())?.metadata);
     let folders = match still(kept.take(), found) {
         Some(folders) => folders,
         None => open_folders(rt, folder, partial.as_str(), found)?,
@@ -137,7 +159,9 @@ fn find(rt: &impl Files, path: &str) -> io::Result<Option<Metadata>> {
 }
 
 /// The plain file at a path, `None` where nothing is, or a link. Anything else there is an error.
-fn find_plain(rt: &impl Files, path: &str) -> io::Result<Option<Metadata>> {
+fn find_plain(rt: &impl Files, path: &str) -> io::Result<Option<Metadata>>
+    ensures plain { IfOk result (λ found. IfSome found (λ file. IsFile (file_type file))) }
+{
     match find(rt, path)? {
         Some(found) if found.is_symlink() => Ok(None),
         Some(found) => {
@@ -150,17 +174,25 @@ fn find_plain(rt: &impl Files, path: &str) -> io::Result<Option<Metadata>> {
 
 /// The file at a path that is used as it stands: a plain one, in `partial` one of this user's alone, since what somebody
 /// else can write may be another list than was fetched. `None` where there is none.
-pub fn find_file(rt: &impl Files, path: &str, in_partial: bool) -> io::Result<Option<Metadata>> {
-    match find_plain(rt, path)? {
-        Some(found) if in_partial && !is_private_file(standing_of(&found), user()) => Ok(None),
-        found => Ok(found),
+pub fn find_file(rt: &impl Files, path: &str, in_partial: bool) -> io::Result<Option<Found>>
+    ensures plain { IfOk result (λ found. IfSome found (λ file. IsFile (file_type file.metadata))) }
+    ensures own { IsTrue in_partial → IfOk result (λ found. IfSome found (λ file. IsPrivateFile file.standing file.user)) }
+    ensures mode { IfOk result (λ found. IfSome found ShowsMode) }
+{
+    let Some(metadata) = find_plain(rt, path)? else {
+        return Ok(None);
+    };
+    let found = look(metadata);
+    if in_partial && !is_private_file(found.standing, found.user) {
+        return Ok(None);
     }
+    Ok(Some(found))
 }
 
 /// The length of a file, `None` where there is none to be used.
 pub fn length(rt: &impl Files, path: &str, in_partial: bool) -> io::Result<Option<u64>> {
     match find_file(rt, path, in_partial)? {
-        Some(found) => Ok(Some(plain_length(&found)?)),
+        Some(found) => Ok(Some(plain_length(&found.metadata)?)),
         None => Ok(None),
     }
 }
@@ -180,18 +212,28 @@ pub fn read_some(file: &File, at: u64, out: &mut [u8]) -> io::Result<usize>
     Err(io::Error::from(ErrorKind::Interrupted))
 }
 
-/// Moves a file to another path, in place of what is there, a link too, and answers whether there is one to move. One in
-/// `partial` that somebody else can write is an error.
-pub fn rename(rt: &impl Files, from: &str, from_partial: bool, to: &str) -> io::Result<bool> {
+/// Moves a file to another path, in place of what is there, a link too, and answers the one that was moved, as it was
+/// found, or `None` where there is none to move. One in `partial` that somebody else can write is an error.
+pub fn rename(
+    rt: &impl Files,
+    from: &str,
+    from_partial: bool,
+    to: &str,
+) -> io::Result<Option<Found>>
+    ensures plain { IfOk result (λ moved. IfSome moved (λ file. IsFile (file_type file.metadata))) }
+    ensures own { IsTrue from_partial → IfOk result (λ moved. IfSome moved (λ file. IsPrivate file.standing file.user)) }
+    ensures mode { IfOk result (λ moved. IfSome moved ShowsMode) }
+{
     find_plain(rt, to)?;
-    let Some(found) = find_plain(rt, from)? else {
-        return Ok(false);
+    let Some(metadata) = find_plain(rt, from)? else {
+        return Ok(None);
     };
-    if from_partial && !is_private(standing_of(&found), user()) {
+    let found = look(metadata);
+    if from_partial && !is_private(found.standing, found.user) {
         return Err(Error::from(ErrorKind::PermissionDenied));
     }
     fs::rename(rt, from, to)?;
-    Ok(true)
+    Ok(Some(found))
 }
 
 /// Removes a file or a link, and answers whether there was one. A folder there is an error, and so is all else.
@@ -206,13 +248,20 @@ pub fn remove(rt: &impl Files, path: &str) -> io::Result<bool> {
     Ok(true)
 }
 
-/// Puts a new, empty file in place of what stands at a path, a link too. It is made at the path `fresh`, so that at no
-/// moment the path leads to nothing.
-pub fn replace(rt: &impl Files<File = File>, fresh: &str, path: &str) -> io::Result<()> {
+/// Puts a new, empty file in place of what stands at a path, a link too, and answers the plain file whose place it takes.
+/// It is made at the path `fresh`, so that at no moment the path leads to nothing.
+pub fn replace(
+    rt: &impl Files<File = File>,
+    fresh: &str,
+    path: &str,
+) -> io::Result<Option<Metadata>>
+    ensures plain { IfOk result (λ former. IfSome former (λ file. IsFile (file_type file))) }
+{
     remove(rt, fresh)?;
-    find_plain(rt, path)?;
+    let former = find_plain(rt, path)?;
     make_file(rt, fresh, LIST_FILE)?;
-    fs::rename(rt, fresh, path)
+    fs::rename(rt, fresh, path)?;
+    Ok(former)
 }
 
 /// Opens the file at a path that is to be locked, an absent one being made first.
@@ -227,18 +276,23 @@ fn open_lock(rt: &impl Files<File = File>, path: &str) -> io::Result<File> {
 }
 
 /// Locks the file at a path, which is made where it is missing, and answers it, or `None` where it is locked: by another
-/// opening of it, or by apt, whose lock is of this kind. The lock lasts as long as the file stays open.
-pub fn lock(rt: &impl Files<File = File>, path: &str) -> io::Result<Option<File>> {
+/// opening of it, or by apt, whose lock is of this kind. The lock lasts as long as the file stays open. Anything but a
+/// plain file is an error.
+pub fn lock(rt: &impl Files<File = File>, path: &str) -> io::Result<Option<Locked>>
+    ensures plain { IfOk result (λ locked. IfSome locked (λ lock. IsFile (file_type lock.found))) }
+{
     let file = open_lock(rt, path)?;
     if unless(ErrorKind::WouldBlock, lock_whole(&file))?.is_none() {
         return Ok(None);
     }
-    let mode = file.metadata()?.mode();
+    let found = file.metadata()?;
+    plain_length(&found)?;
+    let mode = found.mode();
     if mode & EVERYBODY != 0 {
         // Who may read it could keep it locked. Only its owner may mend that, who need not be this user.
         let _mended = file.set_permissions(Permissions::from_mode(mode & !EVERYBODY));
     }
-    Ok(Some(file))
+    Ok(Some(Locked { file, found }))
 }
 
 /// Takes the lock of a whole file for this opening of it.

@@ -9,7 +9,9 @@
 //! is a fault that counts and is never listed, and the disk keeps the folder that it is given (`inside`, `folder`);
 //! names are sorted and each once (`sorted`), exactly the plain files and links whose names the calls take and have no
 //! control character (`listing`, over the entries that the system gives); which files are this user's alone is a
-//! function of what the system says of them (`is_private_file`); a file that stayed open is handed out only for the
+//! function of what the system says of them (`is_private_file`); a file of `partial` that the disk opens was made by it,
+//! or is this user's alone by what the system said of it when it was found; so is one that is moved out of it, and so is
+//! `partial` at each look (`own` of `open`, `find_file`, `rename`, `find_partial`, `take_over`); a file that stayed open is handed out only for the
 //! path that was noted with it (`path` of `serving`), what the disk opens for a name is noted with that name's path
 //! (`path` of `open`, `open_or_make`), and behind a call that moved, replaced or removed a file none that is noted with
 //! their paths is kept (`closed` of `move_one`, `remove_one`); what an error of the system means, seconds of a time and
@@ -20,8 +22,9 @@
 //! keeps the places that are named and may be there before (`makes`, `empties`, `in_place`, `takes_present` of
 //! `way_to_write`); objects begin with no fault, no end given and no moment given. Only tested: what calls do to a
 //! folder, links in each place among them, that each call works on what it opened for its own name, that written files
-//! have their bytes at the places that were named, that a second disk on one folder is `Held`, that `partial` is taken
-//! over and a file of another user in it isn't used, that a file is read as an input, and that the output takes a line.
+//! have their bytes at the places that were named, that a second disk on one folder is `Held`, that `partial` of another
+//! user is taken over and what was looked at is what is opened, that a file is read as an input, and that the output takes
+//! a line.
 //! That the standard input is read is not tested, nor that what is synced lasts. A `partial` replaced by a link between
 //! two looks at it isn't seen, nor is what another process puts in place of a file that is open.
 #![tactic(auto)]

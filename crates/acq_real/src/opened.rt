@@ -1,7 +1,9 @@
 //! Files and folders that stay open from one call to the next.
-ghost use Rattle.std.specs.Prelude.{◌≡◌, ◌≢◌, string_bytes, true, IfOk, IfSome, Some};
-ghost use Rattle.acq_real.specs.Opened.{IsClosed, StaysClosed, opened_by};
+ghost use Rattle.std.specs.Prelude.{◌≡◌, ◌≢◌, ◌↔◌, string_bytes, true, IfOk, IfSome, IsTrue, Some};
+ghost use Rattle.acq_real.specs.Opened.{IsClosed, IsOwn, StaysClosed, opened_by};
+ghost use Rattle.acq_real.specs.Ownership.{IsPrivateFile};
 
+use crate::ownership::{Found, is_private_file};
 use std::fs::{File, Metadata, OpenOptions, Permissions};
 use std::io;
 use std::io::ErrorKind;
@@ -24,6 +26,8 @@ pub struct OpenFile {
     pub file: File,
     path: String,
     is_to_write: bool,
+    /// Whether it was made here, or was this user's alone when it was found.
+    is_own: bool,
 }
 
 /// A disk's folder and `partial` in it, open.
@@ -101,15 +105,31 @@ pub fn node_of(found: &Metadata) -> Node {
     }
 }
 
-/// The file that is open, if it was opened by this path and may be used so.
-pub fn serving(kept: Option<OpenFile>, path: &str, to_write: bool) -> Option<OpenFile>
+/// The file that is open, if it was opened by this path and may be used so: in `partial` it is this user's alone.
+pub fn serving(
+    kept: Option<OpenFile>,
+    path: &str,
+    in_partial: bool,
+    to_write: bool,
+) -> Option<OpenFile>
     ensures path { IfSome result (λ opened. opened_by opened ≡ path.now) }
+    ensures own { in_partial ≡ true → IfSome result IsOwn }
     ensures to_write { to_write ≡ true → IfSome result (λ opened. opened.is_to_write ≡ true) }
 {
     match kept {
-        Some(open) if open.path.as_str() == path && (open.is_to_write || !to_write) => Some(open),
+        Some(open) if open.path.as_str() == path && may_serve(&open, in_partial, to_write) => {
+            Some(open)
+        }
         _ => None,
     }
+}
+
+/// Whether an open file may be used so.
+fn may_serve(file: &OpenFile, in_partial: bool, to_write: bool) -> bool
+    ensures own { IsTrue result → in_partial ≡ true → IsOwn file.now }
+    ensures to_write { IsTrue result → to_write ≡ true → file.now.is_to_write ≡ true }
+{
+    (file.is_to_write || !to_write) && (file.is_own || !in_partial)
 }
 
 /// The folders that are open, if `partial` is the one that was found.
@@ -126,23 +146,26 @@ pub fn still(kept: Option<OpenFolders>, found: Node) -> Option<OpenFolders>
 pub fn open_file(
     rt: &impl Files<File = File>,
     path: String,
-    found: Node,
+    found: &Found,
     to_write: bool,
 ) -> io::Result<OpenFile>
     ensures path { IfOk result (λ opened. opened_by opened ≡ string_bytes path) }
+    ensures own { IfOk result (λ opened. IsOwn opened ↔ IsPrivateFile found.now.standing found.now.user) }
     ensures to_write { IfOk result (λ opened. opened.is_to_write ≡ to_write) }
 {
-    let file = open_found(rt, path.as_str(), found, to_write)?;
+    let file = open_found(rt, path.as_str(), node_of(&found.metadata), to_write)?;
     Ok(OpenFile {
         file,
         path,
         is_to_write: to_write,
+        is_own: is_private_file(found.standing, found.user),
     })
 }
 
 /// Makes a file where nothing has the path, and opens it to be read and written.
 pub fn create(rt: &impl Files<File = File>, path: String) -> io::Result<OpenFile>
     ensures path { IfOk result (λ opened. opened_by opened ≡ string_bytes path) }
+    ensures own { IfOk result IsOwn }
     ensures to_write { IfOk result (λ opened. opened.is_to_write ≡ true) }
 {
     let file = make_file(rt, path.as_str(), LIST_FILE)?;
@@ -150,6 +173,7 @@ pub fn create(rt: &impl Files<File = File>, path: String) -> io::Result<OpenFile
         file,
         path,
         is_to_write: true,
+        is_own: true,
     })
 }
 

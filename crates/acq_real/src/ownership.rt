@@ -1,6 +1,7 @@
 //! Which files and folders are this process's alone, as functions of what the system says of them.
-ghost use Rattle.std.specs.Prelude.{◌↔◌, IsTrue};
-ghost use Rattle.acq_real.specs.Ownership.{IsPrivate, IsPrivateFile};
+ghost use Rattle.std.specs.Prelude.{◌≡◌, ◌↔◌, IsTrue};
+ghost use Rattle.std.specs.Fs.{metadata_mode};
+ghost use Rattle.acq_real.specs.Ownership.{IsPrivate, IsPrivateFile, ShowsMode};
 
 use std::fs::Metadata;
 use std::os::unix::fs::MetadataExt;
@@ -16,8 +17,18 @@ pub struct Standing {
     pub mode: u32,
 }
 
+/// What the system found at a path, what was looked at of it, and the user as whom this process acted then.
+#[derive(Drop)]
+pub struct Found {
+    pub metadata: Metadata,
+    pub standing: Standing,
+    pub user: u32,
+}
+
 /// What the system says of it.
-pub fn standing_of(found: &Metadata) -> Standing {
+fn standing_of(found: &Metadata) -> Standing
+    ensures mode { result.mode ≡ metadata_mode found.now }
+{
     Standing {
         owner: found.uid(),
         links: found.nlink(),
@@ -25,9 +36,16 @@ pub fn standing_of(found: &Metadata) -> Standing {
     }
 }
 
-/// The user as whom this process acts.
-pub fn user() -> u32 {
-    libc::geteuid()
+/// Looks whose it is that the system found.
+pub fn look(metadata: Metadata) -> Found
+    ensures same { result.metadata ≡ metadata }
+    ensures mode { ShowsMode result }
+{
+    Found {
+        standing: standing_of(&metadata),
+        user: libc::geteuid(),
+        metadata,
+    }
 }
 
 /// Whether it is this user's, and nobody else may write it.

@@ -1,7 +1,7 @@
 //! Which names a real disk takes, and where their files lie. It touches nothing.
 ghost use Rattle.std.specs.Prelude.{◌≡◌, ◌⊎◌, ◌↔◌, [], codes, Contains, string_bytes, IfOk, IfErr, IsTrue, IsUtf8};
 ghost use Rattle.std.specs.IoError.{error_kind};
-ghost use Rattle.acq_real.specs.Folder.{IsInside, IsSegment, IsPathInside};
+ghost use Rattle.acq_real.specs.Folder.{IsInside, IsSegment, IsPathInside, is_in_partial};
 ghost use Rattle.acq_real.specs.Listing.{IsTaken, is_printable};
 
 use acq_outside::is_name;
@@ -13,7 +13,9 @@ use std::io::ErrorKind;
 pub const PARTIAL: &[u8] = b"partial/";
 
 /// Whether a file of this name lies in `partial`.
-pub fn is_partial(name: &[u8]) -> bool {
+pub fn is_partial(name: &[u8]) -> bool
+    ensures { result ≡ is_in_partial name.now }
+{
     name.starts_with(PARTIAL)
 }
 

@@ -1,14 +1,14 @@
 //! What each call does with the folder's files. Whatever comes of it, nothing is counted.
 ghost use Rattle.std.specs.Prelude.{◌≡◌, ◌≤◌, length, true, string_bytes, IfOk, IfSome, OnOk, MatchResult};
-ghost use Rattle.acq_real.specs.Folder.{IsInside, IsPathInside};
-ghost use Rattle.acq_real.specs.Opened.{opened_by};
+ghost use Rattle.acq_real.specs.Folder.{IsInside, IsPathInside, is_in_partial};
+ghost use Rattle.acq_real.specs.Opened.{IsOwn, opened_by};
 ghost use Rattle.acq_real.specs.RealDisk.{IsNameClosed, IsSame, folder_of};
 
 use super::RealDisk;
 use crate::answer::unless;
 use crate::folder;
 use crate::listing::Entry;
-use crate::opened::{OpenFile, create, node_of, open_file, serving};
+use crate::opened::{OpenFile, create, open_file, serving};
 use crate::path::{is_partial, path_of};
 use std::alloc::Global;
 use std::fs::File;
@@ -47,14 +47,16 @@ impl<R: Files<File = File> + AllocGlobal + Clone + Drop> RealDisk<R> {
         ensures same { IsSame self.old self.new }
         ensures inside { OnOk result (IsInside name.now) }
         ensures path { IfOk result (λ found. IfSome found (λ opened. IsPathInside (folder_of self.old) name.now (opened_by opened))) }
+        ensures own { is_in_partial name.now ≡ true → IfOk result (λ found. IfSome found IsOwn) }
     {
         let path = self.path(name)?;
-        let kept = self.kept.take(is_partial(name));
-        if let Some(open) = serving(kept, path.as_str(), to_write) {
+        let in_partial = is_partial(name);
+        let kept = self.kept.take(in_partial);
+        if let Some(open) = serving(kept, path.as_str(), in_partial, to_write) {
             return Ok(Some(open));
         }
-        match folder::find_file(&self.rt, path.as_str(), is_partial(name))? {
-            Some(found) => Ok(Some(open_file(&self.rt, path, node_of(&found), to_write)?)),
+        match folder::find_file(&self.rt, path.as_str(), in_partial)? {
+            Some(found) => Ok(Some(open_file(&self.rt, path, &found, to_write)?)),
             None => {
                 self.check(name)?;
                 Ok(None)
@@ -67,10 +69,12 @@ impl<R: Files<File = File> + AllocGlobal + Clone + Drop> RealDisk<R> {
         ensures same { IsSame self.old self.new }
         ensures inside { OnOk result (IsInside name.now) }
         ensures path { IfOk result (λ opened. IsPathInside (folder_of self.old) name.now (opened_by opened)) }
+        ensures own { is_in_partial name.now ≡ true → IfOk result IsOwn }
     {
         let path = self.path(name)?;
-        let kept = self.kept.take(is_partial(name));
-        if let Some(open) = serving(kept, path.as_str(), true) {
+        let in_partial = is_partial(name);
+        let kept = self.kept.take(in_partial);
+        if let Some(open) = serving(kept, path.as_str(), in_partial, true) {
             return Ok(open);
         }
         if let Some(made) = unless(ErrorKind::AlreadyExists, create(&self.rt, path))? {
@@ -89,6 +93,7 @@ impl<R: Files<File = File> + AllocGlobal + Clone + Drop> RealDisk<R> {
         ensures same { IsSame self.old self.new }
         ensures inside { OnOk result (IsInside name.now) }
         ensures path { IfOk result (λ opened. IsPathInside (folder_of self.old) name.now (opened_by opened)) }
+        ensures own { is_in_partial name.now ≡ true → IfOk result IsOwn }
     {
         let new_path = self.path(name)?;
         self.kept.forget(new_path.as_str());
@@ -131,8 +136,13 @@ impl<R: Files<File = File> + AllocGlobal + Clone + Drop> RealDisk<R> {
         let (alloc, folder) = (self.rt.alloc(), self.folder.as_str());
         folder::make_own(&self.rt, alloc, folder)?;
         let path = path_of(alloc, folder, LOCK)?;
-        self.lock = folder::lock(&self.rt, path.as_str())?;
-        Ok(self.lock.is_some())
+        match folder::lock(&self.rt, path.as_str())? {
+            Some(locked) => {
+                self.lock = Some(locked.file);
+                Ok(true)
+            }
+            None => Ok(false),
+        }
     }
 
     pub(super) fn entries(&mut self, alloc: Global) -> io::Result<Vec<Entry>>
@@ -233,7 +243,7 @@ impl<R: Files<File = File> + AllocGlobal + Clone + Drop> RealDisk<R> {
             is_partial(from),
             to_path.as_str(),
         )?;
-        if !moved {
+        if moved.is_none() {
             self.check(from)?;
         }
         Ok(())
