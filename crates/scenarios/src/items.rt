@@ -103,10 +103,15 @@ fn item_of(
     }
 }
 
-/// Puts what an item of the mirror's asks and comes to. Its lists go into partial files of the target's name.
+/// Puts what the item of what is given asks of the mirror and comes to.
 pub fn put_item(alloc: Global, page: &mut Page, given: &Given) -> Result<(), Refused> {
     let Configured { plan, settings, .. } = configured(alloc, given)?;
     put_first(alloc, page, given, &plan, &settings)
+}
+
+/// An item that lies apart: what holds one within takes much memory to prove.
+fn boxed(alloc: Global, item: Item) -> Result<Box<Item>, NoMemory> {
+    Ok(Box::new(alloc, item)?)
 }
 
 /// Puts what the item of a plan's first source asks and comes to.
@@ -123,25 +128,17 @@ fn put_first(
     let Some(target) = source.targets.as_slice().first() else {
         return Err(Refused::Board);
     };
-    let item = item_of(alloc, given, source, target, settings)?;
-    let end = ended(alloc, page, given, &target.name, item)?;
-    put_end(alloc, page, plan, end)
+    let mut item = boxed(alloc, item_of(alloc, given, source, target, settings)?)?;
+    walk(alloc, page, given, &target.name, &mut item)?;
+    put_end_of(alloc, page, plan, item)
 }
 
-/// What an item comes to behind its asks, which are put on the page.
-fn ended(
-    alloc: Global,
-    page: &mut Page,
-    given: &Given,
-    name: &ListName,
-    item: Item,
-) -> Result<End, Refused> {
-    let mut item = item;
-    walk(alloc, page, given, name, &mut item)?;
+/// Puts what an item comes to, where it asks no more.
+fn put_end_of(alloc: Global, page: &mut Page, plan: &Plan, item: Box<Item>) -> Result<(), Refused> {
     if item.ask().is_some() {
         return Err(Refused::Endless);
     }
-    Ok(item.end())
+    put_end(alloc, page, plan, Box::into_inner(item).end())
 }
 
 /// Answers what an item asks until it asks no more. No scenario needs as many answers as this loop allows.
