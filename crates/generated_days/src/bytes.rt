@@ -16,6 +16,7 @@ ghost use Rattle.journal_model.specs.Rest.{IsAtRest};
 use acq_base::{NoMemory, Text};
 use acq_memory::MemDisk;
 use acq_outside::Disk;
+use journal_model::is_file_name;
 use std::alloc::Global;
 
 /// How many bytes the lists of a folder at rest have.
@@ -60,9 +61,12 @@ fn size_of(disk: &mut MemDisk, name: &[u8]) -> Result<u64, NoMemory>
     }
 }
 
-/// Whether a file of this name is a list: neither the journal, nor the lock, nor a list on its way.
+/// Whether a file of this name is a list: one in the folder, neither the journal, nor the lock, nor a list on its way.
 fn is_list(name: &[u8]) -> bool
     ensures { result ≡ names.is_installed_name name.now }
 {
-    name != b"journal".as_slice() && name != b"lock".as_slice() && !name.starts_with(b"partial/")
+    name != b"journal".as_slice()
+        && name != b"lock".as_slice()
+        && !name.starts_with(b"partial/")
+        && is_file_name(name)
 }
