@@ -3,5 +3,5 @@ use Rattle.std.proofs.Common.{◌≡◌}
 use Rattle.update_core.specs.BoardRefinement.{board_of}
 use Rattle.scenarios.proofs.board.steps.Given as goal
 
-abbrev pub invariant-loop-_turn : goal.invariant-loop-_turn
-invariant-loop-_turn l = (board_of l.board).config.change ≡ (board_of l.fn.board).config.change
+abbrev pub invariant-loop-turn : goal.invariant-loop-turn
+invariant-loop-turn g l = (board_of l.board).config.change ≡ (board_of l.fn.board).config.change
