@@ -30,7 +30,7 @@ each_allowed (Drop name ∷ changes) before allowed =
     (record { named = fit.named; inside = fit.stays; not_lock = fit.not_lock; not_journal = fit.other }, each_allowed changes (before ++ steps.Drop name ∷ []) allowed.1)
 
 -- and no two are one
-all_fine : (more before : List Step) → AreFine before → AreAllowed before more → AreFine (before ++ more)
+pub all_fine : (more before : List Step) → AreFine before → AreAllowed before more → AreFine (before ++ more)
 all_fine [] before fine allowed = subst AreFine (sym (append-nil before)) fine
 all_fine (steps.Put name ∷ more) before fine allowed =
     subst AreFine (append_assoc before (steps.Put name ∷ []) more) (all_fine more (before ++ steps.Put name ∷ []) (fine_push before true name fine allowed.0) allowed.1)

@@ -21,4 +21,5 @@ mod Parted
 mod Records
 mod Notes
 mod Allowed
+mod Dropped
 pub mod Theorems

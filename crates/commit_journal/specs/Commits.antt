@@ -1,7 +1,7 @@
 -- What a preparation and a commit leave at each moment.
-use Rattle.std.specs.Prelude.{◌≡◌, ◌≢◌, ℕ, ◌+◌, ◌<◌, ◌≤◌, List, [], ◌∷◌, length, Some}
+use Rattle.std.specs.Prelude.{◌≡◌, ◌≢◌, ℕ, ◌+◌, ◌<◌, ◌≤◌, List, [], ◌∷◌, length, Some, None}
 use Rattle.acq_outside.specs.Disk.{Files}
-use Rattle.acq_outside.specs.Crash.{State, file_at, synced}
+use Rattle.acq_outside.specs.Crash.{State, file_at, reads, synced}
 use Rattle.acq_outside.specs.States.{IsNow, Since}
 use Rattle.journal_model.specs.Names.{journal, partial}
 use Rattle.journal_model.specs.Spelling.{body_of}
@@ -80,6 +80,16 @@ IsAtRestAfter groups steps old s = (folder : Files) → IsNow (IsPreparedOver gr
 -- the files of all names stay that are neither the journal nor changed, and so does what lasts of them
 abbrev pub KeepsUnchangedFiles : List (List Change) → List State → List State → Type 0
 KeepsUnchangedFiles groups old new = (other : List ℕ) → other ≢ journal → IsNone other (all_changed_names groups) → file_now new other ≡ file_now old other
+
+-- what these changes remove is no file's
+abbrev pub DropsAreGone : List Change → Files → Type 0
+DropsAreGone [] files = Unit {0}
+DropsAreGone (Put name content ∷ changes) files = DropsAreGone changes files
+DropsAreGone (Drop name ∷ changes) files = (files name ≡ None) × DropsAreGone changes files
+
+-- so it is of all groups, as reads give it
+abbrev pub ReadsNoDropped : List (List Change) → State → Type 0
+ReadsNoDropped groups s = DropsAreGone (all_changes groups) (reads s)
 
 -- the disk's clock has gone on, where it is told
 abbrev pub HasMoreStates : List State → List State → Type 0

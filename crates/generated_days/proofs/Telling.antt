@@ -34,6 +34,7 @@ use Rattle.update_model.specs.declared.log.RunLog.{RunLog}
 use Rattle.update_model.specs.declared.settled.Verdict2.{Verdict2}
 use Rattle.board_model.proofs.Resting.{olds-there}
 use Rattle.board_bounds.proofs.Walking.{at_all}
+use Rattle.update_engine.proofs.Lists.{answers_told}
 use Rattle.generated_days.specs.Asks.{asks_for}
 use Rattle.generated_days.specs.Days.{is_gotten}
 use Rattle.generated_days.specs.Told.{IsFaultless, TellsDay}
@@ -54,7 +55,7 @@ module _
   finished = logged.commits quiet.synced
 
   agree : Agrees mirror logged.begun.parts logged.begun.config.sources logged.heard
-  agree = (subst (λ (told : List (Option MirrorMap)). ForMirror told (λ m. Agrees m logged.begun.parts logged.begun.config.sources logged.heard)) quiet.world (logged.answers quiet.told)) tt
+  agree = (subst (λ (told : List (Option MirrorMap)). ForMirror told (λ m. Agrees m logged.begun.parts logged.begun.config.sources logged.heard)) quiet.world (answers_told run before after log logged quiet.told)) tt
 
   log-is : log.asks ≡ entries_of logged.heard
   log-is = logged.tells.asks ∙ logs logged.begun.config logged.begun.olds logged.heard logged.tells.board logged.tells.reached

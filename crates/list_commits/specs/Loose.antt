@@ -1,5 +1,5 @@
 -- Names of the lists folder that belong to no source.
-use Rattle.std.specs.Prelude.{◌≡◌, ◌⊎◌, ℕ, Bool, true, false, not, ◌&&◌, List, [], ◌∷◌, map, filter, AllPairs, Contains, IsSome}
+use Rattle.std.specs.Prelude.{◌≡◌, ◌⊎◌, ℕ, Bool, true, false, not, ◌&&◌, None, List, [], ◌∷◌, map, filter, AllPairs, Contains, IsSome}
 use Rattle.std.specs.BTreeSet.{BTreeSet, contains}
 use Rattle.std.specs.List.{flat_map}
 use Rattle.std.specs.Ordering.{nat_cmp}
@@ -37,6 +37,10 @@ pub record AreLooseNames (files : Files) (sources : List Source) (names : List (
   pub there : (name : List ℕ) → Contains names name → IsSome (files name)
   pub loose : (name : List ℕ) → Contains names name → IsLoose sources name
   pub all : (name : List ℕ) → IsSome (files name) → Contains names name ⊎ (Contains (kept_names sources) name ⊎ (is_inside name ≡ false))
+
+-- no file in the folder belongs to no source, neither a list nor one on its way
+abbrev pub NoneIsLoose : List Source → Files → Type 0
+NoneIsLoose sources files = (name : List ℕ) → IsLoose sources name → files name ≡ None
 
 -- those under which no list is on its way, as names of lists
 abbrev pub removed_names : List (List ℕ) → List ListName

@@ -1,5 +1,7 @@
 -- Cited by the crates above too: what an answer adds to a log, which files stay, and one job.
 pub mod Telling
+pub mod Agreed
+pub mod OnTheWay
 pub mod Keeping
 pub mod OneJob
 -- Of this crate's own functions.

@@ -1,5 +1,5 @@
 -- One job, from the board to the disk and back.
-use Rattle.std.proofs.Common.{◌≡◌, ◌∙◌, ◌≤◌, ℕ, zero, suc, ◌==◌, ◌+◌, ◌++◌, Bool, true, false, List, [], ◌∷◌, length, take, Option, Some, None, IfSome, refl, sym, ap, subst, arith}
+use Rattle.std.proofs.Common.{◌≡◌, ◌∙◌, ◌≤◌, ℕ, zero, suc, ◌==◌, ◌+◌, ◌++◌, Bool, true, false, List, [], ◌∷◌, length, take, Option, Some, None, IfSome, refl, sym, ap, subst, arith, inl}
 use Rattle.std.specs.Prelude.{option_map, option_and_then, slice_get, is_some, map}
 use Rattle.acq_base.specs.Mirror.{MirrorMap, answer_at}
 use Rattle.acq_base.specs.Plan.{IsPlanned, names_of}
@@ -25,7 +25,7 @@ use Rattle.board_model.specs.Reached.{AbsorbedBoardsAreReached, IssuedBoardsAreR
 use Rattle.board_model.specs.Runs.{Note, note_of}
 use Rattle.board_model.specs.Slots.{Setup}
 use Rattle.board_model.specs.Uses.{IsServedAs, wanted_part, use_from}
-use Rattle.job_fetch.specs.Fetched.{IsCounted, IsSoundEnd}
+use Rattle.job_fetch.specs.Fetched.{IsAnswer, IsCounted, IsSoundEnd}
 use Rattle.journal_model.specs.Names.{IsPutName}
 use Rattle.journal_model.specs.Rest.{KeptAtRestSince, part_bytes}
 use Rattle.update_model.specs.Trails.{LaneAnswer, IsFaultOr, answered}
@@ -37,11 +37,14 @@ use Rattle.update_model.specs.declared.ask.Closed.TheVariants as closings
 use Rattle.board_model.proofs.Askers.{asker-asks}
 use Rattle.board_bounds.proofs.Walking.{at_all}
 use Rattle.run_jobs.specs.Coupling.{HasWantedParts}
-use Rattle.run_jobs.specs.Fetching.{Answers, CanFetch, ComesTo, IsFetched, KeepsBytes, front_of}
-use Rattle.run_jobs.specs.Running.{RunStart, JobKeepsRunGoing, JobAddsNotes, RunHasHeard, MayAsk, IsSoundBegun, IsUnderWay}
+use Rattle.run_jobs.specs.Fetching.{Answers, CanFetch, ComesTo, IsFetched, KeepsBytes, LeavesPart, RestsOnDisk, front_of}
+use Rattle.run_jobs.specs.OnTheWay.{list_of}
+use Rattle.run_jobs.specs.Running.{AgreesWhereKnown, RunStart, JobKeepsRunGoing, JobAddsNotes, RunHasHeard, MayAsk, IsKnownOver, IsSoundBegun, IsUnderWay}
+use Rattle.run_jobs.proofs.Agreed.{agrees_on, says_not}
 use Rattle.run_jobs.proofs.Keeping.{front_is, keep_of, moments_of, told_back, uses_after}
+use Rattle.run_jobs.proofs.OnTheWay.{job_leaves}
 use Rattle.run_jobs.proofs.StagedLists.{staged_named}
-use Rattle.run_jobs.proofs.Telling.{answered_front, counts_last, each_last, if_both, sound_answer}
+use Rattle.run_jobs.proofs.Telling.{answered_front, counts_last, each_last, sound_answer}
 
 -- what is known of boards
 pub record Laws : Type 0 where
@@ -186,25 +189,45 @@ says_ask mirror front job a stage closed e s says =
     subst (λ (u : Uri). IsFaultOr closed (answered front a (answer_at mirror u))) uri (subst (λ (x : Ask). IsFaultOr closed (answered front x (answer_at mirror job.uri))) (ask_is job a stage e s) says)
 
 -- the answer that is noted is the mirror's beside the bytes that were there at first
-mirrors_note : (begun : RunStart) (b : Board) (job : Job) (staged : Option ListName) (old now : List State) (closed : Closed) (lane : ℕ) → (j : IsJob b job staged) → b.config ≡ begun.config → HasWantedParts (wanted_part b) begun.parts old → IsTold old → IsTold now
-    → (mirror : MirrorMap) → IsFaultOr closed (answered (front_of staged old) (record { uri = job.uri; max = job.max; from = job.from; stage = is_some staged }) (answer_at mirror job.uri))
+mirrors_note : (begun : RunStart) (b : Board) (job : Job) (staged : Option ListName) (old now : List State) (closed : Closed) (lane : ℕ) → (j : IsJob b job staged) → b.config ≡ begun.config → HasWantedParts (wanted_part b) begun.parts old
+    → (IsTold now → IsTold old) → ComesTo staged now closed → IsKnownOver now closed → (mirror : MirrorMap)
+    → IsFaultOr closed (answered (front_of staged old) (record { uri = job.uri; max = job.max; from = job.from; stage = is_some staged }) (answer_at mirror job.uri))
     → IsMirrors mirror begun.parts begun.config.sources (note_of j.a (record { lane = lane; closed = closed }))
-mirrors_note begun b job None old now closed lane j config uses told_old told mirror says =
+mirrors_note begun b job None old now closed lane j config uses back comes known mirror says =
     let source_is : slice_get begun.config.sources j.a.key.source ≡ Some j.a.source = subst (λ (c : Setup). slice_get c.sources j.a.key.source ≡ Some j.a.source) config (asker-asks b job.no j.a j.asks).source_is in
     let front : take j.a.ask.from [] ≡ take j.a.ask.from (part_of begun.parts (name_at j.a.source j.a.key.place)) = rw j.kind.1 refl in
     let same = answered_front [] (part_of begun.parts (name_at j.a.source j.a.key.place)) j.a.ask (answer_at mirror j.a.ask.uri) front in
     rw source_is (says_same closed _ _ same (says_ask mirror [] job j.a.ask false closed j.job_is j.kind.0 says))
-mirrors_note begun b job (Some name) old now closed lane j config uses told_old told mirror says =
+mirrors_note begun b job (Some name) old now closed lane j config uses back comes known mirror says =
     let source_is : slice_get begun.config.sources j.a.key.source ≡ Some j.a.source = subst (λ (c : Setup). slice_get c.sources j.a.key.source ≡ Some j.a.source) config (asker-asks b job.no j.a j.asks).source_is in
-    let front : take j.a.ask.from (part_bytes old name.0) ≡ take j.a.ask.from (begun.parts name.0) = front_is j.a.ask.from (wanted_part b) name.0 begun.parts old j.kind.3 uses told_old in
-    let same = answered_front (part_bytes old name.0) (begun.parts name.0) j.a.ask (answer_at mirror j.a.ask.uri) front in
-    rw source_is (rw j.kind.1 (says_same closed _ _ same (says_ask mirror (part_bytes old name.0) job j.a.ask true closed j.job_is j.kind.0 says)))
+    rw source_is (rw j.kind.1 (by closed comes known (says_ask mirror (part_bytes old name.0) job j.a.ask true closed j.job_is j.kind.0 says)))
+  where
+    by : (closed : Closed) → ComesTo (Some name) now closed → IsKnownOver now closed → IsFaultOr closed (answered (part_bytes old name.0) j.a.ask (answer_at mirror j.a.ask.uri))
+        → IsFaultOr closed (answered (begun.parts name.0) j.a.ask (answer_at mirror j.a.ask.uri))
+    by (closings.Served (bodies.Bytes bytes)) comes known says = absurd comes
+    by (closings.Served (bodies.Staged sum)) comes known says =
+        let front : take j.a.ask.from (part_bytes old name.0) ≡ take j.a.ask.from (begun.parts name.0) = front_is j.a.ask.from (wanted_part b) name.0 begun.parts old j.kind.3 uses (back known) in
+        let same = answered_front (part_bytes old name.0) (begun.parts name.0) j.a.ask (answer_at mirror j.a.ask.uri) front in
+        says_same (closings.Served (bodies.Staged sum)) _ _ same says
+    by (closings.Not end) comes known says = says_not end (part_bytes old name.0) (begun.parts name.0) j.a.ask (answer_at mirror j.a.ask.uri) says
+
+-- a job whose answer is known rests on nothing else
+rests_on_disk : (staged : Option ListName) (now : List State) (closed : Closed) → ComesTo staged now closed → IsKnownOver now closed → RestsOnDisk staged now closed
+rests_on_disk None now closed comes known = tt
+rests_on_disk (Some name) now (closings.Served (bodies.Bytes bytes)) comes known = absurd comes
+rests_on_disk (Some name) now (closings.Served (bodies.Staged sum)) comes known = known
+rests_on_disk (Some name) now (closings.Not (nots.Moved place)) comes known = tt
+rests_on_disk (Some name) now (closings.Not (nots.Absent status)) comes known = tt
+rests_on_disk (Some name) now (closings.Not nots.TooBig) comes known = tt
+rests_on_disk (Some name) now (closings.Not (nots.Garbled at)) comes known = tt
+rests_on_disk (Some name) now (closings.Not (nots.Fault before after)) comes known = tt
 
 -- what one job did
 pub record HasFetched (begun : RunStart) (b : Board) (job : Job) (staged : Option ListName) (before after : ℕ) (old now : List State) (closed : Closed) : Type 0 where
   pub fetched : IsFetched staged old now
   pub kept : KeepsBytes staged job.from old now
   pub comes : ComesTo staged now closed
+  pub left : LeavesPart staged job.from old now closed
   pub answers : Answers begun.mirror staged job old now closed
   pub counted : IsCounted before after closed
   pub count : before ≤ after
@@ -220,16 +243,28 @@ heard_one laws begun notes b job staged before after old now closed j uses heard
       reached = subst (λ (x : Board). Reached begun.config begun.olds (notes ++ note ∷ []) x) (absorbed_is b job.no closed j.a j.lane j.asks)
           (laws.absorbed begun.config begun.olds notes b 0 job.no 0 closed j.a heard.reached j.lane j.asks);
       sound = each_last _ notes note heard.sound (sound_answer closed did.sound);
-      answers = λ is_told.
-          let back = told_back (KeptAtRestSince old) old now (moments_of staged old now did.fetched) is_told in
-          if_both begun.mirror _ _ _ (λ mirror agrees says. each_last _ notes note agrees (mirrors_note begun b job staged old now closed 0 j heard.config uses back is_told mirror says))
-          (heard.answers back) (did.answers.told is_told).told;
+      answers = answers_one begun.mirror heard.answers did.answers.told;
       counts = counts_last b.asks _ closed begun.count before after refl heard.counts did.counted did.count;
       lanes = each_last _ b.asks _ heard.lanes refl;
     }
+  where
+    answers_one : (world : Option MirrorMap) → IfSome world (λ m. AgreesWhereKnown old m begun.parts begun.config.sources notes) → (RestsOnDisk staged now closed → IsAnswer world (front_of staged old) (is_some staged) job closed)
+        → IfSome world (λ m. AgreesWhereKnown now m begun.parts begun.config.sources (notes ++ note_of j.a (record { lane = 0; closed = closed }) ∷ []))
+    answers_one None agrees says = tt
+    answers_one (Some mirror) agrees says =
+        let back = told_back (KeptAtRestSince old) old now (moments_of staged old now did.fetched) in
+        each_last _ notes (note_of j.a (record { lane = 0; closed = closed })) (agrees_on old now mirror begun.parts begun.config.sources notes back agrees)
+        (λ known. mirrors_note begun b job staged old now closed 0 j heard.config uses back did.comes known mirror (says (rests_on_disk staged now closed did.comes known)).told)
+
+-- the list whose file the job fetches is its item's
+own_list : (begun : RunStart) (b : Board) (job : Job) (staged : Option ListName) → (j : IsJob b job staged) → b.config ≡ begun.config → IfSome staged (λ name. list_of begun.config.sources j.a.key ≡ Some name.0)
+own_list begun b job None j config = tt
+own_list begun b job (Some name) j config =
+    let source_is : slice_get begun.config.sources j.a.key.source ≡ Some j.a.source = subst (λ (c : Setup). slice_get c.sources j.a.key.source ≡ Some j.a.source) config (asker-asks b job.no j.a j.asks).source_is in
+    rw source_is (rw j.kind.1 refl)
 
 pub goes_one : Laws → (begun : RunStart) (notes : List Note) (before after : ℕ) (b : Board) (job : Job) (old now : List State) (closed : Closed) → issued_job b 0 ≡ Some job → IsSoundBegun begun → IsUnderWay begun notes before b old
-    → HasFetched begun (issued b 0) job (staged_name (issued b 0) job.no) before after old now closed → JobAddsNotes begun notes after (absorbed (issued b 0) 0 job.no closed) now
+    → HasFetched begun (issued b 0) job (staged_name (issued b 0) job.no) before after old now closed → JobAddsNotes begun notes after (absorbed (issued b 0) 0 job.no closed) old now
 goes_one laws begun notes before after b job old now closed e sound under did =
     let c = issued b 0 in
     let staged = staged_name c job.no in
@@ -242,6 +277,7 @@ goes_one laws begun notes before after b job old now closed e sound under did =
     let from_is : job.from ≡ j.a.ask.from = ap (λ (x : Job). x.from) j.job_is in
     record {
       more = note_of j.a told ∷ [];
+      left = job_leaves begun.config.sources staged job.from (note_of j.a told) old now (sym from_is) (own_list begun c job staged j under.heard.config) did.fetched did.left did.comes;
       under_way = record {
         heard = subst (λ (x : Board). RunHasHeard begun (notes ++ note_of j.a told ∷ []) after x now) (sym is) (heard_one laws begun notes c job staged before after old now closed j under.uses heard did);
         none_out = rw is (rw j.out refl);
@@ -258,20 +294,20 @@ goes_none law begun notes count b now e under = record {
 }
 
 did_of : (begun : RunStart) (c d : Board) (job : Job) (closed : Closed) (mirror : Option MirrorMap) (before after : ℕ) (old now : List State) → c ≡ d → begun.mirror ≡ mirror
-    → IsFetched (staged_name c job.no) old now → KeepsBytes (staged_name c job.no) job.from old now → ComesTo (staged_name c job.no) now closed → Answers mirror (staged_name c job.no) job old now closed
-    → IsCounted before after closed → before ≤ after → IsSoundEnd closed → HasFetched begun d job (staged_name d job.no) before after old now closed
-did_of begun c d job closed mirror before after old now same from fetched kept comes answers counted count sound =
+    → IsFetched (staged_name c job.no) old now → KeepsBytes (staged_name c job.no) job.from old now → ComesTo (staged_name c job.no) now closed → LeavesPart (staged_name c job.no) job.from old now closed
+    → Answers mirror (staged_name c job.no) job old now closed → IsCounted before after closed → before ≤ after → IsSoundEnd closed → HasFetched begun d job (staged_name d job.no) before after old now closed
+did_of begun c d job closed mirror before after old now same from fetched kept comes left answers counted count sound =
     subst (λ (x : Board). HasFetched begun x job (staged_name x job.no) before after old now closed) same
-    (record { fetched = fetched; kept = kept; comes = comes; answers = rw from answers; counted = counted; count = count; sound = sound })
+    (record { fetched = fetched; kept = kept; comes = comes; left = left; answers = rw from answers; counted = counted; count = count; sound = sound })
 
 -- the whole of one job
 pub goes_job : Laws → (mirror : Option MirrorMap) (before after : ℕ) (b c d : Board) (job : Job) (closed : Closed) (old now : List State) → issued_job b 0 ≡ Some job → c ≡ issued b 0 → d ≡ absorbed c 0 job.no closed
-    → IsFetched (staged_name c job.no) old now → KeepsBytes (staged_name c job.no) job.from old now → ComesTo (staged_name c job.no) now closed → Answers mirror (staged_name c job.no) job old now closed
-    → IsCounted before after closed → before ≤ after → IsSoundEnd closed → JobKeepsRunGoing mirror before after b d old now
-goes_job laws mirror before after b c d job closed old now e issued_is absorbed_as fetched kept comes answers counted count sound = λ begun notes sound_begun from under.
-    let whole = goes_one laws begun notes before after b job old now closed e sound_begun under (did_of begun c (issued b 0) job closed mirror before after old now issued_is from fetched kept comes answers counted count sound) in
+    → IsFetched (staged_name c job.no) old now → KeepsBytes (staged_name c job.no) job.from old now → ComesTo (staged_name c job.no) now closed → LeavesPart (staged_name c job.no) job.from old now closed
+    → Answers mirror (staged_name c job.no) job old now closed → IsCounted before after closed → before ≤ after → IsSoundEnd closed → JobKeepsRunGoing mirror before after b d old now
+goes_job laws mirror before after b c d job closed old now e issued_is absorbed_as fetched kept comes left answers counted count sound = λ begun notes sound_begun from under.
+    let whole = goes_one laws begun notes before after b job old now closed e sound_begun under (did_of begun c (issued b 0) job closed mirror before after old now issued_is from fetched kept comes left answers counted count sound) in
     let same : d ≡ absorbed (issued b 0) 0 job.no closed = absorbed_as ∙ ap (λ (x : Board). absorbed x 0 job.no closed) issued_is in
-    subst (λ (x : Board). JobAddsNotes begun notes after x now) (sym same) whole
+    subst (λ (x : Board). JobAddsNotes begun notes after x old now) (sym same) whole
 
 -- its answer is one more entry of the log
 pub one_more : Laws → (mirror : Option MirrorMap) (count : ℕ) (b c d : Board) (job : Job) (closed : Closed) (now : List State) → MayAsk mirror count b now → issued_job b 0 ≡ Some job → c ≡ issued b 0 → d ≡ absorbed c 0 job.no closed
@@ -285,5 +321,6 @@ one_more laws mirror count b c d job closed now ready e issued_is absorbed_as =
 pub goes_idle : IssuedBoardsAreReached → (mirror : Option MirrorMap) (count : ℕ) (b c : Board) (now : List State) → c ≡ issued b 0 → issued_job b 0 ≡ None → JobKeepsRunGoing mirror count count b c now now
 goes_idle law mirror count b c now issued_is e = λ begun notes sound from under. record {
   more = [];
+  left = λ told name. inl refl;
   under_way = subst (λ (ns : List Note). IsUnderWay begun ns count c now) (sym (append-nil notes)) (subst (λ (x : Board). IsUnderWay begun notes count x now) (sym issued_is) (goes_none law begun notes count b now e under));
 }

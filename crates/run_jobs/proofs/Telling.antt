@@ -19,10 +19,6 @@ pub each_last : {A : Type 0} (P : A → Type 0) (xs : List A) (x : A) → Each P
 each_last P [] x all is = (is, tt)
 each_last P (y ∷ xs) x all is = (all.0, each_last P xs x all.1 is)
 
-pub if_both : {A : Type 0} (o : Option A) (P Q R : A → Type 0) → ((x : A) → P x → Q x → R x) → IfSome o P → IfSome o Q → IfSome o R
-if_both None P Q R f p q = p
-if_both (Some x) P Q R f p q = f x p q
-
 -- an answer beside other bytes that begin alike is the same
 pub answered_front : (p q : List ℕ) (ask : Ask) (answer : Answer) → take ask.from p ≡ take ask.from q → answered p ask answer ≡ answered q ask answer
 answered_front p q ask (answers.Served bytes) same = rw same refl

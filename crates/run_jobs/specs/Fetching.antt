@@ -7,7 +7,7 @@ use Rattle.acq_base.specs.declared.uri.ListName.{ListName}
 use Rattle.acq_outside.specs.Crash.{State}
 use Rattle.acq_outside.specs.States.{IsTold}
 use Rattle.acq_outside.specs.Word.{CanBegin}
-use Rattle.job_fetch.specs.Fetched.{IsAnswer, IsInMemory, IsStagedBody, KeepsFront, Staging}
+use Rattle.job_fetch.specs.Fetched.{IsAnswer, IsInMemory, IsKnown, IsStagedBody, KeepsFront, LeavesFile, Staging}
 use Rattle.journal_model.specs.Names.{IsPutName}
 use Rattle.journal_model.specs.Rest.{part_bytes}
 use Rattle.update_model.specs.declared.ask.Closed.{Closed}
@@ -42,6 +42,16 @@ abbrev pub front_of : Option ListName → List State → List ℕ
 front_of None old = []
 front_of (Some name) old = part_bytes old name.0
 
--- where the disk and the method tell, the answer is the mirror's to the job, or a fault
+-- a list's file on its way that came whole rests on what the disk tells, and any other answer on nothing
+abbrev pub RestsOnDisk : Option ListName → List State → Closed → Type 0
+RestsOnDisk None now closed = Unit {0}
+RestsOnDisk (Some name) now closed = IsKnown now closed
+
+-- where the method tells, and the disk what the answer rests on, the answer is the mirror's to the job, or a fault
 pub record Answers (mirror : Option MirrorMap) (staged : Option ListName) (job : Job) (old now : List State) (closed : Closed) : Type 0 where
-  pub told : IsTold now → IsAnswer mirror (front_of staged old) (is_some staged) job closed
+  pub told : RestsOnDisk staged now closed → IsAnswer mirror (front_of staged old) (is_some staged) job closed
+
+-- where it served nothing, the list's file stays as it was, or has bytes behind those that the job leaves out
+abbrev pub LeavesPart : Option ListName → ℕ → List State → List State → Closed → Type 0
+LeavesPart None from old now closed = Unit {0}
+LeavesPart (Some name) from old now closed = LeavesFile from name.0 old now closed

@@ -2,6 +2,8 @@
 pub mod Running
 -- what is on the disk of what a board wants,
 pub mod Coupling
+-- what is left of the lists on their way,
+pub mod OnTheWay
 -- how faults are told,
 pub mod Counting
 -- and why a run gives no log.

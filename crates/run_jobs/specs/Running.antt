@@ -4,10 +4,11 @@ use Rattle.std.specs.List.{flat_map, AllByRecursion as Each}
 use Rattle.acq_base.specs.Mirror.{MirrorMap}
 use Rattle.acq_base.specs.Plan.{IsPlanned, names_of}
 use Rattle.acq_base.specs.declared.installed.Old.{Old}
+use Rattle.acq_base.specs.declared.plan.Source.{Source}
 use Rattle.acq_outside.specs.Crash.{State}
 use Rattle.acq_outside.specs.States.{IsTold, IsNow}
 use Rattle.board_bounds.specs.Fetching.{LeadSoundly}
-use Rattle.board_model.specs.Agreeing.{Agrees}
+use Rattle.board_model.specs.Agreeing.{IsMirrors}
 use Rattle.board_model.specs.Boards.{Board}
 use Rattle.board_model.specs.NameLaws.{AreNamedApart}
 use Rattle.board_model.specs.Reached.{Reached}
@@ -16,8 +17,12 @@ use Rattle.board_model.specs.Slots.{Setup}
 use Rattle.board_model.specs.Uses.{wanted_part}
 use Rattle.journal_model.specs.Rest.{IsIdle}
 use Rattle.update_model.specs.Outcomes.{PartFiles}
+use Rattle.update_model.specs.declared.ask.Body.TheVariants.{Bytes, Staged}
+use Rattle.update_model.specs.declared.ask.Closed.{Closed}
+use Rattle.update_model.specs.declared.ask.Closed.TheVariants.{Served, Not}
 use Rattle.run_jobs.specs.Coupling.{HasWantedParts}
 use Rattle.run_jobs.specs.Counting.{CountsUp}
+use Rattle.run_jobs.specs.OnTheWay.{StaysOnItsWay}
 
 -- What a run was begun with: the board's configuration, what was installed, the lists on their way, and the method's mirror
 -- and count of faults.
@@ -35,13 +40,23 @@ pub record IsSoundBegun (begun : RunStart) : Type 0 where
   pub few : length (flat_map names_of begun.config.sources) ≤ 4096
   pub sizes : (name : List ℕ) → begun.config.sizes name ≡ length (begun.parts name)
 
--- A run has heard these notes: calls have led to the board, each answer is the mirror's, where the disk and the method tell,
--- or a fault, and faults are those that the method counted. All answers are those of the first method.
+-- a list's file on its way is known where the disk tells, and any other answer anyhow
+abbrev pub IsKnownOver : List State → Closed → Type 0
+IsKnownOver now (Served (Staged sum)) = IsTold now
+IsKnownOver now (Served (Bytes bytes)) = Unit {0}
+IsKnownOver now (Not end) = Unit {0}
+
+-- each answer that is known is the mirror's to what was asked, or a fault
+abbrev pub AgreesWhereKnown : List State → MirrorMap → PartFiles → List Source → List Note → Type 0
+AgreesWhereKnown now mirror parts sources notes = Each (λ note. IsKnownOver now note.told.closed → IsMirrors mirror parts sources note) notes
+
+-- A run has heard these notes: calls have led to the board, each answer is the mirror's, where the method tells, or a fault,
+-- and faults are those that the method counted. All answers are those of the first method.
 pub record RunHasHeard (begun : RunStart) (notes : List Note) (count : ℕ) (b : Board) (now : List State) : Type 0 where
   pub config : b.config ≡ begun.config
   pub reached : Reached begun.config begun.olds notes b
   pub sound : LeadSoundly notes
-  pub answers : IsTold now → IfSome begun.mirror (λ mirror. Agrees mirror begun.parts begun.config.sources notes)
+  pub answers : IfSome begun.mirror (λ mirror. AgreesWhereKnown now mirror begun.parts begun.config.sources notes)
   pub counts : CountsUp begun.count count b.asks
   pub lanes : Each (λ asked. asked.lane ≡ 0) b.asks
 
@@ -60,15 +75,16 @@ pub record MayAsk (mirror : Option MirrorMap) (count : ℕ) (b : Board) (now : L
   pub under_way : IsUnderWay begun notes count b now
   pub idle : IsNow IsIdle now
 
--- what it has heard is behind what it had heard before
-pub record JobAddsNotes (begun : RunStart) (notes : List Note) (count : ℕ) (b : Board) (now : List State) : Type 0 where
+-- what it has heard is behind what it had heard before, and has left the lists on their way so
+pub record JobAddsNotes (begun : RunStart) (notes : List Note) (count : ℕ) (b : Board) (old now : List State) : Type 0 where
   pub more : List Note
+  pub left : IsTold now → (name : List ℕ) → StaysOnItsWay begun.config.sources more old now name
   pub under_way : IsUnderWay begun (notes ++ more) count b now
 
 -- a run that is under way still is, over the same mirror
 abbrev pub JobKeepsRunGoing : Option MirrorMap → ℕ → ℕ → Board → Board → List State → List State → Type 0
 JobKeepsRunGoing mirror count later before after old now =
-    (begun : RunStart) (notes : List Note) → IsSoundBegun begun → begun.mirror ≡ mirror → IsUnderWay begun notes count before old → JobAddsNotes begun notes later after now
+    (begun : RunStart) (notes : List Note) → IsSoundBegun begun → begun.mirror ≡ mirror → IsUnderWay begun notes count before old → JobAddsNotes begun notes later after old now
 
 -- nothing else of a board has changed than what its items have heard
 pub record SameBoard (before after : Board) : Type 0 where

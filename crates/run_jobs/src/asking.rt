@@ -10,7 +10,8 @@ ghost use Rattle.job_fetch.specs.Fetched.{IsCounted, IsSoundEnd};
 ghost use Rattle.journal_model.specs.Rest.{KeptAtRestSince};
 ghost use Rattle.update_core.specs.BoardRefinement.{board_of};
 ghost use Rattle.run_jobs.specs.Counting.{BeginsAsked};
-ghost use Rattle.run_jobs.specs.Fetching.{Answers, CanFetch, ComesTo, IsFetched, KeepsBytes};
+ghost use Rattle.run_jobs.specs.Fetching.{Answers, CanFetch, ComesTo, IsFetched, KeepsBytes, LeavesPart};
+ghost use Rattle.run_jobs.specs.OnTheWay.{KeepsAllButParts};
 ghost use Rattle.run_jobs.specs.Running.{JobKeepsRunGoing, MayAsk, SameBoard};
 
 use crate::RunError;
@@ -42,6 +43,7 @@ fn fetch<D: Disk, M: Method>(
     ensures fetched { IsFetched (staged_name (board_of board.now) job.now.no) (D.trace disk.old) (D.trace disk.new) }
     ensures kept { OnOk result (KeepsBytes (staged_name (board_of board.now) job.now.no) job.now.from (D.trace disk.old) (D.trace disk.new)) }
     ensures comes { IfOk result (ComesTo (staged_name (board_of board.now) job.now.no) (D.trace disk.new)) }
+    ensures left { IfOk result (LeavesPart (staged_name (board_of board.now) job.now.no) job.now.from (D.trace disk.old) (D.trace disk.new)) }
     ensures answers { IfOk result (Answers (M.world method.old) (staged_name (board_of board.now) job.now.no) job.now (D.trace disk.old) (D.trace disk.new)) }
 {
     match board.stage(job.no) {
@@ -51,6 +53,7 @@ fn fetch<D: Disk, M: Method>(
 }
 
 /// Hands out the next job, fetches it and takes its answer in; whether there was one. With none nothing is asked any more.
+/// No file changes but lists on their way.
 ///
 /// `DiskFault` only where the disk's count of faults rose, and never `BadJournal`.
 pub fn ask_one<D: Disk, M: Method>(
@@ -73,6 +76,7 @@ pub fn ask_one<D: Disk, M: Method>(
     ensures none { IfOk result (λ more. more ≡ false → NoneAsks (board_of board.new)) }
 
     ensures moments { Since (D.trace disk.old) (D.trace disk.new) (KeptAtRestSince (D.trace disk.old)) }
+    ensures others { KeepsAllButParts (D.trace disk.old) (D.trace disk.new) }
     ensures goes { OnOk result (JobKeepsRunGoing (M.world method.old) (M.faults method.old) (M.faults method.new)
         (board_of board.old) (board_of board.new) (D.trace disk.old) (D.trace disk.new)) }
 {

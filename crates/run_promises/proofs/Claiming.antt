@@ -23,6 +23,7 @@ use Rattle.run_model.specs.Asked.{NotesAreOfItems, OthersHearNothing}
 use Rattle.run_model.specs.Coming.{HeardMirrorFully}
 use Rattle.run_model.specs.Groups.{commits_of}
 use Rattle.run_model.specs.Laws.{RunsAreComplete}
+use Rattle.update_engine.proofs.Lists.{answers_told}
 use Rattle.run_promises.proofs.Serving.{for_mirror, heard_out, logs_what_was_heard, reads_lists, told_of}
 use Rattle.run_promises.specs.Claims.{LogsShowRuns, RunsTellServed, ServedSourcesHaveSets, Serves, ShowsSource, TellsSet}
 use Rattle.run_promises.specs.Promise.{NoneIsGivenUp}
@@ -106,7 +107,7 @@ served_sources_have_sets admissible files run mirror former parts source serves 
 -- so its set is told
 pub runs_tell_served : BoardsStand → RunsAreComplete → ServedSourcesHaveSets → RunsTellServed
 runs_tell_served stand complete have run before after log logged =
-    for_mirror before.mirrors _ _ logged.answers (λ mirror agrees synced few n source is serves. by mirror agrees (logged.commits synced) few n source is serves)
+    for_mirror before.mirrors _ _ (answers_told run before after log logged) (λ mirror agrees synced few n source is serves. by mirror agrees (logged.commits synced) few n source is serves)
   where
     by : (mirror : MirrorMap) → (IsTold after.trace → Agrees mirror logged.begun.parts logged.begun.config.sources logged.heard) → (finished : HasFinished run logged.begun logged.heard before.trace after.trace log)
         → NoneIsGivenUp run.settings.retries log.asks → (n : ℕ) (source : Source) → slice_get run.plan.sources n ≡ Some source → (serves : Serves run mirror (installed_now before.trace) source) → TellsSet log n (held_of source serves.set)

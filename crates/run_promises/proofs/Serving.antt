@@ -8,8 +8,8 @@ use Rattle.acq_base.specs.declared.plan.Source.{Source}
 use Rattle.acq_base.specs.declared.settings.Settings.{Settings}
 use Rattle.acq_base.specs.declared.uri.Uri.{Uri}
 use Rattle.acq_outside.specs.Count.{Rose}
-use Rattle.acq_outside.specs.Crash.{State}
-use Rattle.acq_outside.specs.States.{IsTold, ToldAs}
+use Rattle.acq_outside.specs.Crash.{State, reads}
+use Rattle.acq_outside.specs.States.{IsNow, IsTold, ToldAs}
 use Rattle.board_model.specs.Agreeing.{Agrees, NoneIsDead}
 use Rattle.board_model.specs.Jobs.{one_if}
 use Rattle.board_model.specs.Laws.{BoardsStand}
@@ -17,7 +17,11 @@ use Rattle.board_model.specs.Runs.{Note}
 use Rattle.board_model.specs.Stands.{entries_of}
 use Rattle.journal_model.specs.Reopen.{installed_now}
 use Rattle.journal_model.specs.Rest.{IsAtRest}
+use Rattle.list_commits.specs.Loose.{NoneIsLoose}
 use Rattle.list_commits.specs.Made.{after_all}
+use Rattle.run_jobs.specs.OnTheWay.{PartsStay}
+use Rattle.run_model.specs.Runs.{installed_by}
+use Rattle.update_engine.proofs.Lists.{answers_told}
 use Rattle.run_jobs.specs.Counting.{CountsOn, CountsUp}
 use Rattle.run_model.specs.Begun.{RunInput}
 use Rattle.run_model.specs.Groups.{commits_of}
@@ -33,7 +37,7 @@ use Rattle.update_model.specs.declared.log.RunLog.{RunLog}
 use Rattle.run_jobs.proofs.OneJob.{same_number}
 use Rattle.run_jobs.proofs.Telling.{counts_rise}
 use Rattle.run_promises.proofs.GivenUp.{none_is_dead}
-use Rattle.run_promises.specs.Promise.{ListsMatchMirror, NoneIsGivenUp, ReadsLists, RunsEndAsServed, RunsEndAsTold, SomeRose, faults_told_of, is_fault}
+use Rattle.run_promises.specs.Promise.{FolderMatchesLog, ListsMatchMirror, NoneIsGivenUp, ReadsLists, RunsEndAsServed, RunsEndAsTold, SomeRose, faults_told_of, is_fault}
 
 -- ---- faults that are told, and counts
 
@@ -201,15 +205,31 @@ heard_out stand run before after log logged few =
 
 pub serves : BoardsStand → RunsLeadToNext → RunsLeaveMirrored → RunsEndAsServed
 serves stand next leaves run before after log keeps logged =
-    for_mirror before.mirrors _ _ logged.answers (λ mirror agrees settled. record {
+    for_mirror before.mirrors _ _ (answers_told run before after log logged) (λ mirror agrees settled. record {
       lists = λ few. serves_lists next leaves run before after log logged mirror agrees (heard_out stand run before after log logged few) (logged.commits settled);
       quiet = quiet_or_risen run before after log keeps logged;
     })
 
 -- ---- what is told
 
-pub ends_as_told : RunsHoldAsTold → RunsKeepOthers → RunsEndAsTold
-ends_as_told holds keeps run before after log logged settled =
+-- where there is a state, what holds of it is told
+told_as : (P : State → Type 0) (now : List State) → IsTold now → IsNow P now → ToldAs P now
+told_as P [] told is = absurd told
+told_as P (s ∷ past) told is = is
+
+folder_matches : BoardsStand → (run : Run) (before after : Engine) (log : RunLog) (logged : LogIsTrue run before after log) (finished : HasFinished run logged.begun logged.heard before.trace after.trace log)
+    → FolderMatchesLog run finished.opened after.trace log
+folder_matches stand run before after log logged finished = record {
+  lock = finished.aside.lock;
+  heard = logged.heard;
+  entries = logs_what_was_heard stand run before after log logged;
+  parts = subst (λ (sources : List Source). PartsStay sources (installed_by log) logged.heard finished.opened after.trace) logged.of_run.sources finished.aside.parts;
+  gone = λ cleaned. subst (λ (sources : List Source). ToldAs (λ s. NoneIsLoose sources (reads s)) after.trace) logged.of_run.sources
+      (told_as _ after.trace (told_of _ after.trace finished.rests) (finished.gone (rw logged.of_run.settings cleaned)));
+}
+
+pub ends_as_told : BoardsStand → RunsHoldAsTold → RunsKeepOthers → RunsEndAsTold
+ends_as_told stand holds keeps run before after log logged settled =
     let finished = logged.commits settled in
     let lists = after_all (commits_of finished.commits) (installed_now before.trace) in
     record {
@@ -221,4 +241,5 @@ ends_as_told holds keeps run before after log logged settled =
           holds run.together logged.begun (installed_now before.trace) log finished.commits n source verdict held finished.read.begins finished.ran (rw logged.of_run.sources is) told has;
       keeps = λ n source verdict is told none.
           keeps run.together logged.begun (installed_now before.trace) log finished.commits n source verdict finished.read.begins finished.ran (rw logged.of_run.sources is) told none;
+      folder = folder_matches stand run before after log logged finished;
     }

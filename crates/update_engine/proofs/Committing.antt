@@ -1,8 +1,9 @@
 -- The set of one source is committed.
 use Rattle.std.proofs.Common.{◌≡◌, ◌≢◌, ◌⊎◌, ◌∙◌, ◌≤◌, inl, inr, refl, sym, ap, subst, ℕ, suc, Bool, true, false, List, [], ◌∷◌, ◌++◌, length, AllPairs, Contains, Some, None, Result, Ok, Err}
 use Rattle.std.specs.Prelude.{IfErr, IsErrAnd, if◌then◌else◌, slice_get}
-use Rattle.std.specs.List.{AllByRecursion as Each}
+use Rattle.std.specs.List.{flat_map, AllByRecursion as Each}
 use Rattle.std.proofs.lemmas.List.{append-nil}
+use Rattle.std.proofs.lemmas.List.Elements.{Contains-append_left, Contains-append_right}
 use Rattle.acq_base.specs.Plan.{IsPlanned, names_of}
 use Rattle.acq_base.specs.Sum.{sum_of}
 use Rattle.acq_base.specs.declared.plan.Source.{Source}
@@ -48,12 +49,15 @@ use Rattle.journal_model.proofs.Views.{partial_apart, partial_not_journal}
 use Rattle.commit_journal.proofs.Prepares.{settled_at}
 use Rattle.board_bounds.proofs.Walking.{at_all}
 use Rattle.run_model.proofs.Loose.{among}
-use Rattle.run_model.proofs.Names.{in_plan}
+use Rattle.run_model.proofs.Names.{in_plan, sources_apart}
 use Rattle.run_model.proofs.Finishing.{is_held}
+use Rattle.run_jobs.proofs.Agreed.{heard_on, run_agrees}
 use Rattle.run_jobs.proofs.Keeping.{stays_holds, told_back}
+use Rattle.list_commits.proofs.Apart.{apart_of, here}
 use Rattle.update_engine.proofs.Known.{CommittingLaws}
 use Rattle.update_engine.proofs.Lists.{told_on}
 use Rattle.update_engine.specs.Session.{KeepsRunGoing, HasCommittedSets, HasProgress, CommitsOneSource, MayCommit, StopsBetweenAsks, begun_of, installed_in}
+use Rattle.update_engine.proofs.Beside.{aside_committed, aside_same}
 use Rattle.update_engine.proofs.Naming.{release_free, which_name}
 use Rattle.update_engine.proofs.OnBoards.{as_open, heard_settled, is_of, owns, told_more, under_settled, uses_settled}
 
@@ -179,7 +183,7 @@ pub under_committed : CommittingLaws → (start : RunStart) (notes : List Note) 
 under_committed laws start notes count b n settled old now s c back keeps =
     let heard = heard_settled laws.settling start notes count b n settled old s.ready s.comes s.under.heard in
     record {
-      heard = record { config = heard.config; reached = heard.reached; sound = heard.sound; answers = λ told. heard.answers (back told); counts = heard.counts; lanes = heard.lanes };
+      heard = record { config = heard.config; reached = heard.reached; sound = heard.sound; answers = heard_on old now start.mirror start.parts start.config.sources notes back heard.answers; counts = heard.counts; lanes = heard.lanes };
       none_out = s.under.none_out;
       uses = uses_committed laws start notes count b n settled old now s c back keeps;
     }
@@ -245,18 +249,28 @@ told_new laws start notes count b n settled old held s c installs =
 
 -- the sets so far, and one more
 pub sets_committed : CommittingLaws → (start : RunStart) (notes : List Note) (count : ℕ) (opened : List State) (b : Board) (n : ℕ) (settled : Settled) (old now : List State) (held : Held) → IsSettling start notes count b n settled old → (c : IsChanging start b n settled)
-    → settled.verdict ≡ Installed held → IsTold now → HasCommitted (filled_all (part_bytes old) (changes_for c.source settled ∷ [])) old now
+    → settled.verdict ≡ Installed held → IsTold now → HasCommitted (filled_all (part_bytes old) (changes_for c.source settled ∷ [])) old now → KeepsUnchangedFiles (changes_for c.source settled ∷ []) old now
     → HasCommittedSets (begun_of start) notes opened old b → HasCommittedSets (begun_of start) notes opened now (settled_as b n settled.verdict)
-sets_committed laws start notes count opened b n settled old now held s c installs told done sets =
+sets_committed laws start notes count opened b n settled old now held s c installs told done keeps sets =
     let changes = filled (part_bytes old) (changes_for c.source settled) in
+    let installed = told_new laws start notes count b n settled old held s c installs in
     record {
-      told = told;
-      commits = sets.commits ++ (SetOf n changes ∷ []) ∷ [];
-      made = subst (λ (cs : List Commit). CommitsMade cs opened now) (sym (commits_last sets.commits (SetOf n changes ∷ [])))
-          (makes sets.made (commit_of (SetOf n changes ∷ [])) (subst (λ (x : Commit). HasCommitted x old now) (one_group (part_bytes old) n (changes_for c.source settled)) done));
-      each = each_last sets.commits n changes sets.each;
-      groups = groups_last (begun_of start) notes sets.commits n changes sets.each sets.groups (new_set laws start notes count b n settled old held sets.told s c installs);
-      order = sources_last sets.commits n changes sets.each ∙ ap (λ (ns : List ℕ). ns ++ n ∷ []) sets.order ∙ sym (told_new laws start notes count b n settled old held s c installs);
+      sets = record {
+        told = told;
+        commits = sets.commits ++ (SetOf n changes ∷ []) ∷ [];
+        made = subst (λ (cs : List Commit). CommitsMade cs opened now) (sym (commits_last sets.commits (SetOf n changes ∷ [])))
+            (makes sets.made (commit_of (SetOf n changes ∷ [])) (subst (λ (x : Commit). HasCommitted x old now) (one_group (part_bytes old) n (changes_for c.source settled)) done));
+        each = each_last sets.commits n changes sets.each;
+        groups = groups_last (begun_of start) notes sets.commits n changes sets.each sets.groups (new_set laws start notes count b n settled old held sets.told s c installs);
+        order = sources_last sets.commits n changes sets.each ∙ ap (λ (ns : List ℕ). ns ++ n ∷ []) sets.order ∙ sym installed;
+      };
+      aside = aside_same start.config.sources (installed_in b ++ n ∷ []) (installed_in (settled_as b n settled.verdict)) notes opened now installed
+          (aside_committed start.config.sources (installed_in b) (installed_in b ++ n ∷ []) notes (changes_for c.source settled ∷ []) opened old now (can_record laws start b n settled c) keeps
+          (λ m out is. out (Contains-append_left (installed_in b) (n ∷ []) m is))
+          (λ m source name is own out. unnamed laws start b n settled c name (λ within.
+          sources_apart start.config.sources n m c.source source name (apart_of (flat_map names_of start.config.sources) s.sound.apart) c.source_is is
+          (λ same. out (Contains-append_right (installed_in b) (n ∷ []) m (here n [] m same))) within own))
+          sets.aside);
     }
 
 -- ---- a stop
@@ -296,7 +310,7 @@ stops_unbegun laws error start notes count lists opened b old now heard unbegun 
   progress = laws.unbegun (commits_of sets.commits) opened old now sets.made unbegun;
   whole = λ dry. refl;
   has = has_begun start notes count b old lists sets.commits heard sets.each sets.groups sets.order;
-  agrees = λ told. heard.answers sets.told;
+  agrees = λ told. run_agrees start notes count old heard sets.told;
   synced = λ rest. settled (settled_made laws (commits_of sets.commits) lists opened old sets.made rest);
 }
 
@@ -319,7 +333,7 @@ stops_begun laws error start notes count lists opened b n settled old now held s
       has = has_begun start notes count (settled_as b n settled.verdict) old lists (sets.commits ++ group ∷ []) heard (each_last sets.commits n changes sets.each)
           (groups_last (begun_of start) notes sets.commits n changes sets.each sets.groups (new_set laws start notes count b n settled old held sets.told s c installs))
           (sources_last sets.commits n changes sets.each ∙ ap (λ (ns : List ℕ). ns ++ n ∷ []) sets.order ∙ sym (told_new laws start notes count b n settled old held s c installs));
-      agrees = λ told. s.under.heard.answers sets.told;
+      agrees = λ told. run_agrees start notes count old s.under.heard sets.told;
       synced = λ rest. is_settled (settled_made laws (commits_of sets.commits) lists opened old sets.made rest);
     }
 
@@ -339,12 +353,15 @@ pub goes_settled : CommittingLaws → (b c : Board) (n : ℕ) (settled : Settled
 goes_settled laws b c n settled now ready comes same none_new = subst (λ (x : Board). KeepsRunGoing b x now now) (sym same) (record {
   under_way = λ start notes count sound under. under_settled laws.settling start notes count b n settled now ready comes under;
   sets = λ start notes count opened sound under sets. record {
-    told = sets.told;
-    commits = sets.commits;
-    made = sets.made;
-    each = sets.each;
-    groups = sets.groups;
-    order = sets.order ∙ sym (told_none start notes count sound under);
+    sets = record {
+      told = sets.told;
+      commits = sets.commits;
+      made = sets.made;
+      each = sets.each;
+      groups = sets.groups;
+      order = sets.order ∙ sym (told_none start notes count sound under);
+    };
+    aside = aside_same start.config.sources (installed_in b) (installed_in (settled_as b n settled.verdict)) notes opened now (told_none start notes count sound under) sets.aside;
   };
 })
   where
@@ -392,7 +409,8 @@ goes_committed laws b c n settled groups old now ready comes same new_one are ke
       let d = changing laws start notes count b n settled old s in
       let held = is_held settled.verdict new_one in
       sets_committed laws start notes count opened b n settled old now held.0 s d held.1 (on_committed (filled_all (part_bytes old) groups) old now done sets.told)
-      (subst (λ (gs : List (List Change)). HasCommitted (filled_all (part_bytes old) gs) old now) (are d.source d.here_is) done) sets;
+      (subst (λ (gs : List (List Change)). HasCommitted (filled_all (part_bytes old) gs) old now) (are d.source d.here_is) done)
+      (subst (λ (gs : List (List Change)). KeepsUnchangedFiles gs old now) (are d.source d.here_is) keeps) sets;
 })
 
 -- ---- where it stops

@@ -1,31 +1,35 @@
 -- The end of a run: the last commit, with the clean-up.
 use Rattle.std.proofs.Common.{◌≡◌, ◌≢◌, ◌∙◌, inl, inr, refl, sym, ap, subst, arith, ℕ, suc, Bool, true, false, List, [], ◌∷◌, ◌++◌, length, map, Contains, Option, Some, None, IfSome}
-use Rattle.std.specs.Prelude.{IsTrue, ◌&&◌, if◌then◌else◌, not}
+use Rattle.std.specs.Prelude.{IsTrue, ◌&&◌, if◌then◌else◌, not, slice_get}
 use Rattle.std.specs.List.{flat_map, list_all, AllByRecursion as Each}
 use Rattle.std.proofs.lemmas.List.{append-nil, append_assoc}
+use Rattle.std.proofs.lemmas.List.Elements.{Contains-append_right}
+use Rattle.board_model.proofs.Making.{none-in}
 use Rattle.acq_base.specs.Plan.{names_of}
 use Rattle.acq_base.specs.declared.plan.Source.{Source}
-use Rattle.acq_outside.specs.Crash.{State, IsShown}
+use Rattle.acq_outside.specs.Crash.{State, IsShown, reads}
 use Rattle.acq_outside.specs.Disk.{Files}
 use Rattle.acq_outside.specs.States.{IsTold, IsNow}
 use Rattle.board_model.specs.Boards.{Board, is_finished, log_of}
 use Rattle.board_model.specs.Runs.{Note}
 use Rattle.board_model.specs.Slots.{Setup}
-use Rattle.commit_journal.specs.Changes.{DropFile, Filled, filled, filled_all}
+use Rattle.commit_journal.specs.Changes.{CanRecord, DropFile, Filled, IsNone, all_changed_names, filled, filled_all}
+use Rattle.commit_journal.specs.Commits.{KeepsUnchangedFiles, ReadsNoDropped}
 use Rattle.commit_journal.specs.Runs.{Commit, CommitHasBegun, HasCommitted, CommitProgress}
 use Rattle.commit_journal.specs.declared.changing.Change.{Change}
-use Rattle.journal_model.specs.Names.{is_installed_name, journal, lock}
+use Rattle.journal_model.specs.Names.{is_installed_name, journal, lock, partial}
 use Rattle.journal_model.specs.Rest.{IsAtRest, IsSynced, part_bytes}
 use Rattle.list_commits.specs.Changes.{changes_for, drops_for}
-use Rattle.list_commits.specs.Loose.{AreLooseNames, IsLoose, kept_of, removed_names}
+use Rattle.list_commits.specs.Loose.{AreLooseNames, IsLoose, NoneIsLoose, kept_of, removed_names}
 use Rattle.list_commits.specs.Made.{IsCommitStopped, CommitsMade, NoCommitBegun, after_all, makes}
-use Rattle.list_commits.specs.RecordLaws.{group_of, names_of_group}
+use Rattle.list_commits.specs.RecordLaws.{group_of, groups_of, names_of_group}
 use Rattle.run_jobs.specs.declared.error.RunError.{RunError}
 use Rattle.run_jobs.specs.declared.error.RunError.TheVariants.{BadJournal, DiskFault, NoMemory}
-use Rattle.run_jobs.specs.Running.{RunStart, RunHasHeard, IsUnderWay}
+use Rattle.run_jobs.proofs.Agreed.{run_agrees}
+use Rattle.run_jobs.specs.Running.{RunStart, RunHasHeard, IsSoundBegun, IsUnderWay}
 use Rattle.run_model.specs.Begun.{RunInput, ReadsPlanned}
 use Rattle.run_model.specs.Groups.{Group, CleanUp, SetOf, AreGroups, AreRemovable, AreCommitGroups, all_groups, changes_in, commit_of, commits_of, removed_in, sources_in}
-use Rattle.run_model.specs.Runs.{AreAllGroups, AreInPlanOrder, AreLooseLists, AreRising, RemovesLooseNames, MayBeStopped, MayBeCommitted, cleans_up, is_kept}
+use Rattle.run_model.specs.Runs.{AreAllGroups, AreInPlanOrder, AreLooseLists, AreRising, RemovesLooseNames, MayBeStopped, MayBeCommitted, cleans_up, installed_by, is_kept}
 use Rattle.update_model.specs.declared.log.RunLog.{RunLog}
 use Rattle.update_model.specs.declared.settled.Verdict2.{Verdict2}
 use Rattle.acq_outside.proofs.Going.{no_time}
@@ -34,9 +38,13 @@ use Rattle.list_commits.proofs.Gone.{all_kept}
 use Rattle.run_model.proofs.Stopping.{sources_of_both}
 use Rattle.run_jobs.proofs.Telling.{each_last}
 use Rattle.update_engine.proofs.Known.{CommittingLaws}
-use Rattle.update_engine.specs.Session.{HasCommittedAllBut, RunsOverLists, HasCommittedAll, HasUncommitted, CommitsAll, HasProgress, CommitsOneSource, IsNewSource, LeavesUncommitted, NewSource, StopsBetweenAsks, StopsWhileEnding, begun_of, cleans, groups_for, names_to_remove, numbers_of, some_names, with_removed}
+use Rattle.update_engine.specs.Session.{HasCommittedAllBut, RunsOverLists, HasCommittedAll, HasUncommitted, CommitsAll, HasProgress, CommitsOneSource, IsNewSource, LeavesUncommitted, NewSource, StopsBetweenAsks, StopsWhileEnding, begun_of, cleans, groups_for, installed_in, names_to_remove, numbers_of, some_names, with_removed}
 use Rattle.update_engine.proofs.Committing.{commits_last, have_shape, none_removed, nothing_begun, settled_made}
-use Rattle.update_engine.proofs.LastCommit.{all_committed}
+use Rattle.update_engine.proofs.LastCommit.{all_committed, groups_same}
+use Rattle.update_engine.proofs.Beside.{aside_committed}
+use Rattle.update_engine.proofs.CleanedUp.{loose_free, none_loose, part_free}
+use Rattle.update_engine.proofs.Distinct.{are_gathered, gathered_for}
+use Rattle.update_engine.specs.Run.{KeepsAside}
 
 -- ---- where nothing more is begun
 
@@ -75,7 +83,7 @@ stops_before laws error together start notes count lists opened mid now b picks 
   progress = laws.unbegun (commits_of e.commits) opened mid now e.made unbegun;
   whole = λ dry. refl;
   has = has_so_far together start notes count opened mid lists b picks heard e;
-  agrees = λ told. heard.answers e.told;
+  agrees = λ told. run_agrees start notes count mid heard e.told;
   synced = λ rest. settled (settled_made laws (commits_of e.commits) lists opened mid e.made rest);
 }
 
@@ -198,6 +206,7 @@ cleans_one false sources lists loose removed are is = is
 
 pub record AtLast (together cleanup : Bool) (start : RunStart) (notes : List Note) (count : ℕ) (lists files : Files) (opened mid : List State) (c : Board) (picks : List NewSource) (loose : List (List ℕ)) : Type 0 where
   pub switch : start.config.settings.cleanup ≡ cleanup
+  pub sound : IsSoundBegun start
   pub under : IsUnderWay start notes count c mid
   pub each : Each (IsNewSource start notes mid) picks
   pub turn : AreRising (numbers_of picks)
@@ -285,10 +294,55 @@ filled_later : (cleanup : Bool) (c : Board) (picks : List NewSource) (loose : Li
     → filled_all part later ≡ commit_of (last_groups part picks (names_to_remove cleanup c.verdicts loose))
 filled_later cleanup c picks loose later part is = ap (filled_all part) is ∙ filled_last part picks (names_to_remove cleanup c.verdicts loose)
 
+-- ---- what lies beside the lists
+
+-- the names that go are of no source
+of_none_named : (sources : List Source) (cleanup : Bool) (verdicts : List Verdict2) (loose : List (List ℕ)) → ((name : List ℕ) → Contains loose name → IsLoose sources name) → (name : List ℕ)
+    → Contains (names_of_group (names_to_remove cleanup verdicts loose)) name → IsLoose sources name
+of_none_named sources cleanup verdicts loose are name = one (cleans cleanup verdicts)
+  where
+    one : (t : Bool) → Contains (names_of_group (if t then some_names loose else None)) name → IsLoose sources name
+    one true is = are name (subst (λ (ns : List (List ℕ)). Contains ns name) (group_some loose) is)
+    one false is = absurd (none-in name is)
+
+-- the groups of the last commit, of the sources that are left and the clean-up
+last_groups_are : (cleanup : Bool) (c : Board) (picks : List NewSource) (loose : List (List ℕ)) (later : List (List Change)) → AreLater cleanup c picks loose later → groups_of (gathered_for picks) (names_to_remove cleanup c.verdicts loose) ≡ later
+last_groups_are cleanup c picks loose later is = groups_same picks (names_to_remove cleanup c.verdicts loose) ∙ sym is
+
+aside_last : CommittingLaws → (together cleanup : Bool) (start : RunStart) (notes : List Note) (count : ℕ) (lists files : Files) (opened mid now : List State) (c : Board) (picks : List NewSource) (loose : List (List ℕ)) (later : List (List Change))
+    → AtLast together cleanup start notes count lists files opened mid c picks loose → AreLater cleanup c picks loose later → CanRecord later → (later ≡ [] → now ≡ mid) → (later ≢ [] → KeepsUnchangedFiles later mid now)
+    → KeepsAside start.config.sources (installed_in c) notes opened now
+aside_last laws together cleanup start notes count lists files opened mid now c picks loose later a is can none keeps = by later refl
+  where
+    free : (n : ℕ) (source : Source) (name : List ℕ) → slice_get start.config.sources n ≡ Some source → Contains (names_of source) name → (Contains (installed_in c) n → ⊥) → IsNone (partial name) (all_changed_names later)
+    free n source name at own out = subst (λ (gs : List (List Change)). IsNone (partial name) (all_changed_names gs)) (last_groups_are cleanup c picks loose later is)
+        (part_free laws start notes mid picks (names_to_remove cleanup c.verdicts loose) n source name a.sound (are_gathered start notes mid picks a.sound a.each a.turn) a.each
+        (of_none_named start.config.sources cleanup c.verdicts loose a.names.loose) at own
+        (λ found. out (subst (λ (ns : List ℕ). Contains ns n) (sym a.but.order) (Contains-append_right (sources_in (all_groups a.but.commits)) (numbers_of picks) n found))))
+
+    by : (l : List (List Change)) → later ≡ l → KeepsAside start.config.sources (installed_in c) notes opened now
+    by [] same = subst (KeepsAside start.config.sources (installed_in c) notes opened) (sym (none same)) a.but.aside
+    by (g ∷ gs) same = aside_committed start.config.sources (installed_in c) (installed_in c) notes later opened mid now can
+        (keeps (λ empty. let wrong : g ∷ gs ≡ [] = sym same ∙ empty in absurd (cc))) (λ n out found. out found) free a.but.aside
+
+gone_last : CommittingLaws → (together cleanup : Bool) (start : RunStart) (notes : List Note) (count : ℕ) (lists files : Files) (opened mid now : List State) (c : Board) (picks : List NewSource) (loose : List (List ℕ)) (tells : Bool) (later : List (List Change))
+    → IsShown tells files mid → AtLast together cleanup start notes count lists files opened mid c picks loose → AreLater cleanup c picks loose later → (later ≡ [] → now ≡ mid) → (later ≢ [] → KeepsUnchangedFiles later mid now)
+    → (later ≢ [] → IsNow (ReadsNoDropped later) now) → cleans cleanup c.verdicts ≡ true → IsNow (λ s. NoneIsLoose start.config.sources (reads s)) now
+gone_last laws together cleanup start notes count lists files opened mid now c picks loose tells later shown a is none keeps gone cleaned =
+    let names : names_to_remove cleanup c.verdicts loose ≡ some_names loose = ap (λ (t : Bool). if t then some_names loose else None) cleaned in
+    none_loose start.config.sources files loose (groups_for picks) later mid now tells shown a.but.told a.names
+    (is ∙ ap (λ (ns : Option (List (List ℕ))). groups_for picks ++ group_of ns) names) none keeps gone
+    (λ name apart out. subst (λ (gs : List (List Change)). IsNone name (all_changed_names gs)) (last_groups_are cleanup c picks loose later is)
+    (loose_free laws start notes mid picks (names_to_remove cleanup c.verdicts loose) name a.sound (are_gathered start notes mid picks a.sound a.each a.turn) a.each apart
+    (λ found. out (subst (λ (ns : List (List ℕ)). Contains ns name) (ap names_of_group names ∙ group_some loose) found))))
+
+-- ---- its end
+
 pub ended : CommittingLaws → (together cleanup : Bool) (start : RunStart) (notes : List Note) (count : ℕ) (lists files : Files) (opened mid now : List State) (c : Board) (picks : List NewSource) (loose : List (List ℕ)) (tells : Bool)
     (later : List (List Change)) (log : RunLog) → IsShown tells files mid → AtLast together cleanup start notes count lists files opened mid c picks loose → AreLater cleanup c picks loose later
-    → log ≡ with_removed (log_of c) (names_to_remove cleanup c.verdicts loose) → (later ≡ [] → now ≡ mid) → (later ≢ [] → HasCommitted (filled_all (part_bytes mid) later) mid now) → HasCommittedAll together start notes lists opened now log
-ended laws together cleanup start notes count lists files opened mid now c picks loose tells later log shown a is told none done =
+    → log ≡ with_removed (log_of c) (names_to_remove cleanup c.verdicts loose) → (later ≡ [] → now ≡ mid) → (later ≢ [] → HasCommitted (filled_all (part_bytes mid) later) mid now) → CanRecord later
+    → (later ≢ [] → KeepsUnchangedFiles later mid now) → (later ≢ [] → IsNow (ReadsNoDropped later) now) → HasCommittedAll together start notes lists opened now log
+ended laws together cleanup start notes count lists files opened mid now c picks loose tells later log shown a is told none done can keeps gone =
     let all = all_of_run laws together cleanup start notes count lists files opened mid c picks loose tells shown a in
     record {
       commits = last_of cleanup loose a.but;
@@ -304,6 +358,10 @@ ended laws together cleanup start notes count lists files opened mid now c picks
       };
       same = refl;
       made = made_with a.but.commits (last_groups (part_bytes mid) picks (names_to_remove cleanup c.verdicts loose)) later opened mid now a.but.made (filled_later cleanup c picks loose later (part_bytes mid) is) none done;
+      aside = subst (λ (l : RunLog). KeepsAside start.config.sources (installed_by l) notes opened now) (sym told)
+          (aside_last laws together cleanup start notes count lists files opened mid now c picks loose later a is can none keeps);
+      gone = λ cleaned. gone_last laws together cleanup start notes count lists files opened mid now c picks loose tells later shown a is none keeps gone
+          (sym (ap (λ (t : Bool). t && list_all (λ verdict. not (is_kept verdict)) c.verdicts) a.switch) ∙ subst (λ (l : RunLog). cleans_up start.config.settings l.verdicts ≡ true) told cleaned);
     }
 
 -- ---- it stops within it
@@ -346,7 +404,7 @@ stops_in_last laws error together cleanup start notes count lists files opened m
       progress = moment_with laws e.commits (last_groups (part_bytes mid) picks (names_to_remove cleanup c.verdicts loose)) later opened mid now e.made (filled_later cleanup c picks loose later (part_bytes mid) is) some begun;
       whole = λ dry. absurd (moist dry);
       has = has_last together cleanup start notes count lists mid c picks loose (last_of cleanup loose e) a.under.heard all;
-      agrees = λ told. a.under.heard.answers e.told;
+      agrees = λ told. run_agrees start notes count mid a.under.heard e.told;
       synced = λ rest. settled (settled_made laws (commits_of e.commits) lists opened mid e.made rest);
     }
 
@@ -397,6 +455,7 @@ at_last together cleanup start notes count lists files opened old mid b c groups
     let own : sources ≡ start.config.sources = same ∙ ap (λ (x : Setup). x.sources) l.under_way.heard.config in
     record {
       switch = switch;
+      sound = h.sound;
       under = l.under_way;
       each = l.each;
       turn = l.in_turn;
@@ -422,11 +481,12 @@ stops_last laws error together cleanup b c old mid now files tells groups later 
 pub ends_all : CommittingLaws → (together cleanup : Bool) (b c : Board) (old mid now : List State) (files : Files) (tells : Bool) (groups later : List (List Change)) (loose : List (List ℕ)) (sources : List Source) (first log : RunLog)
     → LeavesUncommitted together b c old mid groups → is_finished c ≡ true → sources ≡ c.config.sources → (IsTrue tells → AreLooseNames files sources loose) → IsShown tells files mid
     → later ≡ groups ++ group_of (names_to_remove cleanup first.verdicts loose) → first ≡ log_of c → log ≡ with_removed first (names_to_remove cleanup first.verdicts loose)
-    → (later ≡ [] → now ≡ mid) → (later ≢ [] → HasCommitted (filled_all (part_bytes mid) later) mid now) → CommitsAll together cleanup b old now log
-ends_all laws together cleanup b c old mid now files tells groups later loose sources first log leaves finished same names shown is told told_log none done = λ start notes count lists opened switch h.
+    → (later ≡ [] → now ≡ mid) → (later ≢ [] → HasCommitted (filled_all (part_bytes mid) later) mid now) → CanRecord later → (later ≢ [] → KeepsUnchangedFiles later mid now) → (later ≢ [] → IsNow (ReadsNoDropped later) now)
+    → CommitsAll together cleanup b old now log
+ends_all laws together cleanup b c old mid now files tells groups later loose sources first log leaves finished same names shown is told told_log none done can keeps gone = λ start notes count lists opened switch h.
     let l = leaves start notes count h.sound h.under_way in
     let is_c : later ≡ groups ++ group_of (names_to_remove cleanup c.verdicts loose) = subst (λ (x : RunLog). later ≡ groups ++ group_of (names_to_remove cleanup x.verdicts loose)) told is in
     ended laws together cleanup start notes count lists files opened mid now c l.picks loose tells later log shown
     (at_last together cleanup start notes count lists files opened old mid b c groups loose sources tells switch h l finished same names shown)
     (is_c ∙ ap (λ (gs : List (List Change)). gs ++ group_of (names_to_remove cleanup c.verdicts loose)) l.are)
-    (subst (λ (x : RunLog). log ≡ with_removed x (names_to_remove cleanup x.verdicts loose)) told told_log) none done
+    (subst (λ (x : RunLog). log ≡ with_removed x (names_to_remove cleanup x.verdicts loose)) told told_log) none done can keeps gone

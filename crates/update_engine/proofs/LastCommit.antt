@@ -1,8 +1,9 @@
 -- The end of a run.
-use Rattle.std.proofs.Common.{◌≡◌, ◌∙◌, ◌<◌, ◌^◌, refl, sym, ap, subst, ℕ, Bool, true, false, List, [], ◌∷◌, ◌++◌, All, length, Option, None, IfSome}
+use Rattle.std.proofs.Common.{◌≡◌, ◌∙◌, ◌<◌, ◌^◌, refl, sym, ap, subst, ℕ, Bool, true, false, List, [], ◌∷◌, ◌++◌, All, Contains, length, Option, None, IfSome}
 use Rattle.std.specs.Prelude.{filter, if◌then◌else◌, slice_get}
 use Rattle.std.specs.List.{AllByRecursion as Each}
 use Rattle.std.proofs.lemmas.List.{append-nil}
+use Rattle.std.proofs.lemmas.List.Elements.{Contains-append_left}
 use Rattle.acq_base.specs.declared.plan.Source.{Source}
 use Rattle.acq_outside.specs.Crash.{State}
 use Rattle.acq_outside.specs.Disk.{IsName}
@@ -23,6 +24,7 @@ use Rattle.update_model.specs.declared.log.RunLog.{RunLog}
 use Rattle.update_model.specs.declared.settled.Verdict2.{Verdict2}
 use Rattle.update_engine.proofs.Known.{CommittingLaws}
 use Rattle.update_engine.specs.Session.{EndsWithLog, GathersChanges, KeepsRunGoing, HasCommittedAllBut, HasCommittedSets, HasGatheredChanges, HasUncommitted, CommitsOneSource, MayCommit, LeavesUncommitted, NewSource, begun_of, cleans, groups_for, installed_in, names_to_remove, numbers_of, some_names, with_removed}
+use Rattle.update_engine.proofs.Beside.{aside_fewer}
 use Rattle.update_engine.proofs.Distinct.{all_last, are_gathered, gathered_for}
 
 -- ---- what is left
@@ -47,6 +49,7 @@ all_committed together start notes opened now b none sets = record {
   order = sym sets.order ∙ sym (append-nil (sources_in (all_groups sets.commits)));
   first = λ so. no_commits sets.commits sets.each (sets.order ∙ none_installed b (none so));
   alone = λ apart. refl;
+  aside = sets.aside;
 }
 
 pub last_gathered : (together : Bool) (b c : Board) (old now : List State) (groups : List (List Change)) → together ≡ true → now ≡ old → GathersChanges b c groups → LeavesUncommitted together b c old now groups
@@ -70,6 +73,8 @@ last_gathered together b c old now groups is_so same gathers start notes count s
             order = g.order ∙ ap (λ (ns : List ℕ). ns ++ numbers_of g.picks) (sym s.order);
             first = λ so. no_commits s.commits s.each (s.order ∙ none_installed b (none so));
             alone = λ isnt. let wrong : true ≡ false = sym is_so ∙ isnt in absurd (cc);
+            aside = aside_fewer start.config.sources (installed_in b) (installed_in c) notes opened now
+                (λ m out is. out (subst (λ (ns : List ℕ). Contains ns m) (sym g.order) (Contains-append_left (installed_in b) (numbers_of g.picks) m is))) s.aside;
           };
     }
 
@@ -90,7 +95,7 @@ last_stands together b c old now groups stands leaves idle =
 
 -- ---- it makes one commit with the clean-up
 
-groups_same : (picks : List NewSource) (names : Option (List (List ℕ))) → groups_of (gathered_for picks) names ≡ groups_for picks ++ group_of names
+pub groups_same : (picks : List NewSource) (names : Option (List (List ℕ))) → groups_of (gathered_for picks) names ≡ groups_for picks ++ group_of names
 groups_same [] names = refl
 groups_same (p ∷ picks) names = ap (λ (gs : List (List Change)). changes_for p.source p.settled ∷ gs) (groups_same picks names)
 

@@ -3,11 +3,13 @@ pub mod Lists
 -- Of this crate's own functions.
 mod Naming
 mod OnBoards
+mod Beside
 mod Committing
 mod Gathered
 mod Distinct
 mod Finishing
 mod LastCommit
+mod CleanedUp
 mod Ended
 mod NewBoards
 mod PutNames

@@ -1,10 +1,15 @@
 -- Elements of lists, counts that stay, and a disk that tells.
-use Rattle.std.proofs.Common.{◌≡◌, refl, ap, arith, ℕ, Bool, true, false, List, [], ◌∷◌, ◌++◌}
+use Rattle.std.proofs.Common.{◌≡◌, refl, ap, arith, ℕ, Bool, true, false, List, [], ◌∷◌, ◌++◌, Option, Some, None}
 use Rattle.std.specs.Prelude.{filter, if◌then◌else◌}
 use Rattle.std.specs.List.{AllByRecursion as Each}
 use Rattle.acq_outside.specs.Crash.{State}
 use Rattle.acq_outside.specs.States.{IsTold, Since}
-use Rattle.update_engine.specs.Run.{NoneFell}
+use Rattle.acq_base.specs.Mirror.{MirrorMap}
+use Rattle.board_model.specs.Agreeing.{Agrees}
+use Rattle.run_jobs.proofs.Agreed.{agrees_told}
+use Rattle.run_jobs.specs.Running.{AgreesWhereKnown}
+use Rattle.update_engine.specs.Run.{Engine, ForMirror, LogIsTrue, NoneFell, Run}
+use Rattle.update_model.specs.declared.log.RunLog.{RunLog}
 
 -- ---- filters
 
@@ -36,6 +41,18 @@ each_more P Q (x ∷ xs) f each = (f x each.0, each_more P Q xs f each.1)
 pub none_fall : (counts : List ℕ) → NoneFell counts counts
 none_fall [] = tt
 none_fall (count ∷ counts) = (omega arith, none_fall counts)
+
+-- ---- what a log tells of a mirror
+
+-- of a disk that tells all of it is known
+pub answers_told : (run : Run) (before after : Engine) (log : RunLog) (logged : LogIsTrue run before after log) → IsTold after.trace → ForMirror before.mirrors (λ mirror. Agrees mirror logged.begun.parts logged.begun.config.sources logged.heard)
+answers_told run before after log logged told = by before.mirrors logged.answers
+  where
+    by : (mirrors : List (Option MirrorMap)) → ForMirror mirrors (λ mirror. AgreesWhereKnown after.trace mirror logged.begun.parts logged.begun.config.sources logged.heard)
+        → ForMirror mirrors (λ mirror. Agrees mirror logged.begun.parts logged.begun.config.sources logged.heard)
+    by [] answers = tt
+    by (None ∷ others) answers = tt
+    by (Some mirror ∷ others) answers = λ same. agrees_told after.trace mirror logged.begun.parts logged.begun.config.sources logged.heard told (answers same)
 
 -- a disk that told once still does
 pub told_on : (P : State → Type 0) (old now : List State) → Since old now P → IsTold old → IsTold now

@@ -17,7 +17,6 @@ use Rattle.acq_base.proofs.Lists.{first-or-rest}
 use Rattle.acq_outside.specs.Crash.{IsShown, State, reads}
 use Rattle.acq_outside.specs.Disk.{Files}
 use Rattle.acq_outside.specs.States.{IsTold, ToldAs}
-use Rattle.board_model.specs.Agreeing.{Agrees}
 use Rattle.board_model.specs.Boards.{Board, first_board}
 use Rattle.board_model.specs.Keys.{named}
 use Rattle.board_model.specs.Slots.{Setup}
@@ -27,6 +26,7 @@ use Rattle.journal_model.specs.Rest.{IsAtRest, part_bytes, size_below}
 use Rattle.lists_dir.specs.Installed.{installed_of, listed, lists_of}
 use Rattle.release_file.specs.declared.changing.Change.{Change}
 use Rattle.run_jobs.specs.Coupling.{HasWantedPart, HasWantedParts}
+use Rattle.run_jobs.specs.Running.{AgreesWhereKnown}
 use Rattle.update_core.specs.BoardRefinement.{config_for}
 use Rattle.update_model.specs.Next.{Keeps}
 use Rattle.update_model.specs.Outcomes.{PartFiles}
@@ -178,9 +178,9 @@ olds_are_read laws tells files (s ∷ past) olds sources sources' planned shown 
 
 -- ---- it begins
 
-none_heard : (mirror : Option MirrorMap) (parts : PartFiles) (sources : List Source) → IfSome mirror (λ mirror. Agrees mirror parts sources [])
-none_heard None parts sources = tt
-none_heard (Some mirror) parts sources = tt
+none_heard : (now : List State) (mirror : Option MirrorMap) (parts : PartFiles) (sources : List Source) → IfSome mirror (λ mirror. AgreesWhereKnown now mirror parts sources [])
+none_heard now None parts sources = tt
+none_heard now (Some mirror) parts sources = tt
 
 pub starts : BeginningLaws → (plan : Plan) (settings : Settings) (change : Change) (moment : ℤ) (together : Bool) (olds : List Old) (sizes : List (ListName × ℕ)) (now : List State) (b : Board) → IsSound plan → All IsPlanned plan.sources
     → length olds ≡ length plan.sources → ((lists : Files) → ToldAs (IsAtRest lists) now → olds ≡ map (installed_of lists) plan.sources) → (IsTold now → sizes ≡ sizes_of now plan.sources) → b ≡ first_board (config_for plan sizes settings change moment) olds 1 → StartsRun (run_of plan settings change moment together) now b
@@ -225,7 +225,7 @@ starts laws plan settings change moment together olds sizes now b sound planned 
           config = refl;
           reached = laws.reached config olds 1 each (omega arith);
           sound = tt;
-          answers = λ told. none_heard mirror (parts_at now config.sizes) plan.sources;
+          answers = none_heard now mirror (parts_at now config.sizes) plan.sources;
           counts = omega arith;
           lanes = tt;
         };

@@ -25,7 +25,8 @@ use Rattle.list_commits.specs.Made.{CommitsMade, after_all, none, rests}
 use Rattle.run_jobs.specs.Counting.{CountsUp}
 use Rattle.run_jobs.specs.declared.error.RunError.{RunError}
 use Rattle.run_jobs.specs.declared.error.RunError.TheVariants.{BadJournal, NoMemory}
-use Rattle.run_jobs.specs.Running.{RunStart, MayAsk, IsSoundBegun, IsUnderWay}
+use Rattle.run_jobs.proofs.Agreed.{heard_on, run_agrees}
+use Rattle.run_jobs.specs.Running.{AgreesWhereKnown, RunStart, MayAsk, IsSoundBegun, IsUnderWay}
 use Rattle.run_model.specs.Begun.{RunInput}
 use Rattle.run_model.specs.Groups.{Group, all_groups, commits_of}
 use Rattle.run_model.specs.Runs.{AreAllGroups, MayBeCommitted, is_told_installed}
@@ -184,12 +185,15 @@ none_heard (Some mirror) parts sources = tt
 -- no set is committed so far
 sets_none : (start : RunStart) (opened : List State) (b : Board) → IsTold opened → b.settled ≡ [] → HasCommittedSets (begun_of start) [] opened opened b
 sets_none start opened b told unsettled = record {
-  told = told;
-  commits = [];
-  made = none;
-  each = tt;
-  groups = tt;
-  order = sym (ap (filter (λ (n : ℕ). is_told_installed (slice_get b.verdicts n))) unsettled);
+  sets = record {
+    told = told;
+    commits = [];
+    made = none;
+    each = tt;
+    groups = tt;
+    order = sym (ap (filter (λ (n : ℕ). is_told_installed (slice_get b.verdicts n))) unsettled);
+  };
+  aside = record { lock = refl; parts = λ n source name is own out. inl refl };
 }
 
 -- within its jobs: one by one among its commits, and together before any
@@ -278,7 +282,7 @@ safe_ended laws run mirror mirror' others others' counts counts' count later ent
     let h : IsNewRun run mirror count opened b = starts mirror count in
     let w : RunGoesOnWith h.start [] later b c opened mid = far h.start [] h.sound h.from h.under_way in
     (stays_at NoMemory run mirror mirror' others others' counts counts' count entry opened now b ready_at h told
-    (λ is. ended_at laws NoMemory run.together h.start ([] ++ w.more) (installed_now entry) opened now log (λ told_now. w.under_way.heard.answers (back told_now))
+    (λ is. ended_at laws NoMemory run.together h.start ([] ++ w.more) (installed_now entry) opened now log (λ told_now. run_agrees h.start ([] ++ w.more) later mid w.under_way.heard (back told_now))
     (ends h.start ([] ++ w.more) later (installed_now entry) opened (cleanup_is run mirror count opened b cleanup h switch) (begun_over run mirror count later entry opened mid b c is h w unsettled)))).crash
 
 -- ---- the faults of each method
@@ -331,8 +335,9 @@ logged laws run mirror mirror' others others' counts count later entry opened mi
       of_run = h.of_run;
       heard = [] ++ w.more;
       tells = e.tells;
-      answers = λ tells. for_first mirror others (λ (m : MirrorMap). Agrees m h.start.parts h.start.config.sources ([] ++ w.more))
-          (subst (λ (o : Option MirrorMap). IfSome o (λ (m : MirrorMap). Agrees m h.start.parts h.start.config.sources ([] ++ w.more))) h.from (w.under_way.heard.answers (back tells)));
+      answers = for_first mirror others (λ (m : MirrorMap). AgreesWhereKnown now m h.start.parts h.start.config.sources ([] ++ w.more))
+          (subst (λ (o : Option MirrorMap). IfSome o (λ (m : MirrorMap). AgreesWhereKnown now m h.start.parts h.start.config.sources ([] ++ w.more))) h.from
+          (heard_on mid now h.start.mirror h.start.parts h.start.config.sources ([] ++ w.more) back w.under_way.heard.answers));
       faults = faults_rise count later counts log.asks (subst (λ (n : ℕ). CountsUp n later log.asks) h.at e.counts) e.lanes;
       commits = λ settled. finished h w (ready_at settled) (told (was_told IsSynced entry settled));
     }
@@ -350,6 +355,8 @@ logged laws run mirror mirror' others others' counts count later entry opened mi
           same = e.same;
           made = e.made;
           rests = told_as (IsAtRest (after_all (commits_of e.commits) (installed_now entry))) now (laws.leaves (commits_of e.commits) (installed_now entry) opened now e.made is.opens.rests) tells;
+          aside = e.aside;
+          gone = e.gone;
         }
 
 -- each entry is of the first method

@@ -12,11 +12,14 @@ use Rattle.journal_model.specs.Rest.{IsIdle, KeptAtRestSince}
 use Rattle.commit_journal.proofs.Fills.{idle_on, rests_on}
 use Rattle.list_commits.specs.Made.{rests}
 use Rattle.run_jobs.specs.declared.error.RunError.{RunError}
+use Rattle.run_jobs.proofs.Agreed.{run_agrees}
+use Rattle.run_jobs.specs.OnTheWay.{KeepsAllButParts, StaysOnItsWay}
 use Rattle.run_jobs.specs.Running.{RunStart, JobKeepsRunGoing, RunHasHeard, MayAsk, IsUnderWay, SameBoard}
 use Rattle.run_model.specs.Groups.{all_groups, commits_of}
 use Rattle.run_jobs.proofs.Keeping.{told_back}
 use Rattle.update_engine.proofs.Known.{CommittingLaws}
-use Rattle.update_engine.specs.Session.{KeepsRunGoing, RunGoesOn, HasCommittedSets, HasProgress, MayCommit, StopsBetweenAsks, StopsWhileAsking, begun_of}
+use Rattle.update_engine.specs.Session.{KeepsRunGoing, RunGoesOn, HasCommittedSets, HasMadeSets, HasProgress, MayCommit, StopsBetweenAsks, StopsWhileAsking, begun_of, installed_in}
+use Rattle.update_engine.proofs.Beside.{aside_asked, aside_same}
 use Rattle.update_engine.proofs.Committing.{has_begun, settled_made}
 use Rattle.update_engine.proofs.Lists.{told_on}
 
@@ -82,26 +85,36 @@ far_aside mirror count mid_count b c d old mid now far aside = λ start notes so
     }
 
 -- the sets stand behind a job
-sets_asked : CommittingLaws → (start : RunStart) (notes more : List Note) (opened : List State) (b c : Board) (old now : List State) → IsNow IsIdle old → Since old now (KeptAtRestSince old) → SameBoard b c
+same_installed : (b c : Board) → SameBoard b c → installed_in c ≡ installed_in b
+same_installed b c same = rw (same.settled, same.verdicts) refl
+
+sets_asked : CommittingLaws → (start : RunStart) (notes more : List Note) (opened : List State) (b c : Board) (old now : List State) → IsNow IsIdle old → Since old now (KeptAtRestSince old) → KeepsAllButParts old now
+    → (IsTold now → (name : List ℕ) → StaysOnItsWay start.config.sources more old now name) → SameBoard b c
     → HasCommittedSets (begun_of start) notes opened old b → HasCommittedSets (begun_of start) (notes ++ more) opened now c
-sets_asked laws start notes more opened b c old now idle since same sets = record {
-  told = told_on (KeptAtRestSince old) old now since sets.told;
-  commits = sets.commits;
-  made = rests sets.made idle since;
-  each = sets.each;
-  groups = laws.stay (begun_of start) notes more (all_groups sets.commits) sets.groups;
-  order = rw (same.settled, same.verdicts) sets.order;
-}
+sets_asked laws start notes more opened b c old now idle since others left same sets =
+    let told = told_on (KeptAtRestSince old) old now since sets.told in
+    record {
+      sets = record {
+        told = told;
+        commits = sets.commits;
+        made = rests sets.made idle since;
+        each = sets.each;
+        groups = laws.stay (begun_of start) notes more (all_groups sets.commits) sets.groups;
+        order = rw (same.settled, same.verdicts) sets.order;
+      };
+      aside = aside_same start.config.sources (installed_in b) (installed_in c) (notes ++ more) opened now (same_installed b c same)
+          (aside_asked start.config.sources (installed_in b) notes more opened old now others (left told) sets.aside);
+    }
 
 pub far_asked : CommittingLaws → (mirror here : Option MirrorMap) (count mid_count later : ℕ) (b c d : Board) (old mid now : List State) → here ≡ mirror → RunGoesOn mirror count mid_count b c old mid → IsNow IsIdle mid
-    → Since mid now (KeptAtRestSince mid) → SameBoard c d → JobKeepsRunGoing here mid_count later c d mid now → RunGoesOn mirror count later b d old now
-far_asked laws mirror here count mid_count later b c d old mid now world far idle since same goes = λ start notes sound from under.
+    → Since mid now (KeptAtRestSince mid) → KeepsAllButParts mid now → SameBoard c d → JobKeepsRunGoing here mid_count later c d mid now → RunGoesOn mirror count later b d old now
+far_asked laws mirror here count mid_count later b c d old mid now world far idle since others same goes = λ start notes sound from under.
     let w = far start notes sound from under in
     let v = goes start (notes ++ w.more) sound (from ∙ sym world) w.under_way in
     record {
       more = w.more ++ v.more;
       under_way = with_more notes w.more v.more v.under_way;
-      sets = λ opened sets. sets_more start notes w.more v.more (sets_asked laws start (notes ++ w.more) v.more opened c d mid now idle since same (w.sets opened sets));
+      sets = λ opened sets. sets_more start notes w.more v.more (sets_asked laws start (notes ++ w.more) v.more opened c d mid now idle since others v.left same (w.sets opened sets));
     }
 
 -- a run that was ready is so after a job
@@ -121,7 +134,7 @@ ready_asked mirror later_mirror count later b c old now same ready since goes =
 -- ---- where it stops
 
 -- all sets so far are made
-pub at_moment : CommittingLaws → (error : RunError) (start : RunStart) (notes : List Note) (count : ℕ) (lists : Files) (opened : List State) (b : Board) (old now : List State) → RunHasHeard start notes count b old → (IsTold now → IsTold old) → HasCommittedSets (begun_of start) notes opened now b
+pub at_moment : CommittingLaws → (error : RunError) (start : RunStart) (notes : List Note) (count : ℕ) (lists : Files) (opened : List State) (b : Board) (old now : List State) → RunHasHeard start notes count b old → (IsTold now → IsTold old) → HasMadeSets (begun_of start) notes opened now b
     → HasProgress error start false lists opened now
 unfolding has_begun
 at_moment laws error start notes count lists opened b old now heard back sets = record {
@@ -131,7 +144,7 @@ at_moment laws error start notes count lists opened b old now heard back sets = 
   progress = laws.made (commits_of sets.commits) opened now sets.made;
   whole = λ dry. refl;
   has = has_begun start notes count b old lists sets.commits heard sets.each sets.groups sets.order;
-  agrees = λ told. heard.answers (back told);
+  agrees = λ told. run_agrees start notes count old heard (back told);
   synced = λ rest. settled_made laws (commits_of sets.commits) lists opened now sets.made rest;
 }
 

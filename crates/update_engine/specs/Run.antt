@@ -15,20 +15,23 @@ use Rattle.board_model.specs.Reached.{Reached}
 use Rattle.board_model.specs.Runs.{Note}
 use Rattle.commit_journal.specs.Opening.{IsOfOpening, KeepsFilesBut, Recovers, damage_of}
 use Rattle.commit_journal.specs.Runs.{CommitProgress}
-use Rattle.journal_model.specs.Names.{journal}
+use Rattle.journal_model.specs.Names.{journal, lock}
 use Rattle.journal_model.specs.Reopen.{installed_now}
-use Rattle.journal_model.specs.Rest.{IsAtRest, IsSynced, part_bytes, size_below}
+use Rattle.journal_model.specs.Rest.{IsAtRest, IsSynced, file_now, part_bytes, size_below}
+use Rattle.list_commits.specs.Loose.{NoneIsLoose}
 use Rattle.list_commits.specs.Made.{CommitsMade, after_all}
 use Rattle.lists_dir.specs.Installed.{installed_of}
 use Rattle.release_file.specs.declared.changing.Change.{Change}
 use Rattle.update_model.specs.declared.log.Asked.{Asked}
 use Rattle.update_model.specs.declared.log.RunLog.{RunLog}
 use Rattle.run_jobs.specs.Counting.{CountsUp, counted_on}
+use Rattle.run_jobs.specs.OnTheWay.{PartsStay}
+use Rattle.run_jobs.specs.Running.{AgreesWhereKnown}
 use Rattle.run_jobs.specs.declared.error.RunError.{RunError}
 use Rattle.run_jobs.specs.declared.error.RunError.TheVariants.{BadJournal, DiskFault, NoMemory}
 use Rattle.run_model.specs.Begun.{RunInput, ReadsPlanned}
 use Rattle.run_model.specs.Groups.{Group, commits_of}
-use Rattle.run_model.specs.Runs.{MayBeStopped, HasRun, cleans_up}
+use Rattle.run_model.specs.Runs.{MayBeStopped, HasRun, cleans_up, installed_by}
 
 -- what is asked of a run
 pub record Run : Type 0 where
@@ -164,7 +167,14 @@ pub record IsLogOfBoard (begun : RunInput) (heard : List Note) (log : RunLog) : 
   pub asks : log.asks ≡ board.asks
   pub kept : cleans_up begun.config.settings log.verdicts ≡ false → log.removed ≡ []
 
--- All commits of the run are made since the journal was open, and the disk is at rest with the lists after them.
+-- Since the journal was open the hold's file stays, and each list on its way is as it was or as an answer left it, but for
+-- those of the sources that are installed.
+pub record KeepsAside (sources : List Source) (installed : List ℕ) (heard : List Note) (opened now : List State) : Type 0 where
+  pub lock : file_now now lock ≡ file_now opened lock
+  pub parts : PartsStay sources installed heard opened now
+
+-- All commits of the run are made since the journal was open, and the disk is at rest with the lists after them. What lies
+-- beside the lists stays, and where names of no source go none of them is left.
 pub record HasFinished (run : Run) (begun : RunInput) (heard : List Note) (entry now : List State) (log : RunLog) : Type 0 where
   pub opened : List State
   pub opens : HasOpenedJournal entry opened
@@ -174,15 +184,17 @@ pub record HasFinished (run : Run) (begun : RunInput) (heard : List Note) (entry
   pub same : ran.heard ≡ heard
   pub made : CommitsMade (commits_of commits) opened now
   pub rests : ToldAs (IsAtRest (after_all (commits_of commits) (installed_now entry))) now
+  pub aside : KeepsAside begun.config.sources (installed_by log) heard opened now
+  pub gone : cleans_up begun.config.settings log.verdicts ≡ true → IsNow (λ s. NoneIsLoose begun.config.sources (reads s)) now
 
--- The log tells what the run heard, and each answer is the mirror's or a fault. Over a disk that tells and was synced, the
--- run's commits are all made.
+-- The log tells what the run heard, and each answer that is known is the mirror's or a fault. Over a disk that tells and was
+-- synced, the run's commits are all made.
 pub record LogIsTrue (run : Run) (before after : Engine) (log : RunLog) : Type 0 where
   pub begun : RunInput
   pub of_run : IsConfiguredBy run begun
   pub heard : List Note
   pub tells : IsLogOfBoard begun heard log
-  pub answers : IsTold after.trace → ForMirror before.mirrors (λ mirror. Agrees mirror begun.parts begun.config.sources heard)
+  pub answers : ForMirror before.mirrors (λ mirror. AgreesWhereKnown after.trace mirror begun.parts begun.config.sources heard)
   pub faults : FaultsRise before.faults after.faults log.asks
   pub commits : ToldAs IsSynced before.trace → HasFinished run begun heard before.trace after.trace log
 

@@ -3,7 +3,7 @@ use Rattle.std.specs.Prelude.{◌≡◌, ◌<◌, ◌&&◌, ℕ, Bool, true, fal
 use Rattle.std.specs.List.{AllByRecursion as Each, list_all}
 use Rattle.acq_base.specs.Mirror.{MirrorMap}
 use Rattle.acq_base.specs.declared.plan.Source.{Source}
-use Rattle.acq_outside.specs.Crash.{State}
+use Rattle.acq_outside.specs.Crash.{State, reads}
 use Rattle.acq_outside.specs.Disk.{Files}
 use Rattle.acq_outside.specs.States.{IsTold, IsNow, ToldAs}
 use Rattle.board_model.specs.Agreeing.{Agrees}
@@ -16,7 +16,7 @@ use Rattle.commit_journal.specs.declared.changing.Change.{Change}
 use Rattle.journal_model.specs.Reopen.{installed_now}
 use Rattle.journal_model.specs.Rest.{IsAtRest, IsIdle, IsSynced, part_bytes}
 use Rattle.list_commits.specs.Changes.{changes_for}
-use Rattle.list_commits.specs.Loose.{removed_names}
+use Rattle.list_commits.specs.Loose.{NoneIsLoose, removed_names}
 use Rattle.list_commits.specs.Made.{CommitsMade}
 use Rattle.list_commits.specs.RecordLaws.{IsSyncedPart, names_of_group}
 use Rattle.list_commits.specs.SetLaws.{HasPutNames, HaveSums, OwnsChanges}
@@ -25,10 +25,10 @@ use Rattle.run_jobs.specs.Running.{RunStart, IsSoundBegun, IsUnderWay}
 use Rattle.run_jobs.specs.declared.error.RunError.{RunError}
 use Rattle.run_jobs.specs.declared.error.RunError.TheVariants.{NoMemory}
 use Rattle.run_model.specs.Begun.{RunInput}
-use Rattle.update_engine.specs.Run.{IsConfiguredBy, IsReadFromDisk, Run, IsLogOfBoard}
+use Rattle.update_engine.specs.Run.{IsConfiguredBy, IsReadFromDisk, KeepsAside, Run, IsLogOfBoard}
 use Rattle.run_model.specs.Groups.{Group, SetOf, AreGroups, CameToOnBoard, all_groups, commits_of, sources_in}
 use Rattle.run_model.specs.Begun.{ReadsPlanned}
-use Rattle.run_model.specs.Runs.{AreRising, MayBeStopped, HasRun, is_installed, is_kept, is_told_installed}
+use Rattle.run_model.specs.Runs.{AreRising, MayBeStopped, HasRun, cleans_up, installed_by, is_installed, is_kept, is_told_installed}
 use Rattle.update_model.specs.declared.log.RunLog.{RunLog}
 use Rattle.update_model.specs.declared.settled.Held.{Held}
 use Rattle.update_model.specs.declared.settled.Settled.{Settled}
@@ -52,13 +52,19 @@ pub record CommitsOneSource (groups : List Group) : Type 0 where
   pub is : groups ≡ SetOf n changes ∷ []
 
 -- The sets of the sources that were settled as installed are committed, one by one and in that order.
-pub record HasCommittedSets (begun : RunInput) (heard : List Note) (opened now : List State) (b : Board) : Type 0 where
+pub record HasMadeSets (begun : RunInput) (heard : List Note) (opened now : List State) (b : Board) : Type 0 where
   pub told : IsTold now
   pub commits : List (List Group)
   pub made : CommitsMade (commits_of commits) opened now
   pub each : Each CommitsOneSource commits
   pub groups : AreGroups begun heard (all_groups commits)
   pub order : sources_in (all_groups commits) ≡ installed_in b
+
+-- And what lies beside the lists stays.
+pub record HasCommittedSets (begun : RunInput) (heard : List Note) (opened now : List State) (b : Board) : Type 0 where
+  pub sets : HasMadeSets begun heard opened now b
+  pub open sets use *
+  pub aside : KeepsAside begun.config.sources (installed_in b) heard opened now
 
 -- The commits of a run over these lists are made one after another since the journal was open: so many are acknowledged and
 -- so many begun, and as many where it stops for want of memory. Where the disk was at rest then, it is synced.
@@ -205,6 +211,7 @@ pub record HasCommittedAllBut (together : Bool) (start : RunStart) (notes : List
   pub order : installed_in b ≡ sources_in (all_groups commits) ++ numbers_of picks
   pub first : together ≡ true → commits ≡ []
   pub alone : together ≡ false → picks ≡ []
+  pub aside : KeepsAside start.config.sources (installed_in b) notes opened now
 
 -- what is left to be committed of a run that is under way: the changes of these sources
 pub record HasUncommitted (together : Bool) (start : RunStart) (notes : List Note) (count : ℕ) (before : Board) (old now : List State) (b : Board) (groups : List (List Change)) : Type 0 where
@@ -236,12 +243,15 @@ StopsWhileEnding error together cleanup b old now =
     (start : RunStart) (notes : List Note) (count : ℕ) (lists : Files) (opened : List State) → start.config.settings.cleanup ≡ cleanup
     → RunsOverLists together start notes count lists opened old b → HasProgress error start together lists opened now
 
--- all commits of a run over these lists are made, and this is its log
+-- all commits of a run over these lists are made, and this is its log; what lies beside the lists stays, but for what the
+-- clean-up takes
 pub record HasCommittedAll (together : Bool) (start : RunStart) (notes : List Note) (lists : Files) (opened now : List State) (log : RunLog) : Type 0 where
   pub commits : List (List Group)
   pub ran : HasRun together (begun_of start) lists log commits
   pub same : ran.heard ≡ notes
   pub made : CommitsMade (commits_of commits) opened now
+  pub aside : KeepsAside start.config.sources (installed_by log) notes opened now
+  pub gone : cleans_up start.config.settings log.verdicts ≡ true → IsNow (λ s. NoneIsLoose start.config.sources (reads s)) now
 
 -- so are those of each such run
 abbrev pub CommitsAll : Bool → Bool → Board → List State → List State → RunLog → Type 0

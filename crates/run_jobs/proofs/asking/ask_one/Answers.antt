@@ -4,6 +4,7 @@ use Rattle.std.proofs.Common.{◌∙◌, ap, arith, length, refl, sym}
 use Rattle.update_core.specs.BoardRefinement.{board_of}
 use Rattle.run_jobs.proofs.Keeping.{moments_of}
 use Rattle.run_jobs.proofs.Idle.{nothing_asked}
+use Rattle.run_jobs.proofs.OnTheWay.{others_of}
 use Rattle.run_jobs.proofs.OneJob.{can_fetch, goes_idle, goes_job, one_more}
 use Rattle.run_jobs.proofs.asking.ask_one.Goals as goal
 
@@ -25,12 +26,21 @@ returns-in_err-absorb-in-Some-clause-moments g c = moments_of _ _ _ c.fetch.ensu
 pub returns-in_ok-absorb-in-Some-clause-moments : goal.returns-in_ok-absorb-in-Some-clause-moments
 returns-in_ok-absorb-in-Some-clause-moments g c = moments_of _ _ _ c.fetch.ensures.fetched
 
+pub returns-in_err-closed-in-Some-clause-others : goal.returns-in_err-closed-in-Some-clause-others
+returns-in_err-closed-in-Some-clause-others g c = others_of _ _ _ c.fetch.ensures.fetched
+
+pub returns-in_err-absorb-in-Some-clause-others : goal.returns-in_err-absorb-in-Some-clause-others
+returns-in_err-absorb-in-Some-clause-others g c = others_of _ _ _ c.fetch.ensures.fetched
+
+pub returns-in_ok-absorb-in-Some-clause-others : goal.returns-in_ok-absorb-in-Some-clause-others
+returns-in_ok-absorb-in-Some-clause-others g c = others_of _ _ _ c.fetch.ensures.fetched
+
 pub returns-in_ok-absorb-in-Some-clause-goes : goal.returns-in_ok-absorb-in-Some-clause-goes
 returns-in_ok-absorb-in-Some-clause-goes g c =
     goes_job
     (record { stand = boards_stand; issued = issued_boards_are_reached; absorbed = absorbed_boards_are_reached; rest = absorbed_boards_want_parts; asks = staged_asks_are_wanted; fetched = asks_may_be_fetched; put = planned_names_are_put_names })
     _ _ _ _ (board_of c.issue.new.self) _ c.in-Some.job c.in_ok-closed-in-Some.closed _ _ (sym c.in_ok-issue.ensures.job ∙ c.in-Some.is) c.in_ok-issue.ensures.board c.in_ok-absorb-in-Some.ensures
-    c.fetch.ensures.fetched c.in_ok-closed-in-Some.ensures.kept c.in_ok-closed-in-Some.ensures.comes c.in_ok-closed-in-Some.ensures.answers c.in_ok-closed-in-Some.ensures.counted c.fetch.ensures.method.count c.in_ok-closed-in-Some.ensures.sound
+    c.fetch.ensures.fetched c.in_ok-closed-in-Some.ensures.kept c.in_ok-closed-in-Some.ensures.comes c.in_ok-closed-in-Some.ensures.left c.in_ok-closed-in-Some.ensures.answers c.in_ok-closed-in-Some.ensures.counted c.fetch.ensures.method.count c.in_ok-closed-in-Some.ensures.sound
 
 pub returns-in_ok-absorb-in-Some-clause-more : goal.returns-in_ok-absorb-in-Some-clause-more
 returns-in_ok-absorb-in-Some-clause-more g c = λ yes. one_more

@@ -49,3 +49,6 @@ returns-clause-ended g c = ends_all commits_known _ _ (board_of c.args.board) (b
     (g.D.Disk.tells c.settle_last.new.disk) c.in_ok-groups.groups c.add_clean_up.new.groups c.in_ok-loose.loose c.sources.result.now c.end_board-log.result c.add_clean_up.new.log
     (leaves_on _ (board_of c.args.board) (board_of c.settle_last.new.board) _ _ _ c.in_ok-groups.groups c.loose_names.ensures.frame.still c.in_ok-groups.ensures.leaves) c.end_board-log.ensures.finished c.sources.ensures c.in_ok-loose.ensures.told
     (shown_on _ _ _ _ c.loose_names.ensures.frame.still (g.met.D.Disk.shown c.settle_last.new.disk)) c.in_ok-add_clean_up.ensures.groups c.end_board-log.ensures.log c.in_ok-add_clean_up.ensures.log c.commit_last.ensures.none c.in_ok-commit_last.ensures.done
+    (can_last commits_known _ (board_of c.args.board) (board_of c.settle_last.new.board) _ _ c.in_ok-groups.groups c.add_clean_up.new.groups c.args.cleanup c.end_board-log.result.verdicts c.in_ok-loose.loose c.requires.stands
+    c.in_ok-groups.ensures.leaves c.in_ok-loose.ensures.sorted (subst (λ (sources : List Source). All (IsLoose sources) c.in_ok-loose.loose) c.sources.ensures c.in_ok-loose.ensures.loose) c.in_ok-loose.ensures.named c.in_ok-loose.ensures.few c.in_ok-add_clean_up.ensures.groups)
+    c.commit_last.ensures.others c.in_ok-commit_last.ensures.gone

@@ -37,13 +37,13 @@ returns-then-not-branch-clause-idle g c = idle_after _ _ c.in_ok-install_between
 pub returns-then-not-branch-clause-goes : goal.returns-then-not-branch-clause-goes
 returns-then-not-branch-clause-goes g c = far_asked commits_known _ _ _ _ _ _ (board_of c.install_between.new.board) _ _ _ _ c.asks.invariant.method.same
     (far_aside _ _ _ _ (board_of c.asks.board) _ _ _ _ c.asks.invariant.goes c.in_ok-install_between.ensures.goes) c.in_ok-install_between.ensures.idle c.ask_one.ensures.moments
-    c.in_ok-ask_one.ensures.same c.in_ok-ask_one.ensures.goes
+    c.ask_one.ensures.others c.in_ok-ask_one.ensures.same c.in_ok-ask_one.ensures.goes
 
 pub asks-preserved : goal.asks-preserved
 asks-preserved g c = record {
   goes = far_asked commits_known _ _ _ _ _ _ (board_of c.install_between.new.board) _ _ _ _ c.asks.invariant.method.same
       (far_aside _ _ _ _ (board_of c.asks.board) _ _ _ _ c.asks.invariant.goes c.in_ok-install_between.ensures.goes) c.in_ok-install_between.ensures.idle c.ask_one.ensures.moments
-      c.in_ok-ask_one.ensures.same c.in_ok-ask_one.ensures.goes;
+      c.ask_one.ensures.others c.in_ok-ask_one.ensures.same c.in_ok-ask_one.ensures.goes;
   ready = ready_asked _ _ _ _ _ _ _ _ c.ask_one.ensures.method.same
       (ready_aside _ _ (board_of c.asks.board) _ _ _ c.asks.invariant.ready c.in_ok-install_between.ensures.goes c.in_ok-install_between.ensures.idle) c.ask_one.ensures.moments c.in_ok-ask_one.ensures.goes;
   bare = λ together. bare_round _ _ _ _ (c.asks.invariant.bare together) (c.install_between.ensures.bare together) c.ask_one.ensures.moments;

@@ -1,0 +1,80 @@
+-- What a run has heard of a mirror, while the disk's states go on.
+use Rattle.std.proofs.Common.{◌≡◌, ℕ, Bool, true, false, if◌then◌else◌, List, [], ◌∷◌, ◌++◌, length, subst, take, drop, Option, Some, None, IfSome}
+use Rattle.std.specs.Prelude.{nat_le, nat_lt, ◌&&◌}
+use Rattle.std.specs.List.{AllByRecursion as Each}
+use Rattle.acq_base.specs.Mirror.{MirrorMap}
+use Rattle.acq_base.specs.declared.fetch.Answer.{Answer}
+use Rattle.acq_base.specs.declared.fetch.Answer.TheVariants as answers
+use Rattle.acq_base.specs.declared.fetch.NotServed.{NotServed}
+use Rattle.acq_base.specs.declared.fetch.NotServed.TheVariants as nots
+use Rattle.acq_base.specs.declared.plan.Source.{Source}
+use Rattle.acq_outside.specs.Crash.{State}
+use Rattle.acq_outside.specs.States.{IsTold}
+use Rattle.board_model.specs.Agreeing.{Agrees, IsMirrors}
+use Rattle.board_model.specs.Runs.{Note}
+use Rattle.update_model.specs.Outcomes.{PartFiles}
+use Rattle.update_model.specs.Trails.{IsFaultOr, answered, body_for}
+use Rattle.update_model.specs.declared.ask.Ask.{Ask}
+use Rattle.update_model.specs.declared.ask.Body.TheVariants as bodies
+use Rattle.update_model.specs.declared.ask.Closed.{Closed}
+use Rattle.update_model.specs.declared.ask.Closed.TheVariants as closings
+use Rattle.run_jobs.specs.Running.{AgreesWhereKnown, IsKnownOver, RunHasHeard, RunStart}
+
+-- what is known where a disk tells is known so while it tells
+known_back : (old now : List State) (closed : Closed) → (IsTold now → IsTold old) → IsKnownOver now closed → IsKnownOver old closed
+known_back old now (closings.Served (bodies.Bytes bytes)) back known = tt
+known_back old now (closings.Served (bodies.Staged sum)) back known = back known
+known_back old now (closings.Not end) back known = tt
+
+pub agrees_on : (old now : List State) (mirror : MirrorMap) (parts : PartFiles) (sources : List Source) (notes : List Note) → (IsTold now → IsTold old) → AgreesWhereKnown old mirror parts sources notes → AgreesWhereKnown now mirror parts sources notes
+agrees_on old now mirror parts sources [] back agrees = tt
+agrees_on old now mirror parts sources (note ∷ notes) back agrees = (λ known. agrees.0 (known_back old now note.told.closed back known), agrees_on old now mirror parts sources notes back agrees.1)
+
+pub heard_on : (old now : List State) (mirror : Option MirrorMap) (parts : PartFiles) (sources : List Source) (notes : List Note) → (IsTold now → IsTold old) → IfSome mirror (λ m. AgreesWhereKnown old m parts sources notes)
+    → IfSome mirror (λ m. AgreesWhereKnown now m parts sources notes)
+heard_on old now None parts sources notes back agrees = tt
+heard_on old now (Some mirror) parts sources notes back agrees = agrees_on old now mirror parts sources notes back agrees
+
+-- where the disk tells, all is known
+known_told : (now : List State) (closed : Closed) → IsTold now → IsKnownOver now closed
+known_told now (closings.Served (bodies.Bytes bytes)) told = tt
+known_told now (closings.Served (bodies.Staged sum)) told = told
+known_told now (closings.Not end) told = tt
+
+pub agrees_told : (now : List State) (mirror : MirrorMap) (parts : PartFiles) (sources : List Source) (notes : List Note) → IsTold now → AgreesWhereKnown now mirror parts sources notes → Agrees mirror parts sources notes
+agrees_told now mirror parts sources [] told agrees = tt
+agrees_told now mirror parts sources (note ∷ notes) told agrees = (agrees.0 (known_told now note.told.closed told), agrees_told now mirror parts sources notes told agrees.1)
+
+pub heard_told : (now : List State) (mirror : Option MirrorMap) (parts : PartFiles) (sources : List Source) (notes : List Note) → IsTold now → IfSome mirror (λ m. AgreesWhereKnown now m parts sources notes)
+    → IfSome mirror (λ m. Agrees m parts sources notes)
+heard_told now None parts sources notes told agrees = tt
+heard_told now (Some mirror) parts sources notes told agrees = agrees_told now mirror parts sources notes told agrees
+
+pub run_agrees : (start : RunStart) (notes : List Note) (count : ℕ) {b : _} (now : List State) → RunHasHeard start notes count b now → IsTold now → IfSome start.mirror (λ m. Agrees m start.parts start.config.sources notes)
+run_agrees start notes count now heard told = heard_told now start.mirror start.parts start.config.sources notes told heard.answers
+
+-- ---- an answer that serves nothing
+
+abbrev IsNot : Closed → Type 0
+IsNot (closings.Served body) = ⊥
+IsNot (closings.Not end) = Unit {0}
+
+-- a mirror's is the same beside any bytes of the file on its way
+same_not : (closed : Closed) (p q : List ℕ) (ask : Ask) (answer : Answer) → IsNot closed → closed ≡ answered p ask answer → closed ≡ answered q ask answer
+same_not closed p q ask (answers.Moved place) isnt e = e
+same_not closed p q ask (answers.Absent status) isnt e = e
+same_not closed p q ask (answers.Served bytes) isnt e = by (nat_le (length bytes) ask.max) (nat_lt 0 ask.from && nat_le (length bytes) ask.from) e
+  where
+    by : (fits beyond : Bool)
+        → closed ≡ (if fits then (if beyond then closings.Not (nots.Absent 416) else closings.Served (body_for ask.stage (take ask.from p ++ drop ask.from bytes))) else closings.Not nots.TooBig)
+        → closed ≡ (if fits then (if beyond then closings.Not (nots.Absent 416) else closings.Served (body_for ask.stage (take ask.from q ++ drop ask.from bytes))) else closings.Not nots.TooBig)
+    by false beyond e = e
+    by true true e = e
+    by true false e = absurd (subst IsNot e isnt)
+
+pub says_not : (end : NotServed) (p q : List ℕ) (ask : Ask) (answer : Answer) → IsFaultOr (closings.Not end) (answered p ask answer) → IsFaultOr (closings.Not end) (answered q ask answer)
+says_not (nots.Fault before after) p q ask answer says = tt
+says_not (nots.Moved place) p q ask answer says = same_not (closings.Not (nots.Moved place)) p q ask answer tt says
+says_not (nots.Absent status) p q ask answer says = same_not (closings.Not (nots.Absent status)) p q ask answer tt says
+says_not nots.TooBig p q ask answer says = same_not (closings.Not nots.TooBig) p q ask answer tt says
+says_not (nots.Garbled at) p q ask answer says = same_not (closings.Not (nots.Garbled at)) p q ask answer tt says
