@@ -81,15 +81,15 @@ IsAtRestAfter groups steps old s = (folder : Files) → IsNow (IsPreparedOver gr
 abbrev pub KeepsUnchangedFiles : List (List Change) → List State → List State → Type 0
 KeepsUnchangedFiles groups old new = (other : List ℕ) → other ≢ journal → IsNone other (all_changed_names groups) → file_now new other ≡ file_now old other
 
--- what these changes remove is no file's
-abbrev pub DropsAreGone : List Change → Files → Type 0
-DropsAreGone [] files = Unit {0}
-DropsAreGone (Put name content ∷ changes) files = DropsAreGone changes files
-DropsAreGone (Drop name ∷ changes) files = (files name ≡ None) × DropsAreGone changes files
+-- what these changes move to its name or remove is no file's any more
+abbrev pub AreGone : List Change → Files → Type 0
+AreGone [] files = Unit {0}
+AreGone (Put name content ∷ changes) files = (files (partial name.0) ≡ None) × AreGone changes files
+AreGone (Drop name ∷ changes) files = (files name ≡ None) × AreGone changes files
 
 -- so it is of all groups, as reads give it
-abbrev pub ReadsNoDropped : List (List Change) → State → Type 0
-ReadsNoDropped groups s = DropsAreGone (all_changes groups) (reads s)
+abbrev pub ReadsAllGone : List (List Change) → State → Type 0
+ReadsAllGone groups s = AreGone (all_changes groups) (reads s)
 
 -- the disk's clock has gone on, where it is told
 abbrev pub HasMoreStates : List State → List State → Type 0

@@ -6,7 +6,7 @@ ghost use Rattle.journal_model.specs.Spelling.{all_steps};
 ghost use Rattle.journal_model.specs.Rest.{IsIdle, IsSynced, part_bytes};
 ghost use Rattle.commit_journal.specs.Opening.{KeepsFilesBut};
 ghost use Rattle.commit_journal.specs.Changes.{filled_all, steps_in};
-ghost use Rattle.commit_journal.specs.Commits.{IsPrepared, CrashLeavesBeforeOrAfter, CommitsAtWrite, IsAtRestAfter, KeepsUnchangedFiles, ReadsNoDropped, HasMoreStates};
+ghost use Rattle.commit_journal.specs.Commits.{IsPrepared, CrashLeavesBeforeOrAfter, CommitsAtWrite, IsAtRestAfter, KeepsUnchangedFiles, ReadsAllGone, HasMoreStates};
 ghost use Rattle.commit_journal.specs.Phases.{IsCarrying, IsOfCommit};
 ghost use Rattle.commit_journal.specs.Turning.{IsOpening, IsGateWritten, CommitsOnceSynced, IsGateSynced};
 ghost use Rattle.commit_journal.specs.Moves.{Recovering};
@@ -78,7 +78,7 @@ fn carry_out<D: Disk>(disk: &mut D, prepared: &Prepared) -> Result<(), Fault>
     requires { IsNow (IsCarrying (all_steps (steps_in prepared.now.groups)) []) (D.trace disk.old) }
     ensures frame { Stays D.Disk disk.old disk.new result }
     ensures moves { Recovering (IsOfCommit (all_steps (steps_in prepared.now.groups))) IsIdle D.Disk disk.old disk.new result }
-    ensures gone { OnOk result (IsNow (ReadsNoDropped prepared.now.groups) (D.trace disk.new)) }
+    ensures gone { OnOk result (IsNow (ReadsAllGone prepared.now.groups) (D.trace disk.new)) }
 {
     recover(disk, prepared.steps.as_slice())
 }
@@ -87,7 +87,7 @@ fn carry_out<D: Disk>(disk: &mut D, prepared: &Prepared) -> Result<(), Fault>
 /// before the gate is open a crash leaves the lists before the commit, and from then on, once the journal is opened
 /// again, those after it. It takes no memory.
 ///
-/// What it removes is no file's any more. The disk stands as that `prepare` left it. `DiskFault` only where the disk's count of faults rose; the journal must
+/// What it moves to its name or removes is no file's any more. The disk stands as that `prepare` left it. `DiskFault` only where the disk's count of faults rose; the journal must
 /// then be opened again.
 pub fn commit<D: Disk>(
     _journal: &mut Journal,
@@ -110,7 +110,7 @@ pub fn commit<D: Disk>(
     ensures later { OnOk result (HasMoreStates (D.trace disk.old) (D.trace disk.new)) }
     ensures synced { IsNow IsSynced (D.trace disk.old) → IsNow IsSynced (D.trace disk.new) }
     ensures others { KeepsUnchangedFiles prepared.groups (D.trace disk.old) (D.trace disk.new) }
-    ensures gone { OnOk result (IsNow (ReadsNoDropped prepared.groups) (D.trace disk.new)) }
+    ensures gone { OnOk result (IsNow (ReadsAllGone prepared.groups) (D.trace disk.new)) }
 {
     open_gate(disk, &prepared)?;
     carry_out(disk, &prepared)?;

@@ -38,11 +38,10 @@ use Rattle.board_model.proofs.Askers.{asker-asks}
 use Rattle.board_bounds.proofs.Walking.{at_all}
 use Rattle.run_jobs.specs.Coupling.{HasWantedParts}
 use Rattle.run_jobs.specs.Fetching.{Answers, CanFetch, ComesTo, IsFetched, KeepsBytes, LeavesPart, RestsOnDisk, front_of}
-use Rattle.run_jobs.specs.OnTheWay.{list_of}
 use Rattle.run_jobs.specs.Running.{AgreesWhereKnown, RunStart, JobKeepsRunGoing, JobAddsNotes, RunHasHeard, MayAsk, IsKnownOver, IsSoundBegun, IsUnderWay}
 use Rattle.run_jobs.proofs.Agreed.{agrees_on, says_not}
 use Rattle.run_jobs.proofs.Keeping.{front_is, keep_of, moments_of, told_back, uses_after}
-use Rattle.run_jobs.proofs.OnTheWay.{job_leaves}
+use Rattle.run_jobs.proofs.OnTheWay.{IsNoteOf, job_leaves, job_touches}
 use Rattle.run_jobs.proofs.StagedLists.{staged_named}
 use Rattle.run_jobs.proofs.Telling.{answered_front, counts_last, each_last, sound_answer}
 
@@ -257,11 +256,11 @@ heard_one laws begun notes b job staged before after old now closed j uses heard
         (λ known. mirrors_note begun b job staged old now closed 0 j heard.config uses back did.comes known mirror (says (rests_on_disk staged now closed did.comes known)).told)
 
 -- the list whose file the job fetches is its item's
-own_list : (begun : RunStart) (b : Board) (job : Job) (staged : Option ListName) → (j : IsJob b job staged) → b.config ≡ begun.config → IfSome staged (λ name. list_of begun.config.sources j.a.key ≡ Some name.0)
-own_list begun b job None j config = tt
-own_list begun b job (Some name) j config =
+own_note : (begun : RunStart) (b : Board) (job : Job) (staged : Option ListName) (told : LaneAnswer) → (j : IsJob b job staged) → b.config ≡ begun.config → j.a.ask.from ≡ job.from → IsNoteOf begun.config.sources staged job.from (note_of j.a told)
+own_note begun b job None told j config from = record { from_is = from; stage = j.kind.0; list = tt }
+own_note begun b job (Some name) told j config from =
     let source_is : slice_get begun.config.sources j.a.key.source ≡ Some j.a.source = subst (λ (c : Setup). slice_get c.sources j.a.key.source ≡ Some j.a.source) config (asker-asks b job.no j.a j.asks).source_is in
-    rw source_is (rw j.kind.1 refl)
+    record { from_is = from; stage = j.kind.0; list = rw source_is (rw j.kind.1 refl) }
 
 pub goes_one : Laws → (begun : RunStart) (notes : List Note) (before after : ℕ) (b : Board) (job : Job) (old now : List State) (closed : Closed) → issued_job b 0 ≡ Some job → IsSoundBegun begun → IsUnderWay begun notes before b old
     → HasFetched begun (issued b 0) job (staged_name (issued b 0) job.no) before after old now closed → JobAddsNotes begun notes after (absorbed (issued b 0) 0 job.no closed) old now
@@ -277,7 +276,8 @@ goes_one laws begun notes before after b job old now closed e sound under did =
     let from_is : job.from ≡ j.a.ask.from = ap (λ (x : Job). x.from) j.job_is in
     record {
       more = note_of j.a told ∷ [];
-      left = job_leaves begun.config.sources staged job.from (note_of j.a told) old now (sym from_is) (own_list begun c job staged j under.heard.config) did.fetched did.left did.comes;
+      left = job_leaves begun.config.sources staged job.from (note_of j.a told) old now (own_note begun c job staged told j under.heard.config (sym from_is)) did.fetched did.left did.comes;
+      touched = job_touches begun.config.sources staged job.from (note_of j.a told) old now (own_note begun c job staged told j under.heard.config (sym from_is)) did.fetched did.left did.comes;
       under_way = record {
         heard = subst (λ (x : Board). RunHasHeard begun (notes ++ note_of j.a told ∷ []) after x now) (sym is) (heard_one laws begun notes c job staged before after old now closed j under.uses heard did);
         none_out = rw is (rw j.out refl);
@@ -321,6 +321,7 @@ one_more laws mirror count b c d job closed now ready e issued_is absorbed_as =
 pub goes_idle : IssuedBoardsAreReached → (mirror : Option MirrorMap) (count : ℕ) (b c : Board) (now : List State) → c ≡ issued b 0 → issued_job b 0 ≡ None → JobKeepsRunGoing mirror count count b c now now
 goes_idle law mirror count b c now issued_is e = λ begun notes sound from under. record {
   more = [];
-  left = λ told name. inl refl;
+  left = λ told name. inl (refl, tt);
+  touched = λ told. inl refl;
   under_way = subst (λ (ns : List Note). IsUnderWay begun ns count c now) (sym (append-nil notes)) (subst (λ (x : Board). IsUnderWay begun notes count x now) (sym issued_is) (goes_none law begun notes count b now e under));
 }

@@ -1,5 +1,5 @@
 -- A run between two of its steps: its board, the disk and the method.
-use Rattle.std.specs.Prelude.{◌≡◌, ◌≤◌, ℕ, All, List, [], ◌∷◌, ◌++◌, length, Option, None, IfSome}
+use Rattle.std.specs.Prelude.{◌≡◌, ◌⊎◌, ◌≤◌, ℕ, All, List, [], ◌∷◌, ◌++◌, length, Option, None, IfSome}
 use Rattle.std.specs.List.{flat_map, AllByRecursion as Each}
 use Rattle.acq_base.specs.Mirror.{MirrorMap}
 use Rattle.acq_base.specs.Plan.{IsPlanned, names_of}
@@ -22,7 +22,7 @@ use Rattle.update_model.specs.declared.ask.Closed.{Closed}
 use Rattle.update_model.specs.declared.ask.Closed.TheVariants.{Served, Not}
 use Rattle.run_jobs.specs.Coupling.{HasWantedParts}
 use Rattle.run_jobs.specs.Counting.{CountsUp}
-use Rattle.run_jobs.specs.OnTheWay.{StaysOnItsWay}
+use Rattle.run_jobs.specs.OnTheWay.{StaysOnItsWay, WasLeft}
 
 -- What a run was begun with: the board's configuration, what was installed, the lists on their way, and the method's mirror
 -- and count of faults.
@@ -75,10 +75,12 @@ pub record MayAsk (mirror : Option MirrorMap) (count : ℕ) (b : Board) (now : L
   pub under_way : IsUnderWay begun notes count b now
   pub idle : IsNow IsIdle now
 
--- what it has heard is behind what it had heard before, and has left the lists on their way so
+-- What it has heard is behind what it had heard before. Each list on its way is as it was, or as the answer left it, and where
+-- the disk was touched the answer left one.
 pub record JobAddsNotes (begun : RunStart) (notes : List Note) (count : ℕ) (b : Board) (old now : List State) : Type 0 where
   pub more : List Note
   pub left : IsTold now → (name : List ℕ) → StaysOnItsWay begun.config.sources more old now name
+  pub touched : IsTold now → (now ≡ old) ⊎ ((own : List ℕ) × WasLeft begun.config.sources own more now)
   pub under_way : IsUnderWay begun (notes ++ more) count b now
 
 -- a run that is under way still is, over the same mirror

@@ -11,7 +11,7 @@ ghost use Rattle.journal_model.specs.Rest.{KeptAtRestSince};
 ghost use Rattle.update_core.specs.BoardRefinement.{board_of};
 ghost use Rattle.run_jobs.specs.Counting.{BeginsAsked};
 ghost use Rattle.run_jobs.specs.Fetching.{Answers, CanFetch, ComesTo, IsFetched, KeepsBytes, LeavesPart};
-ghost use Rattle.run_jobs.specs.OnTheWay.{KeepsAllButParts};
+ghost use Rattle.run_jobs.specs.OnTheWay.{ChangesOnePart};
 ghost use Rattle.run_jobs.specs.Running.{JobKeepsRunGoing, MayAsk, SameBoard};
 
 use crate::RunError;
@@ -53,7 +53,7 @@ fn fetch<D: Disk, M: Method>(
 }
 
 /// Hands out the next job, fetches it and takes its answer in; whether there was one. With none nothing is asked any more.
-/// No file changes but lists on their way.
+/// No file changes but that of one list on its way.
 ///
 /// `DiskFault` only where the disk's count of faults rose, and never `BadJournal`.
 pub fn ask_one<D: Disk, M: Method>(
@@ -76,7 +76,7 @@ pub fn ask_one<D: Disk, M: Method>(
     ensures none { IfOk result (λ more. more ≡ false → NoneAsks (board_of board.new)) }
 
     ensures moments { Since (D.trace disk.old) (D.trace disk.new) (KeptAtRestSince (D.trace disk.old)) }
-    ensures others { KeepsAllButParts (D.trace disk.old) (D.trace disk.new) }
+    ensures others { ChangesOnePart (D.trace disk.old) (D.trace disk.new) }
     ensures goes { OnOk result (JobKeepsRunGoing (M.world method.old) (M.faults method.old) (M.faults method.new)
         (board_of board.old) (board_of board.new) (D.trace disk.old) (D.trace disk.new)) }
 {

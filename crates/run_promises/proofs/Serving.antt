@@ -19,15 +19,14 @@ use Rattle.journal_model.specs.Reopen.{installed_now}
 use Rattle.journal_model.specs.Rest.{IsAtRest}
 use Rattle.list_commits.specs.Loose.{NoneIsLoose}
 use Rattle.list_commits.specs.Made.{after_all}
-use Rattle.run_jobs.specs.OnTheWay.{PartsStay}
-use Rattle.run_model.specs.Runs.{installed_by}
+use Rattle.run_model.specs.Runs.{cleans_up, installed_by}
 use Rattle.update_engine.proofs.Lists.{answers_told}
 use Rattle.run_jobs.specs.Counting.{CountsOn, CountsUp}
 use Rattle.run_model.specs.Begun.{RunInput}
 use Rattle.run_model.specs.Groups.{commits_of}
 use Rattle.run_model.specs.Laws.{RunsHoldAsTold, RunsKeepOthers, RunsLeadToNext, RunsLeaveMirrored}
 use Rattle.run_model.specs.Coming.{HeardMirrorFully, LeavesMirrored}
-use Rattle.update_engine.specs.Run.{Engine, ForMirror, HasFinished, IsConfiguredBy, KeepsMethods, LogIsTrue, NoneFell, Run, asks_of_lane}
+use Rattle.update_engine.specs.Run.{Engine, ForMirror, HasFinished, IsConfiguredBy, IsTaken, KeepsAside, KeepsMethods, LogIsTrue, NoneFell, Run, asks_of_lane}
 use Rattle.update_model.specs.Next.{IsNext}
 use Rattle.update_model.specs.declared.log.Asked.{Asked}
 use Rattle.update_model.specs.declared.log.Heard.{Heard}
@@ -217,19 +216,19 @@ told_as : (P : State → Type 0) (now : List State) → IsTold now → IsNow P n
 told_as P [] told is = absurd told
 told_as P (s ∷ past) told is = is
 
-folder_matches : BoardsStand → (run : Run) (before after : Engine) (log : RunLog) (logged : LogIsTrue run before after log) (finished : HasFinished run logged.begun logged.heard before.trace after.trace log)
-    → FolderMatchesLog run finished.opened after.trace log
-folder_matches stand run before after log logged finished = record {
-  lock = finished.aside.lock;
+folder_matches : (run : Run) (before after : Engine) (log : RunLog) (logged : LogIsTrue run before after log) (finished : HasFinished run logged.begun logged.heard before.trace after.trace log)
+    → FolderMatchesLog run logged.begun finished.opened after.trace log
+folder_matches run before after log logged finished = record {
   heard = logged.heard;
-  entries = logs_what_was_heard stand run before after log logged;
-  parts = subst (λ (sources : List Source). PartsStay sources (installed_by log) logged.heard finished.opened after.trace) logged.of_run.sources finished.aside.parts;
+  tells = logged.tells;
+  aside = subst (λ (settings : Settings). KeepsAside run.plan.sources (IsTaken run.plan.sources (installed_by log) (cleans_up settings log.verdicts)) logged.heard finished.opened after.trace) logged.of_run.settings
+      (subst (λ (sources : List Source). KeepsAside sources (IsTaken sources (installed_by log) (cleans_up logged.begun.config.settings log.verdicts)) logged.heard finished.opened after.trace) logged.of_run.sources finished.aside);
   gone = λ cleaned. subst (λ (sources : List Source). ToldAs (λ s. NoneIsLoose sources (reads s)) after.trace) logged.of_run.sources
       (told_as _ after.trace (told_of _ after.trace finished.rests) (finished.gone (rw logged.of_run.settings cleaned)));
 }
 
-pub ends_as_told : BoardsStand → RunsHoldAsTold → RunsKeepOthers → RunsEndAsTold
-ends_as_told stand holds keeps run before after log logged settled =
+pub ends_as_told : RunsHoldAsTold → RunsKeepOthers → RunsEndAsTold
+ends_as_told holds keeps run before after log logged settled =
     let finished = logged.commits settled in
     let lists = after_all (commits_of finished.commits) (installed_now before.trace) in
     record {
@@ -241,5 +240,5 @@ ends_as_told stand holds keeps run before after log logged settled =
           holds run.together logged.begun (installed_now before.trace) log finished.commits n source verdict held finished.read.begins finished.ran (rw logged.of_run.sources is) told has;
       keeps = λ n source verdict is told none.
           keeps run.together logged.begun (installed_now before.trace) log finished.commits n source verdict finished.read.begins finished.ran (rw logged.of_run.sources is) told none;
-      folder = folder_matches stand run before after log logged finished;
+      folder = folder_matches run before after log logged finished;
     }

@@ -16,7 +16,7 @@ pub runs_end_as_served : RunsEndAsServed
 runs_end_as_served = serves boards_stand runs_lead_to_next runs_leave_mirrored
 
 pub runs_end_as_told : RunsEndAsTold
-runs_end_as_told = ends_as_told boards_stand runs_hold_as_told runs_keep_others
+runs_end_as_told = ends_as_told runs_hold_as_told runs_keep_others
 
 pub runs_stop_with_sets : RunsStopWithSets
 runs_stop_with_sets = stops_with_sets crashes_leave_whole new_sets_are_admissible

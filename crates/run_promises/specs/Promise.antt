@@ -13,17 +13,14 @@ use Rattle.acq_outside.specs.States.{From, Since, ToldAs}
 use Rattle.board_model.specs.Jobs.{one_if}
 use Rattle.board_model.specs.RunLaws.{HasSet}
 use Rattle.board_model.specs.Runs.{Note}
-use Rattle.board_model.specs.Stands.{entries_of}
-use Rattle.journal_model.specs.Names.{lock}
 use Rattle.journal_model.specs.Reopen.{ReopensAsAt, installed_now, reopened}
-use Rattle.journal_model.specs.Rest.{IsAtRest, IsSynced, file_now}
+use Rattle.journal_model.specs.Rest.{IsAtRest, IsSynced}
 use Rattle.list_commits.specs.Loose.{NoneIsLoose}
 use Rattle.release_file.specs.Release.{release_of}
 use Rattle.run_model.specs.Begun.{RunInput}
-use Rattle.run_jobs.specs.OnTheWay.{PartsStay}
 use Rattle.run_model.specs.Coming.{HasSetAsLogged, LeavesMirrored, mirrored}
 use Rattle.run_model.specs.Runs.{cleans_up, installed_by}
-use Rattle.update_engine.specs.Run.{Engine, ForMirror, HasOpenedJournal, IsConfiguredBy, IsReadFromDisk, KeepsMethods, LogIsTrue, Run, SurvivesCrash}
+use Rattle.update_engine.specs.Run.{Engine, ForMirror, HasOpenedJournal, IsConfiguredBy, IsLogOfBoard, IsReadFromDisk, IsTaken, KeepsAside, KeepsMethods, LogIsTrue, Run, SurvivesCrash}
 use Rattle.update_model.specs.Next.{HasWholeSet, IsNext, Keeps}
 use Rattle.update_model.specs.Outcomes.{AdmittedRelease}
 use Rattle.update_model.specs.Releases.{IsAdmissible, installed_release}
@@ -98,14 +95,13 @@ RunsStopAsServed = (run : Run) (before after : Engine) → SurvivesCrash run bef
 
 -- ---- what a log tells
 
--- What lies beside the lists: the hold's file stays; a list on its way of a source that isn't told as installed is as it was
--- once the journal was open, or as an answer to its item left it; and where names of no source go, none of them is left,
+-- What lies beside the lists and the journal stays since the journal was open, each list on its way as it was or as an answer
+-- left it, but for those of sources that are told as installed; and where names of no source go, none of them is left,
 -- neither a list nor one on its way.
-pub record FolderMatchesLog (run : Run) (opened now : List State) (log : RunLog) : Type 0 where
-  pub lock : file_now now lock ≡ file_now opened lock
+pub record FolderMatchesLog (run : Run) (begun : RunInput) (opened now : List State) (log : RunLog) : Type 0 where
   pub heard : List Note
-  pub entries : log.asks ≡ entries_of heard
-  pub parts : PartsStay run.plan.sources (installed_by log) heard opened now
+  pub tells : IsLogOfBoard begun heard log
+  pub aside : KeepsAside run.plan.sources (IsTaken run.plan.sources (installed_by log) (cleans_up run.settings log.verdicts)) heard opened now
   pub gone : cleans_up run.settings log.verdicts ≡ true → ToldAs (λ s. NoneIsLoose run.plan.sources (reads s)) now
 
 -- The disk is at rest, and reads give, as whatever a crash leaves does, these lists: a source that is told to have a set has
@@ -119,7 +115,7 @@ pub record ListsMatchLog (run : Run) (entry now : List State) (log : RunLog) : T
       → HasSet verdict held → HasSetAsLogged begun source held (installed_now entry) lists
   pub keeps : (n : ℕ) (source : Source) (verdict : Verdict2) → slice_get run.plan.sources n ≡ Some source → slice_get log.verdicts n ≡ Some verdict
       → ((held : Held) → HasSet verdict held → ⊥) → Keeps source (installed_now entry) lists
-  pub folder : FolderMatchesLog run reads.opened now log
+  pub folder : FolderMatchesLog run begun reads.opened now log
 
 abbrev pub RunsEndAsTold : Type 0
 RunsEndAsTold =

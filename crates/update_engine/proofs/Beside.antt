@@ -1,7 +1,5 @@
 -- What lies beside the lists, through jobs and commits.
-use Rattle.std.proofs.Common.{◌≡◌, ◌≢◌, ◌∙◌, refl, sym, ap, subst, arith, ℕ, List, [], ◌∷◌, ◌++◌, length, Contains, Option, Some, None, codes, option_map}
-use Rattle.std.specs.Prelude.{slice_get}
-use Rattle.std.proofs.lemmas.List.{length-append}
+use Rattle.std.proofs.Common.{◌≡◌, ◌≢◌, ◌⊎◌, ◌∙◌, inl, inr, refl, sym, ap, subst, ℕ, Bool, true, false, List, [], ◌∷◌, ◌++◌, Contains, Option, Some, None, option_map}
 use Rattle.acq_base.specs.Plan.{names_of}
 use Rattle.acq_base.specs.declared.plan.Source.{Source}
 use Rattle.acq_outside.specs.Crash.{State, file_at, names_of as file_names, reads, seen_at}
@@ -9,56 +7,87 @@ use Rattle.acq_outside.specs.Disk.{Files}
 use Rattle.acq_outside.specs.declared.state.FileState.{FileState}
 use Rattle.board_model.specs.Runs.{Note}
 use Rattle.commit_journal.specs.Changes.{AllAllowed, CanRecord, IsNone, all_changed_names, all_changes, changed_names}
-use Rattle.commit_journal.specs.Commits.{DropsAreGone, KeepsUnchangedFiles}
+use Rattle.commit_journal.specs.Commits.{AreGone, KeepsUnchangedFiles}
 use Rattle.commit_journal.specs.declared.changing.Change.{Change}
 use Rattle.commit_journal.specs.declared.changing.Change.TheVariants.{Put, Drop}
-use Rattle.journal_model.specs.Names.{lock, partial}
-use Rattle.journal_model.specs.Rest.{file_named, file_now}
+use Rattle.journal_model.proofs.FolderNames.{list_if, plain_inside}
+use Rattle.journal_model.proofs.Twice.{other_name}
 use Rattle.journal_model.proofs.Views.{partial_not_journal}
-use Rattle.run_jobs.proofs.OnTheWay.{stays_on, stays_same}
-use Rattle.run_jobs.specs.OnTheWay.{KeepsAllButParts, StaysOnItsWay}
-use Rattle.update_engine.specs.Run.{KeepsAside}
+use Rattle.journal_model.specs.Names.{is_file_name, is_inside, is_installed_name, is_partial, journal, lock, partial}
+use Rattle.journal_model.specs.Rest.{KeepsOtherFiles, file_named, file_now}
+use Rattle.run_jobs.proofs.OnTheWay.{same_unheard, stays_on, stays_same, unheard_same}
+use Rattle.run_jobs.specs.OnTheWay.{ChangesOnePart, StaysOnItsWay}
+use Rattle.update_engine.specs.Run.{IsListOf, KeepsAside}
+
+-- ---- one after another
+
+-- a step in which nothing was heard
+pub aside_on : (sources : List Source) (Taken Later : List ℕ → Type 0) (notes : List Note) (opened old now : List State) → ((name : List ℕ) → Taken name → Later name) → KeepsAside sources Taken notes opened old → KeepsAside sources Later [] old now
+    → KeepsAside sources Later notes opened now
+aside_on sources Taken Later notes opened old now more a b = record {
+  others = λ name listed part journal_too. b.others name listed part journal_too ∙ a.others name listed part journal_too;
+  parts = λ name out. stays_same sources name notes opened old now (unheard_same sources name old now (b.parts name out)) (a.parts name (λ is. out (more name is)));
+}
+
+pub aside_none : (sources : List Source) (Taken : List ℕ → Type 0) (old now : List State) → now ≡ old → KeepsAside sources Taken [] old now
+aside_none sources Taken old now same = record {
+  others = λ name listed part journal_too. rw same refl;
+  parts = λ name out. same_unheard sources name old now (rw same refl);
+}
+
+-- of more names nothing is said
+pub aside_fewer : (sources : List Source) (Taken Later : List ℕ → Type 0) (notes : List Note) (opened now : List State) → ((name : List ℕ) → Taken name → Later name) → KeepsAside sources Taken notes opened now → KeepsAside sources Later notes opened now
+aside_fewer sources Taken Later notes opened now more a = record { others = a.others; parts = λ name out. a.parts name (λ is. out (more name is)) }
+
+pub list_more : (sources : List Source) (numbers more : List ℕ) → ((n : ℕ) → Contains numbers n → Contains more n) → (name : List ℕ) → IsListOf sources numbers name → IsListOf sources more name
+list_more sources numbers more within name is = record { n = is.n; source = is.source; at = is.at; own = is.own; among = within is.n is.among }
 
 -- ---- a job
 
-pub aside_asked : (sources : List Source) (but : List ℕ) (notes more : List Note) (opened old now : List State) → KeepsAllButParts old now → ((name : List ℕ) → StaysOnItsWay sources more old now name)
-    → KeepsAside sources but notes opened old → KeepsAside sources but (notes ++ more) opened now
-aside_asked sources but notes more opened old now others left a = record {
-  lock = others lock refl ∙ a.lock;
-  parts = λ n source name is own out. stays_on sources name notes more opened old now (a.parts n source name is own out) (left name);
+-- a name that is that of no list on its way
+part_other : (own name : List ℕ) → is_partial name ≡ false → name ≢ partial own
+part_other own name no is = let wrong : is_partial (partial own) ≡ false = subst (λ (n : List ℕ). is_partial n ≡ false) is no in absurd (cc)
+
+pub aside_asked : (sources : List Source) (Taken : List ℕ → Type 0) (notes more : List Note) (opened old now : List State) → ChangesOnePart old now → ((name : List ℕ) → StaysOnItsWay sources more old now name)
+    → KeepsAside sources Taken notes opened old → KeepsAside sources Taken (notes ++ more) opened now
+aside_asked sources Taken notes more opened old now changes left a = record {
+  others = λ name listed part journal_too. changes.others name (part_other changes.own name part) ∙ a.others name listed part journal_too;
+  parts = λ name out. stays_on sources name notes more opened old now (a.parts name out) (left name);
 }
 
 -- ---- a commit
 
-partial_not_lock : (name : List ℕ) → partial name ≢ lock
-partial_not_lock name is = absurd (omega (arith, ap length is, length-append (codes "partial/") name))
+-- a record changes no name but those of lists, installed or on their way
+file_listed : (name : List ℕ) → is_file_name name ≡ true → is_partial name ≡ false → name ≢ lock → name ≢ journal → is_installed_name name ≡ true
+file_listed name file whole not_lock not_journal = list_if name (other_name name journal not_journal) (other_name name lock not_lock) whole file
 
-lock_free : (changes : List Change) → AllAllowed changes → IsNone lock (changed_names changes)
-lock_free [] allowed = tt
-lock_free (Put name content ∷ changes) allowed = (allowed.0.put.not_lock, (partial_not_lock name.0, lock_free changes allowed.1))
-lock_free (Drop name ∷ changes) allowed = (allowed.0.not_lock, lock_free changes allowed.1)
+dropped_listed : (name : List ℕ) → is_inside name ≡ true → is_partial name ≡ false → name ≢ lock → name ≢ journal → is_installed_name name ≡ true
+dropped_listed name inside whole not_lock not_journal = file_listed name (plain_inside name whole ∙ inside) whole not_lock not_journal
 
-lock_stays : (groups : List (List Change)) (old now : List State) → CanRecord groups → KeepsUnchangedFiles groups old now → file_now now lock ≡ file_now old lock
-lock_stays groups old now can keeps = keeps lock (λ is. absurd (cc)) (lock_free (all_changes groups) can.allowed)
+other_free : (name : List ℕ) (changes : List Change) → is_installed_name name ≡ false → is_partial name ≡ false → AllAllowed changes → IsNone name (changed_names changes)
+other_free name [] listed part allowed = tt
+other_free name (Put list content ∷ changes) listed part allowed = (
+  (λ same. let wrong : true ≡ false = sym (put_listed (subst (λ (n : List ℕ). is_partial n ≡ false) (sym same) part)) ∙ (ap is_installed_name same ∙ listed) in absurd (cc)),
+  ((λ same. part_other list.0 name part (sym same)), other_free name changes listed part allowed.1),
+)
+  where
+    put_listed : is_partial list.0 ≡ false → is_installed_name list.0 ≡ true
+    put_listed whole = file_listed list.0 allowed.0.file whole allowed.0.put.not_lock allowed.0.put.not_journal
+other_free name (Drop list ∷ changes) listed part allowed = (
+  (λ same. let wrong : true ≡ false = sym (drop_listed (subst (λ (n : List ℕ). is_partial n ≡ false) (sym same) part)) ∙ (ap is_installed_name same ∙ listed) in absurd (cc)),
+  other_free name changes listed part allowed.1,
+)
+  where
+    drop_listed : is_partial list ≡ false → is_installed_name list ≡ true
+    drop_listed whole = dropped_listed list allowed.0.inside whole allowed.0.not_lock allowed.0.not_journal
 
--- the lists on their way of other sources, which the commit leaves alone
-pub aside_committed : (sources : List Source) (but later : List ℕ) (notes : List Note) (groups : List (List Change)) (opened old now : List State) → CanRecord groups → KeepsUnchangedFiles groups old now
-    → ((n : ℕ) → (Contains later n → ⊥) → Contains but n → ⊥)
-    → ((n : ℕ) (source : Source) (name : List ℕ) → slice_get sources n ≡ Some source → Contains (names_of source) name → (Contains later n → ⊥) → IsNone (partial name) (all_changed_names groups))
-    → KeepsAside sources but notes opened old → KeepsAside sources later notes opened now
-aside_committed sources but later notes groups opened old now can keeps fewer free a = record {
-  lock = lock_stays groups old now can keeps ∙ a.lock;
-  parts = λ n source name is own out.
-      stays_same sources name notes opened old now (keeps (partial name) (partial_not_journal name) (free n source name is own out)) (a.parts n source name is own (fewer n out));
+-- the lists on their way that a commit doesn't change
+pub aside_committed : (sources : List Source) (Taken : List ℕ → Type 0) (groups : List (List Change)) (old now : List State) → CanRecord groups → KeepsUnchangedFiles groups old now
+    → ((name : List ℕ) → (Taken name → ⊥) → IsNone (partial name) (all_changed_names groups)) → KeepsAside sources Taken [] old now
+aside_committed sources Taken groups old now can keeps free = record {
+  others = λ name listed part journal_too. keeps name journal_too (other_free name (all_changes groups) listed part can.allowed);
+  parts = λ name out. same_unheard sources name old now (keeps (partial name) (partial_not_journal name) (free name out));
 }
-
--- where nothing was done, and the sources that are installed are the same
-pub aside_same : (sources : List Source) (but later : List ℕ) (notes : List Note) (opened now : List State) → later ≡ but → KeepsAside sources but notes opened now → KeepsAside sources later notes opened now
-aside_same sources but later notes opened now same a = subst (λ (ns : List ℕ). KeepsAside sources ns notes opened now) (sym same) a
-
--- of more sources nothing is said
-pub aside_fewer : (sources : List Source) (but later : List ℕ) (notes : List Note) (opened now : List State) → ((n : ℕ) → (Contains later n → ⊥) → Contains but n → ⊥) → KeepsAside sources but notes opened now → KeepsAside sources later notes opened now
-aside_fewer sources but later notes opened now fewer a = record { lock = a.lock; parts = λ n source name is own out. a.parts n source name is own (fewer n out) }
 
 -- ---- what reads give
 
@@ -72,7 +101,7 @@ reads_same s t name same = seen_is t.files (file_names t name) ∙ (ap (option_m
 
 -- ---- what is removed
 
-pub gone_behind : (first rest : List Change) (files : Files) → DropsAreGone (first ++ rest) files → DropsAreGone rest files
+pub gone_behind : (first rest : List Change) (files : Files) → AreGone (first ++ rest) files → AreGone rest files
 gone_behind [] rest files gone = gone
-gone_behind (Put name content ∷ first) rest files gone = gone_behind first rest files gone
+gone_behind (Put name content ∷ first) rest files gone = gone_behind first rest files gone.1
 gone_behind (Drop name ∷ first) rest files gone = gone_behind first rest files gone.1

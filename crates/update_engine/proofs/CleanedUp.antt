@@ -14,7 +14,7 @@ use Rattle.board_bounds.proofs.Walking.{at_all}
 use Rattle.board_model.proofs.Making.{none-in}
 use Rattle.board_model.specs.Runs.{Note}
 use Rattle.commit_journal.specs.Changes.{AreApart, CanRecord, IsNone, all_changed_names, all_changes}
-use Rattle.commit_journal.specs.Commits.{DropsAreGone, KeepsUnchangedFiles, ReadsNoDropped}
+use Rattle.commit_journal.specs.Commits.{AreGone, KeepsUnchangedFiles, ReadsAllGone}
 use Rattle.commit_journal.specs.declared.changing.Change.{Change}
 use Rattle.journal_model.proofs.Views.{partial_one}
 use Rattle.journal_model.specs.Names.{journal, lock, partial}
@@ -25,22 +25,21 @@ use Rattle.list_commits.specs.Changes.{drops_for}
 use Rattle.list_commits.specs.Loose.{AreLooseNames, IsLoose, NoneIsLoose, kept_of}
 use Rattle.list_commits.specs.RecordLaws.{AreGathered, group_of, groups_of, names_gathered, names_of_group}
 use Rattle.run_jobs.specs.Running.{RunStart, IsSoundBegun}
-use Rattle.run_model.proofs.Names.{in_plan, sources_apart}
-use Rattle.list_commits.proofs.Apart.{apart_of}
-use Rattle.update_engine.proofs.Beside.{aside_committed, gone_behind, reads_same}
+use Rattle.run_model.proofs.Names.{in_plan}
+use Rattle.update_engine.proofs.Beside.{gone_behind, reads_same}
 use Rattle.update_engine.proofs.Distinct.{are_gathered, either, gathered_for}
 use Rattle.update_engine.proofs.Known.{CommittingLaws}
-use Rattle.update_engine.specs.Run.{KeepsAside}
+use Rattle.update_engine.specs.Run.{IsListOf}
 use Rattle.update_engine.specs.Session.{IsNewSource, NewSource, numbers_of, some_names}
 
 -- ---- what the clean-up removes
 
-dropped : (names : List (List ℕ)) (files : Files) (name : List ℕ) → DropsAreGone (drops_for names) files → Contains names name → files name ≡ None
+dropped : (names : List (List ℕ)) (files : Files) (name : List ℕ) → AreGone (drops_for names) files → Contains names name → files name ≡ None
 dropped [] files name gone is = absurd (none-in name is)
 dropped (x ∷ names) files name gone is = ⊎_elim (λ same. subst (λ (n : List ℕ). files n ≡ None) same gone.0) (dropped names files name gone.1) (first-or-rest x names name is)
 
-last_gone : (groups : List (List Change)) (last : List Change) (files : Files) → DropsAreGone (all_changes (groups ++ last ∷ [])) files → DropsAreGone last files
-last_gone [] last files gone = subst (λ (cs : List Change). DropsAreGone cs files) (append-nil last) gone
+last_gone : (groups : List (List Change)) (last : List Change) (files : Files) → AreGone (all_changes (groups ++ last ∷ [])) files → AreGone last files
+last_gone [] last files gone = subst (λ (cs : List Change). AreGone cs files) (append-nil last) gone
 last_gone (g ∷ groups) last files gone = last_gone groups last files (gone_behind g (all_changes (groups ++ last ∷ [])) files gone)
 
 some_groups : (groups : List (List Change)) (last : List Change) → groups ++ last ∷ [] ≢ []
@@ -59,7 +58,7 @@ there_or_none files sources loose name are is = by (files name) refl
 
 -- the lists on their way of no source, and the lists, are gone
 pub none_loose : (sources : List Source) (files : Files) (loose : List (List ℕ)) (groups later : List (List Change)) (mid now : List State) (tells : Bool) → IsShown tells files mid → IsTold mid → AreLooseNames files sources loose
-    → later ≡ groups ++ group_of (some_names loose) → (later ≡ [] → now ≡ mid) → (later ≢ [] → KeepsUnchangedFiles later mid now) → (later ≢ [] → IsNow (ReadsNoDropped later) now)
+    → later ≡ groups ++ group_of (some_names loose) → (later ≡ [] → now ≡ mid) → (later ≢ [] → KeepsUnchangedFiles later mid now) → (later ≢ [] → IsNow (ReadsAllGone later) now)
     → ((name : List ℕ) → IsLoose sources name → (Contains loose name → ⊥) → IsNone name (all_changed_names later)) → IsNow (λ s. NoneIsLoose sources (reads s)) now
 none_loose sources files loose groups later [] now tells shown told are is none keeps gone free = absurd told
 none_loose sources files loose groups later (m ∷ past) [] tells shown told are is none keeps gone free = tt
@@ -69,7 +68,7 @@ none_loose sources files loose groups later (m ∷ past) (s ∷ more) tells show
     among name [] is found = absurd (none-in name found)
     among name (x ∷ names) is found =
         let some : later ≢ [] = λ empty. some_groups groups (drops_for (x ∷ names)) (sym is ∙ empty) in
-        dropped (x ∷ names) (reads s) name (last_gone groups (drops_for (x ∷ names)) (reads s) (subst (λ (gs : List (List Change)). DropsAreGone (all_changes gs) (reads s)) is (gone some))) found
+        dropped (x ∷ names) (reads s) name (last_gone groups (drops_for (x ∷ names)) (reads s) (subst (λ (gs : List (List Change)). AreGone (all_changes gs) (reads s)) is (gone some))) found
 
     as_before : (name : List ℕ) → files name ≡ None → IsLoose sources name → (l : List (List Change)) → later ≡ l → reads s name ≡ reads m name
     as_before name e apart [] same = subst (λ (t : List State). IsNow (λ (x : State). reads x name ≡ reads m name) t) (sym (none same)) refl
@@ -95,13 +94,13 @@ not_planned laws sources name planned is =
     let found = in_source sources (partial name) is in
     laws.other_names found.1 (at_all IsPlanned sources found.0 found.1 planned found.2) (partial name) name found.3 refl
 
--- a list of a source that isn't picked is none of those that are
-not_picked : (start : RunStart) (notes : List Note) (now : List State) (picks : List NewSource) (n : ℕ) (source : Source) (name : List ℕ) → IsSoundBegun start → Each (IsNewSource start notes now) picks → slice_get start.config.sources n ≡ Some source
-    → Contains (names_of source) name → (Contains (numbers_of picks) n → ⊥) → Contains (names_gathered (gathered_for picks)) name → ⊥
-not_picked start notes now [] n source name sound each at own out is = none-in name is
-not_picked start notes now (p ∷ picks) n source name sound each at own out is = ⊎_elim
-    (λ first. sources_apart start.config.sources p.n n p.source source name (apart_of (flat_map names_of start.config.sources) sound.apart) each.0.source_is at (λ same. out (here p.n (numbers_of picks) n same)) first own)
-    (not_picked start notes now picks n source name sound each.1 at own (λ found. out (there p.n (numbers_of picks) n found)))
+-- a list that is on none of these sources' way
+not_picked : (start : RunStart) (notes : List Note) (now : List State) (picks : List NewSource) (name : List ℕ) → Each (IsNewSource start notes now) picks → (IsListOf start.config.sources (numbers_of picks) name → ⊥)
+    → Contains (names_gathered (gathered_for picks)) name → ⊥
+not_picked start notes now [] name each out is = none-in name is
+not_picked start notes now (p ∷ picks) name each out is = ⊎_elim
+    (λ first. out (record { n = p.n; source = p.source; at = each.0.source_is; own = first; among = here p.n (numbers_of picks) p.n refl }))
+    (not_picked start notes now picks name each.1 (λ l. out (record { n = l.n; source = l.source; at = l.at; own = l.own; among = there p.n (numbers_of picks) l.n l.among })))
     (either (names_of p.source) (names_gathered (gathered_for picks)) name is)
 
 gathered_planned : (start : RunStart) (notes : List Note) (now : List State) (picks : List NewSource) → Each (IsNewSource start notes now) picks → (name : List ℕ) → Contains (names_gathered (gathered_for picks)) name
@@ -112,16 +111,14 @@ gathered_planned start notes now (p ∷ picks) each name is = ⊎_elim
     (gathered_planned start notes now picks each.1 name)
     (either (names_of p.source) (names_gathered (gathered_for picks)) name is)
 
--- the list on its way of such a source
-pub part_free : CommittingLaws → (start : RunStart) (notes : List Note) (now : List State) (picks : List NewSource) (names : Option (List (List ℕ))) (n : ℕ) (source : Source) (name : List ℕ) → IsSoundBegun start
-    → AreGathered start.config.sources (gathered_for picks) → Each (IsNewSource start notes now) picks → ((other : List ℕ) → Contains (names_of_group names) other → IsLoose start.config.sources other)
-    → slice_get start.config.sources n ≡ Some source → Contains (names_of source) name → (Contains (numbers_of picks) n → ⊥) → IsNone (partial name) (all_changed_names (groups_of (gathered_for picks) names))
-part_free laws start notes now picks names n source name sound gathered each loose at own out =
+-- a list on its way that no source picked has, and that doesn't go
+pub part_free : CommittingLaws → (start : RunStart) (notes : List Note) (now : List State) (picks : List NewSource) (names : Option (List (List ℕ))) (name : List ℕ) → IsSoundBegun start → AreGathered start.config.sources (gathered_for picks)
+    → Each (IsNewSource start notes now) picks → (IsListOf start.config.sources (numbers_of picks) name → ⊥) → (Contains (names_of_group names) (partial name) → ⊥) → IsNone (partial name) (all_changed_names (groups_of (gathered_for picks) names))
+part_free laws start notes now picks names name sound gathered each out stays =
     laws.others start.config.sources (gathered_for picks) names (partial name) gathered
     (λ is. not_planned laws start.config.sources name sound.planned (gathered_planned start notes now picks each (partial name) is))
-    (λ other is same. not_picked start notes now picks n source name sound each at own out (subst (Contains (names_gathered (gathered_for picks))) (partial_one other name same) is))
-    (λ is. (loose (partial name) is).other (there lock (journal ∷ flat_map kept_of start.config.sources) (partial name) (there journal (flat_map kept_of start.config.sources) (partial name)
-    (parts_kept start.config.sources name (in_plan start.config.sources n source name at own)))))
+    (λ other is same. not_picked start notes now picks name each out (subst (Contains (names_gathered (gathered_for picks))) (partial_one other name same) is))
+    stays
 
 -- a name of no source that isn't among those that go
 pub loose_free : CommittingLaws → (start : RunStart) (notes : List Note) (now : List State) (picks : List NewSource) (names : Option (List (List ℕ))) (name : List ℕ) → IsSoundBegun start → AreGathered start.config.sources (gathered_for picks)

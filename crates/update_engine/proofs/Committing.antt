@@ -1,7 +1,7 @@
 -- The set of one source is committed.
 use Rattle.std.proofs.Common.{◌≡◌, ◌≢◌, ◌⊎◌, ◌∙◌, ◌≤◌, inl, inr, refl, sym, ap, subst, ℕ, suc, Bool, true, false, List, [], ◌∷◌, ◌++◌, length, AllPairs, Contains, Some, None, Result, Ok, Err}
 use Rattle.std.specs.Prelude.{IfErr, IsErrAnd, if◌then◌else◌, slice_get}
-use Rattle.std.specs.List.{flat_map, AllByRecursion as Each}
+use Rattle.std.specs.List.{AllByRecursion as Each}
 use Rattle.std.proofs.lemmas.List.{append-nil}
 use Rattle.std.proofs.lemmas.List.Elements.{Contains-append_left, Contains-append_right}
 use Rattle.acq_base.specs.Plan.{IsPlanned, names_of}
@@ -49,15 +49,16 @@ use Rattle.journal_model.proofs.Views.{partial_apart, partial_not_journal}
 use Rattle.commit_journal.proofs.Prepares.{settled_at}
 use Rattle.board_bounds.proofs.Walking.{at_all}
 use Rattle.run_model.proofs.Loose.{among}
-use Rattle.run_model.proofs.Names.{in_plan, sources_apart}
+use Rattle.run_model.proofs.Names.{in_plan}
 use Rattle.run_model.proofs.Finishing.{is_held}
 use Rattle.run_jobs.proofs.Agreed.{heard_on, run_agrees}
 use Rattle.run_jobs.proofs.Keeping.{stays_holds, told_back}
-use Rattle.list_commits.proofs.Apart.{apart_of, here}
+use Rattle.list_commits.proofs.Apart.{here}
 use Rattle.update_engine.proofs.Known.{CommittingLaws}
 use Rattle.update_engine.proofs.Lists.{told_on}
 use Rattle.update_engine.specs.Session.{KeepsRunGoing, HasCommittedSets, HasProgress, CommitsOneSource, MayCommit, StopsBetweenAsks, begun_of, installed_in}
-use Rattle.update_engine.proofs.Beside.{aside_committed, aside_same}
+use Rattle.update_engine.proofs.Beside.{aside_committed, aside_none, aside_on, list_more}
+use Rattle.update_engine.specs.Run.{IsListOf, KeepsAside}
 use Rattle.update_engine.proofs.Naming.{release_free, which_name}
 use Rattle.update_engine.proofs.OnBoards.{as_open, heard_settled, is_of, owns, told_more, under_settled, uses_settled}
 
@@ -247,6 +248,19 @@ told_new : CommittingLaws → (start : RunStart) (notes : List Note) (count : �
 told_new laws start notes count b n settled old held s c installs =
     told_installed laws start notes count b n settled old s c ∙ ap (λ (v : Verdict2). installed_in b ++ (if is_installed v then n ∷ [] else [])) installs
 
+-- and of no other source a list on its way changes
+more_installed : CommittingLaws → (start : RunStart) (notes : List Note) (count : ℕ) (b : Board) (n : ℕ) (settled : Settled) (old : List State) (held : Held) → IsSettling start notes count b n settled old → (c : IsChanging start b n settled)
+    → settled.verdict ≡ Installed held → (m : ℕ) → Contains (installed_in b) m → Contains (installed_in (settled_as b n settled.verdict)) m
+more_installed laws start notes count b n settled old held s c installs m is =
+    subst (λ (ns : List ℕ). Contains ns m) (sym (told_new laws start notes count b n settled old held s c installs)) (Contains-append_left (installed_in b) (n ∷ []) m is)
+
+aside_new : CommittingLaws → (start : RunStart) (notes : List Note) (count : ℕ) (b : Board) (n : ℕ) (settled : Settled) (old now : List State) (held : Held) → IsSettling start notes count b n settled old → (c : IsChanging start b n settled)
+    → settled.verdict ≡ Installed held → KeepsUnchangedFiles (changes_for c.source settled ∷ []) old now → KeepsAside start.config.sources (IsListOf start.config.sources (installed_in (settled_as b n settled.verdict))) [] old now
+aside_new laws start notes count b n settled old now held s c installs keeps =
+    let here_too : Contains (installed_in (settled_as b n settled.verdict)) n = subst (λ (ns : List ℕ). Contains ns n) (sym (told_new laws start notes count b n settled old held s c installs)) (Contains-append_right (installed_in b) (n ∷ []) n (here n [] n refl)) in
+    aside_committed start.config.sources (IsListOf start.config.sources (installed_in (settled_as b n settled.verdict))) (changes_for c.source settled ∷ []) old now (can_record laws start b n settled c) keeps
+    (λ name out. unnamed laws start b n settled c name (λ within. out (record { n = n; source = c.source; at = c.source_is; own = within; among = here_too })))
+
 -- the sets so far, and one more
 pub sets_committed : CommittingLaws → (start : RunStart) (notes : List Note) (count : ℕ) (opened : List State) (b : Board) (n : ℕ) (settled : Settled) (old now : List State) (held : Held) → IsSettling start notes count b n settled old → (c : IsChanging start b n settled)
     → settled.verdict ≡ Installed held → IsTold now → HasCommitted (filled_all (part_bytes old) (changes_for c.source settled ∷ [])) old now → KeepsUnchangedFiles (changes_for c.source settled ∷ []) old now
@@ -264,13 +278,9 @@ sets_committed laws start notes count opened b n settled old now held s c instal
         groups = groups_last (begun_of start) notes sets.commits n changes sets.each sets.groups (new_set laws start notes count b n settled old held sets.told s c installs);
         order = sources_last sets.commits n changes sets.each ∙ ap (λ (ns : List ℕ). ns ++ n ∷ []) sets.order ∙ sym installed;
       };
-      aside = aside_same start.config.sources (installed_in b ++ n ∷ []) (installed_in (settled_as b n settled.verdict)) notes opened now installed
-          (aside_committed start.config.sources (installed_in b) (installed_in b ++ n ∷ []) notes (changes_for c.source settled ∷ []) opened old now (can_record laws start b n settled c) keeps
-          (λ m out is. out (Contains-append_left (installed_in b) (n ∷ []) m is))
-          (λ m source name is own out. unnamed laws start b n settled c name (λ within.
-          sources_apart start.config.sources n m c.source source name (apart_of (flat_map names_of start.config.sources) s.sound.apart) c.source_is is
-          (λ same. out (Contains-append_right (installed_in b) (n ∷ []) m (here n [] m same))) within own))
-          sets.aside);
+      aside = aside_on start.config.sources (IsListOf start.config.sources (installed_in b)) (IsListOf start.config.sources (installed_in (settled_as b n settled.verdict))) notes opened old now
+          (list_more start.config.sources (installed_in b) (installed_in (settled_as b n settled.verdict)) (more_installed laws start notes count b n settled old held s c installs))
+          sets.aside (aside_new laws start notes count b n settled old now held s c installs keeps);
     }
 
 -- ---- a stop
@@ -361,8 +371,10 @@ goes_settled laws b c n settled now ready comes same none_new = subst (λ (x : B
       groups = sets.groups;
       order = sets.order ∙ sym (told_none start notes count sound under);
     };
-    aside = aside_same start.config.sources (installed_in b) (installed_in (settled_as b n settled.verdict)) notes opened now (told_none start notes count sound under) sets.aside;
+    aside = subst (λ (ns : List ℕ). KeepsAside start.config.sources (IsListOf start.config.sources ns) notes opened now) (sym (told_none start notes count sound under)) sets.aside;
   };
+  aside = λ start notes count sound under. aside_none start.config.sources _ now now refl;
+  more = λ start notes count sound under m is. subst (λ (ns : List ℕ). Contains ns m) (sym (told_none start notes count sound under)) is;
 })
   where
     told_none : (start : RunStart) (notes : List Note) (count : ℕ) → IsSoundBegun start → IsUnderWay start notes count b now → installed_in (settled_as b n settled.verdict) ≡ installed_in b
@@ -411,6 +423,15 @@ goes_committed laws b c n settled groups old now ready comes same new_one are ke
       sets_committed laws start notes count opened b n settled old now held.0 s d held.1 (on_committed (filled_all (part_bytes old) groups) old now done sets.told)
       (subst (λ (gs : List (List Change)). HasCommitted (filled_all (part_bytes old) gs) old now) (are d.source d.here_is) done)
       (subst (λ (gs : List (List Change)). KeepsUnchangedFiles gs old now) (are d.source d.here_is) keeps) sets;
+  aside = λ start notes count sound under.
+      let s : IsSettling start notes count b n settled old = record { sound = sound; under = under; ready = ready; comes = comes } in
+      let d = changing laws start notes count b n settled old s in
+      let held = is_held settled.verdict new_one in
+      aside_new laws start notes count b n settled old now held.0 s d held.1 (subst (λ (gs : List (List Change)). KeepsUnchangedFiles gs old now) (are d.source d.here_is) keeps);
+  more = λ start notes count sound under.
+      let s : IsSettling start notes count b n settled old = record { sound = sound; under = under; ready = ready; comes = comes } in
+      let held = is_held settled.verdict new_one in
+      more_installed laws start notes count b n settled old held.0 s (changing laws start notes count b n settled old s) held.1;
 })
 
 -- ---- where it stops

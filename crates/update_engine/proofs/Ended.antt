@@ -14,7 +14,7 @@ use Rattle.board_model.specs.Boards.{Board, is_finished, log_of}
 use Rattle.board_model.specs.Runs.{Note}
 use Rattle.board_model.specs.Slots.{Setup}
 use Rattle.commit_journal.specs.Changes.{CanRecord, DropFile, Filled, IsNone, all_changed_names, filled, filled_all}
-use Rattle.commit_journal.specs.Commits.{KeepsUnchangedFiles, ReadsNoDropped}
+use Rattle.commit_journal.specs.Commits.{KeepsUnchangedFiles, ReadsAllGone}
 use Rattle.commit_journal.specs.Runs.{Commit, CommitHasBegun, HasCommitted, CommitProgress}
 use Rattle.commit_journal.specs.declared.changing.Change.{Change}
 use Rattle.journal_model.specs.Names.{is_installed_name, journal, lock, partial}
@@ -41,10 +41,10 @@ use Rattle.update_engine.proofs.Known.{CommittingLaws}
 use Rattle.update_engine.specs.Session.{HasCommittedAllBut, RunsOverLists, HasCommittedAll, HasUncommitted, CommitsAll, HasProgress, CommitsOneSource, IsNewSource, LeavesUncommitted, NewSource, StopsBetweenAsks, StopsWhileEnding, begun_of, cleans, groups_for, installed_in, names_to_remove, numbers_of, some_names, with_removed}
 use Rattle.update_engine.proofs.Committing.{commits_last, have_shape, none_removed, nothing_begun, settled_made}
 use Rattle.update_engine.proofs.LastCommit.{all_committed, groups_same}
-use Rattle.update_engine.proofs.Beside.{aside_committed}
+use Rattle.update_engine.proofs.Beside.{aside_committed, aside_none, aside_on, list_more}
 use Rattle.update_engine.proofs.CleanedUp.{loose_free, none_loose, part_free}
 use Rattle.update_engine.proofs.Distinct.{are_gathered, gathered_for}
-use Rattle.update_engine.specs.Run.{KeepsAside}
+use Rattle.update_engine.specs.Run.{IsListOf, IsTaken, KeepsAside}
 
 -- ---- where nothing more is begun
 
@@ -296,38 +296,42 @@ filled_later cleanup c picks loose later part is = ap (filled_all part) is ∙ f
 
 -- ---- what lies beside the lists
 
--- the names that go are of no source
-of_none_named : (sources : List Source) (cleanup : Bool) (verdicts : List Verdict2) (loose : List (List ℕ)) → ((name : List ℕ) → Contains loose name → IsLoose sources name) → (name : List ℕ)
-    → Contains (names_of_group (names_to_remove cleanup verdicts loose)) name → IsLoose sources name
-of_none_named sources cleanup verdicts loose are name = one (cleans cleanup verdicts)
-  where
-    one : (t : Bool) → Contains (names_of_group (if t then some_names loose else None)) name → IsLoose sources name
-    one true is = are name (subst (λ (ns : List (List ℕ)). Contains ns name) (group_some loose) is)
-    one false is = absurd (none-in name is)
-
 -- the groups of the last commit, of the sources that are left and the clean-up
 last_groups_are : (cleanup : Bool) (c : Board) (picks : List NewSource) (loose : List (List ℕ)) (later : List (List Change)) → AreLater cleanup c picks loose later → groups_of (gathered_for picks) (names_to_remove cleanup c.verdicts loose) ≡ later
 last_groups_are cleanup c picks loose later is = groups_same picks (names_to_remove cleanup c.verdicts loose) ∙ sym is
 
+-- what the end of a run takes, beside what was taken before
+abbrev TakenAtLast : Bool → RunStart → Board → List ℕ → Type 0
+TakenAtLast cleanup start c = IsTaken start.config.sources (installed_in c) (cleans cleanup c.verdicts)
+
+-- names that don't go
+none_goes : (start : RunStart) (cleanup : Bool) (verdicts : List Verdict2) (loose : List (List ℕ)) → ((name : List ℕ) → Contains loose name → IsLoose start.config.sources name) → (name : List ℕ)
+    → ((cleans cleanup verdicts ≡ true) × IsLoose start.config.sources name → ⊥) → Contains (names_of_group (names_to_remove cleanup verdicts loose)) name → ⊥
+none_goes start cleanup verdicts loose are name out = one (cleans cleanup verdicts) refl
+  where
+    one : (t : Bool) → cleans cleanup verdicts ≡ t → Contains (names_of_group (if t then some_names loose else None)) name → ⊥
+    one true cleaned is = out (cleaned, are name (subst (λ (ns : List (List ℕ)). Contains ns name) (group_some loose) is))
+    one false cleaned is = none-in name is
+
 aside_last : CommittingLaws → (together cleanup : Bool) (start : RunStart) (notes : List Note) (count : ℕ) (lists files : Files) (opened mid now : List State) (c : Board) (picks : List NewSource) (loose : List (List ℕ)) (later : List (List Change))
     → AtLast together cleanup start notes count lists files opened mid c picks loose → AreLater cleanup c picks loose later → CanRecord later → (later ≡ [] → now ≡ mid) → (later ≢ [] → KeepsUnchangedFiles later mid now)
-    → KeepsAside start.config.sources (installed_in c) notes opened now
+    → KeepsAside start.config.sources (TakenAtLast cleanup start c) [] mid now
 aside_last laws together cleanup start notes count lists files opened mid now c picks loose later a is can none keeps = by later refl
   where
-    free : (n : ℕ) (source : Source) (name : List ℕ) → slice_get start.config.sources n ≡ Some source → Contains (names_of source) name → (Contains (installed_in c) n → ⊥) → IsNone (partial name) (all_changed_names later)
-    free n source name at own out = subst (λ (gs : List (List Change)). IsNone (partial name) (all_changed_names gs)) (last_groups_are cleanup c picks loose later is)
-        (part_free laws start notes mid picks (names_to_remove cleanup c.verdicts loose) n source name a.sound (are_gathered start notes mid picks a.sound a.each a.turn) a.each
-        (of_none_named start.config.sources cleanup c.verdicts loose a.names.loose) at own
-        (λ found. out (subst (λ (ns : List ℕ). Contains ns n) (sym a.but.order) (Contains-append_right (sources_in (all_groups a.but.commits)) (numbers_of picks) n found))))
+    free : (name : List ℕ) → (TakenAtLast cleanup start c name → ⊥) → IsNone (partial name) (all_changed_names later)
+    free name out = subst (λ (gs : List (List Change)). IsNone (partial name) (all_changed_names gs)) (last_groups_are cleanup c picks loose later is)
+        (part_free laws start notes mid picks (names_to_remove cleanup c.verdicts loose) name a.sound (are_gathered start notes mid picks a.sound a.each a.turn) a.each
+        (λ l. out (inl (list_more start.config.sources (numbers_of picks) (installed_in c)
+        (λ n found. subst (λ (ns : List ℕ). Contains ns n) (sym a.but.order) (Contains-append_right (sources_in (all_groups a.but.commits)) (numbers_of picks) n found)) name l)))
+        (none_goes start cleanup c.verdicts loose a.names.loose (partial name) (λ goes. out (inr goes))))
 
-    by : (l : List (List Change)) → later ≡ l → KeepsAside start.config.sources (installed_in c) notes opened now
-    by [] same = subst (KeepsAside start.config.sources (installed_in c) notes opened) (sym (none same)) a.but.aside
-    by (g ∷ gs) same = aside_committed start.config.sources (installed_in c) (installed_in c) notes later opened mid now can
-        (keeps (λ empty. let wrong : g ∷ gs ≡ [] = sym same ∙ empty in absurd (cc))) (λ n out found. out found) free a.but.aside
+    by : (l : List (List Change)) → later ≡ l → KeepsAside start.config.sources (TakenAtLast cleanup start c) [] mid now
+    by [] same = aside_none start.config.sources (TakenAtLast cleanup start c) mid now (none same)
+    by (g ∷ gs) same = aside_committed start.config.sources (TakenAtLast cleanup start c) later mid now can (keeps (λ empty. let wrong : g ∷ gs ≡ [] = sym same ∙ empty in absurd (cc))) free
 
 gone_last : CommittingLaws → (together cleanup : Bool) (start : RunStart) (notes : List Note) (count : ℕ) (lists files : Files) (opened mid now : List State) (c : Board) (picks : List NewSource) (loose : List (List ℕ)) (tells : Bool) (later : List (List Change))
     → IsShown tells files mid → AtLast together cleanup start notes count lists files opened mid c picks loose → AreLater cleanup c picks loose later → (later ≡ [] → now ≡ mid) → (later ≢ [] → KeepsUnchangedFiles later mid now)
-    → (later ≢ [] → IsNow (ReadsNoDropped later) now) → cleans cleanup c.verdicts ≡ true → IsNow (λ s. NoneIsLoose start.config.sources (reads s)) now
+    → (later ≢ [] → IsNow (ReadsAllGone later) now) → cleans cleanup c.verdicts ≡ true → IsNow (λ s. NoneIsLoose start.config.sources (reads s)) now
 gone_last laws together cleanup start notes count lists files opened mid now c picks loose tells later shown a is none keeps gone cleaned =
     let names : names_to_remove cleanup c.verdicts loose ≡ some_names loose = ap (λ (t : Bool). if t then some_names loose else None) cleaned in
     none_loose start.config.sources files loose (groups_for picks) later mid now tells shown a.but.told a.names
@@ -338,11 +342,13 @@ gone_last laws together cleanup start notes count lists files opened mid now c p
 
 -- ---- its end
 
-pub ended : CommittingLaws → (together cleanup : Bool) (start : RunStart) (notes : List Note) (count : ℕ) (lists files : Files) (opened mid now : List State) (c : Board) (picks : List NewSource) (loose : List (List ℕ)) (tells : Bool)
+pub ended : CommittingLaws → (together cleanup : Bool) (start : RunStart) (notes : List Note) (count : ℕ) (lists files : Files) (opened old mid now : List State) (c : Board) (picks : List NewSource) (loose : List (List ℕ)) (tells : Bool)
     (later : List (List Change)) (log : RunLog) → IsShown tells files mid → AtLast together cleanup start notes count lists files opened mid c picks loose → AreLater cleanup c picks loose later
     → log ≡ with_removed (log_of c) (names_to_remove cleanup c.verdicts loose) → (later ≡ [] → now ≡ mid) → (later ≢ [] → HasCommitted (filled_all (part_bytes mid) later) mid now) → CanRecord later
-    → (later ≢ [] → KeepsUnchangedFiles later mid now) → (later ≢ [] → IsNow (ReadsNoDropped later) now) → HasCommittedAll together start notes lists opened now log
-ended laws together cleanup start notes count lists files opened mid now c picks loose tells later log shown a is told none done can keeps gone =
+    → (later ≢ [] → KeepsUnchangedFiles later mid now) → (later ≢ [] → IsNow (ReadsAllGone later) now)
+    → KeepsAside start.config.sources (IsListOf start.config.sources (installed_in c)) [] old mid → HasCommittedAll together start notes lists opened old now log
+ended laws together cleanup start notes count lists files opened old mid now c picks loose tells later log shown a is told none done can keeps gone before =
+    let last = aside_last laws together cleanup start notes count lists files opened mid now c picks loose later a is can none keeps in
     let all = all_of_run laws together cleanup start notes count lists files opened mid c picks loose tells shown a in
     record {
       commits = last_of cleanup loose a.but;
@@ -358,11 +364,16 @@ ended laws together cleanup start notes count lists files opened mid now c picks
       };
       same = refl;
       made = made_with a.but.commits (last_groups (part_bytes mid) picks (names_to_remove cleanup c.verdicts loose)) later opened mid now a.but.made (filled_later cleanup c picks loose later (part_bytes mid) is) none done;
-      aside = subst (λ (l : RunLog). KeepsAside start.config.sources (installed_by l) notes opened now) (sym told)
-          (aside_last laws together cleanup start notes count lists files opened mid now c picks loose later a is can none keeps);
+      aside = subst (λ (l : RunLog). KeepsAside start.config.sources (IsTaken start.config.sources (installed_by l) (cleans_up start.config.settings l.verdicts)) notes opened now) (sym told)
+          (taken_so (aside_on start.config.sources _ (TakenAtLast cleanup start c) notes opened mid now (λ name l. inl l) a.but.aside last));
+      end = subst (λ (l : RunLog). KeepsAside start.config.sources (IsTaken start.config.sources (installed_by l) (cleans_up start.config.settings l.verdicts)) [] old now) (sym told)
+          (taken_so (aside_on start.config.sources _ (TakenAtLast cleanup start c) [] old mid now (λ name l. inl l) before last));
       gone = λ cleaned. gone_last laws together cleanup start notes count lists files opened mid now c picks loose tells later shown a is none keeps gone
           (sym (ap (λ (t : Bool). t && list_all (λ verdict. not (is_kept verdict)) c.verdicts) a.switch) ∙ subst (λ (l : RunLog). cleans_up start.config.settings l.verdicts ≡ true) told cleaned);
     }
+  where
+    taken_so : {ns : List Note} {was : List State} → KeepsAside start.config.sources (TakenAtLast cleanup start c) ns was now → KeepsAside start.config.sources (IsTaken start.config.sources (installed_in c) (cleans_up start.config.settings c.verdicts)) ns was now
+    taken_so {ns} {was} aside = subst (λ (t : Bool). KeepsAside start.config.sources (IsTaken start.config.sources (installed_in c) (t && list_all (λ verdict. not (is_kept verdict)) c.verdicts)) ns was now) (sym a.switch) aside
 
 -- ---- it stops within it
 
@@ -481,12 +492,12 @@ stops_last laws error together cleanup b c old mid now files tells groups later 
 pub ends_all : CommittingLaws → (together cleanup : Bool) (b c : Board) (old mid now : List State) (files : Files) (tells : Bool) (groups later : List (List Change)) (loose : List (List ℕ)) (sources : List Source) (first log : RunLog)
     → LeavesUncommitted together b c old mid groups → is_finished c ≡ true → sources ≡ c.config.sources → (IsTrue tells → AreLooseNames files sources loose) → IsShown tells files mid
     → later ≡ groups ++ group_of (names_to_remove cleanup first.verdicts loose) → first ≡ log_of c → log ≡ with_removed first (names_to_remove cleanup first.verdicts loose)
-    → (later ≡ [] → now ≡ mid) → (later ≢ [] → HasCommitted (filled_all (part_bytes mid) later) mid now) → CanRecord later → (later ≢ [] → KeepsUnchangedFiles later mid now) → (later ≢ [] → IsNow (ReadsNoDropped later) now)
+    → (later ≡ [] → now ≡ mid) → (later ≢ [] → HasCommitted (filled_all (part_bytes mid) later) mid now) → CanRecord later → (later ≢ [] → KeepsUnchangedFiles later mid now) → (later ≢ [] → IsNow (ReadsAllGone later) now)
     → CommitsAll together cleanup b old now log
 ends_all laws together cleanup b c old mid now files tells groups later loose sources first log leaves finished same names shown is told told_log none done can keeps gone = λ start notes count lists opened switch h.
     let l = leaves start notes count h.sound h.under_way in
     let is_c : later ≡ groups ++ group_of (names_to_remove cleanup c.verdicts loose) = subst (λ (x : RunLog). later ≡ groups ++ group_of (names_to_remove cleanup x.verdicts loose)) told is in
-    ended laws together cleanup start notes count lists files opened mid now c l.picks loose tells later log shown
+    ended laws together cleanup start notes count lists files opened old mid now c l.picks loose tells later log shown
     (at_last together cleanup start notes count lists files opened old mid b c groups loose sources tells switch h l finished same names shown)
     (is_c ∙ ap (λ (gs : List (List Change)). gs ++ group_of (names_to_remove cleanup c.verdicts loose)) l.are)
-    (subst (λ (x : RunLog). log ≡ with_removed x (names_to_remove cleanup x.verdicts loose)) told told_log) none done can keeps gone
+    (subst (λ (x : RunLog). log ≡ with_removed x (names_to_remove cleanup x.verdicts loose)) told told_log) none done can keeps gone l.aside

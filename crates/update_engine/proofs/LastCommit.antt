@@ -24,7 +24,7 @@ use Rattle.update_model.specs.declared.log.RunLog.{RunLog}
 use Rattle.update_model.specs.declared.settled.Verdict2.{Verdict2}
 use Rattle.update_engine.proofs.Known.{CommittingLaws}
 use Rattle.update_engine.specs.Session.{EndsWithLog, GathersChanges, KeepsRunGoing, HasCommittedAllBut, HasCommittedSets, HasGatheredChanges, HasUncommitted, CommitsOneSource, MayCommit, LeavesUncommitted, NewSource, begun_of, cleans, groups_for, installed_in, names_to_remove, numbers_of, some_names, with_removed}
-use Rattle.update_engine.proofs.Beside.{aside_fewer}
+use Rattle.update_engine.proofs.Beside.{aside_fewer, aside_none, list_more}
 use Rattle.update_engine.proofs.Distinct.{all_last, are_gathered, gathered_for}
 
 -- ---- what is left
@@ -73,13 +73,15 @@ last_gathered together b c old now groups is_so same gathers start notes count s
             order = g.order ∙ ap (λ (ns : List ℕ). ns ++ numbers_of g.picks) (sym s.order);
             first = λ so. no_commits s.commits s.each (s.order ∙ none_installed b (none so));
             alone = λ isnt. let wrong : true ≡ false = sym is_so ∙ isnt in absurd (cc);
-            aside = aside_fewer start.config.sources (installed_in b) (installed_in c) notes opened now
-                (λ m out is. out (subst (λ (ns : List ℕ). Contains ns m) (sym g.order) (Contains-append_left (installed_in b) (numbers_of g.picks) m is))) s.aside;
+            aside = aside_fewer start.config.sources _ _ notes opened now
+                (list_more start.config.sources (installed_in b) (installed_in c) (λ m is. subst (λ (ns : List ℕ). Contains ns m) (sym g.order) (Contains-append_left (installed_in b) (numbers_of g.picks) m is))) s.aside;
           };
+      aside = aside_none start.config.sources _ old now same;
     }
 
 pub last_none : (together : Bool) (b c : Board) (old now : List State) (groups : List (List Change)) → together ≡ false → groups ≡ [] → KeepsRunGoing b c old now → LeavesUncommitted together b c old now groups
 last_none together b c old now groups isnt empty goes start notes count sound under = record {
+  aside = goes.aside start notes count sound under;
   under_way = goes.under_way start notes count sound under;
   picks = [];
   are = empty;

@@ -38,6 +38,7 @@ use Rattle.update_engine.proofs.Known.{CommittingLaws}
 use Rattle.update_engine.specs.Run.{Engine, FaultsRise, RunFindsDamage, ForMirror, HasFinished, HasOpenedJournal, IsReadFromDisk, KeepsMethods, LogIsTrue, Run, Runs, SurvivesCrash, StopsAmongCommits, StopsForMemory, asks_of_lane, engine}
 use Rattle.update_engine.specs.Session.{EndsWithLog, CommitsAll, RunGoesOn, RunGoesOnWith, RunsOverLists, HasCommittedSets, HasCommittedAll, IsNewRun, HasProgress, IsLogOfRun, MayCommit, StartsRun, StopsWhileAsking, StopsWhileEnding, begun_of}
 use Rattle.update_engine.proofs.Committing.{settled_made}
+use Rattle.update_engine.proofs.Beside.{aside_none}
 use Rattle.update_engine.proofs.Lists.{each_more, none_fall, told_on}
 
 -- ---- what is known at its jobs
@@ -193,7 +194,7 @@ sets_none start opened b told unsettled = record {
     groups = tt;
     order = sym (ap (filter (λ (n : ℕ). is_told_installed (slice_get b.verdicts n))) unsettled);
   };
-  aside = record { lock = refl; parts = λ n source name is own out. inl refl };
+  aside = aside_none start.config.sources _ opened opened refl;
 }
 
 -- within its jobs: one by one among its commits, and together before any
@@ -253,9 +254,9 @@ all_may false begun lists b groups all = inr all
 all_may true begun lists b groups all = inr all
 
 -- all commits are made
-ended_at : CommittingLaws → (error : RunError) (together : Bool) (start : RunStart) (notes : List Note) (lists : Files) (opened now : List State) (log : RunLog) → (IsTold now → IfSome start.mirror (λ (w : MirrorMap). Agrees w start.parts start.config.sources notes))
-    → HasCommittedAll together start notes lists opened now log → HasProgress error start together lists opened now
-ended_at laws error together start notes lists opened now log agree e = record {
+ended_at : CommittingLaws → (error : RunError) (together : Bool) (start : RunStart) (notes : List Note) (lists : Files) (opened mid now : List State) (log : RunLog) → (IsTold now → IfSome start.mirror (λ (w : MirrorMap). Agrees w start.parts start.config.sources notes))
+    → HasCommittedAll together start notes lists opened mid now log → HasProgress error start together lists opened now
+ended_at laws error together start notes lists opened mid now log agree e = record {
   commits = e.commits;
   acknowledged = length (commits_of e.commits);
   started = length (commits_of e.commits);
@@ -282,7 +283,7 @@ safe_ended laws run mirror mirror' others others' counts counts' count later ent
     let h : IsNewRun run mirror count opened b = starts mirror count in
     let w : RunGoesOnWith h.start [] later b c opened mid = far h.start [] h.sound h.from h.under_way in
     (stays_at NoMemory run mirror mirror' others others' counts counts' count entry opened now b ready_at h told
-    (λ is. ended_at laws NoMemory run.together h.start ([] ++ w.more) (installed_now entry) opened now log (λ told_now. run_agrees h.start ([] ++ w.more) later mid w.under_way.heard (back told_now))
+    (λ is. ended_at laws NoMemory run.together h.start ([] ++ w.more) (installed_now entry) opened mid now log (λ told_now. run_agrees h.start ([] ++ w.more) later mid w.under_way.heard (back told_now))
     (ends h.start ([] ++ w.more) later (installed_now entry) opened (cleanup_is run mirror count opened b cleanup h switch) (begun_over run mirror count later entry opened mid b c is h w unsettled)))).crash
 
 -- ---- the faults of each method
@@ -344,7 +345,7 @@ logged laws run mirror mirror' others others' counts count later entry opened mi
   where
     finished : (h : IsNewRun run mirror count opened b) (w : RunGoesOnWith h.start [] later b c opened mid) → IsOpen entry opened → IsTold now → HasFinished run (begun_of h.start) ([] ++ w.more) entry now log
     finished h w is tells =
-        let e : HasCommittedAll run.together h.start ([] ++ w.more) (installed_now entry) opened now log =
+        let e : HasCommittedAll run.together h.start ([] ++ w.more) (installed_now entry) opened mid now log =
         ended h.start ([] ++ w.more) later (installed_now entry) opened (cleanup_is run mirror count opened b cleanup h switch) (begun_over run mirror count later entry opened mid b c is h w unsettled) in
         record {
           opened = opened;

@@ -13,25 +13,35 @@ use Rattle.commit_journal.proofs.Fills.{idle_on, rests_on}
 use Rattle.list_commits.specs.Made.{rests}
 use Rattle.run_jobs.specs.declared.error.RunError.{RunError}
 use Rattle.run_jobs.proofs.Agreed.{run_agrees}
-use Rattle.run_jobs.specs.OnTheWay.{KeepsAllButParts, StaysOnItsWay}
+use Rattle.run_jobs.specs.OnTheWay.{ChangesOnePart, StaysOnItsWay}
 use Rattle.run_jobs.specs.Running.{RunStart, JobKeepsRunGoing, RunHasHeard, MayAsk, IsUnderWay, SameBoard}
 use Rattle.run_model.specs.Groups.{all_groups, commits_of}
 use Rattle.run_jobs.proofs.Keeping.{told_back}
 use Rattle.update_engine.proofs.Known.{CommittingLaws}
 use Rattle.update_engine.specs.Session.{KeepsRunGoing, RunGoesOn, HasCommittedSets, HasMadeSets, HasProgress, MayCommit, StopsBetweenAsks, StopsWhileAsking, begun_of, installed_in}
-use Rattle.update_engine.proofs.Beside.{aside_asked, aside_same}
+use Rattle.update_engine.proofs.Beside.{aside_asked, aside_none, aside_on, list_more}
+use Rattle.update_engine.specs.Run.{IsListOf, KeepsAside}
 use Rattle.update_engine.proofs.Committing.{has_begun, settled_made}
 use Rattle.update_engine.proofs.Lists.{told_on}
 
 -- ---- between two jobs
 
 pub goes_nowhere : (b : Board) (now : List State) → KeepsRunGoing b b now now
-goes_nowhere b now = record { under_way = λ start notes count sound under. under; sets = λ start notes count opened sound under sets. sets }
+goes_nowhere b now = record {
+  under_way = λ start notes count sound under. under;
+  sets = λ start notes count opened sound under sets. sets;
+  aside = λ start notes count sound under. aside_none start.config.sources _ now now refl;
+  more = λ start notes count sound under n is. is;
+}
 
 pub goes_aside : (b c d : Board) (old mid now : List State) → KeepsRunGoing b c old mid → KeepsRunGoing c d mid now → KeepsRunGoing b d old now
 goes_aside b c d old mid now one two = record {
   under_way = λ start notes count sound under. two.under_way start notes count sound (one.under_way start notes count sound under);
   sets = λ start notes count opened sound under sets. two.sets start notes count opened sound (one.under_way start notes count sound under) (one.sets start notes count opened sound under sets);
+  aside = λ start notes count sound under.
+      let later = one.under_way start notes count sound under in
+      aside_on start.config.sources _ _ [] old mid now (list_more start.config.sources (installed_in c) (installed_in d) (two.more start notes count sound later)) (one.aside start notes count sound under) (two.aside start notes count sound later);
+  more = λ start notes count sound under n is. two.more start notes count sound (one.under_way start notes count sound under) n (one.more start notes count sound under n is);
 }
 
 pub stops_aside : (error : RunError) (b c : Board) (old mid now : List State) → KeepsRunGoing b c old mid → StopsBetweenAsks error c mid now → StopsBetweenAsks error b old now
@@ -88,7 +98,7 @@ far_aside mirror count mid_count b c d old mid now far aside = λ start notes so
 same_installed : (b c : Board) → SameBoard b c → installed_in c ≡ installed_in b
 same_installed b c same = rw (same.settled, same.verdicts) refl
 
-sets_asked : CommittingLaws → (start : RunStart) (notes more : List Note) (opened : List State) (b c : Board) (old now : List State) → IsNow IsIdle old → Since old now (KeptAtRestSince old) → KeepsAllButParts old now
+sets_asked : CommittingLaws → (start : RunStart) (notes more : List Note) (opened : List State) (b c : Board) (old now : List State) → IsNow IsIdle old → Since old now (KeptAtRestSince old) → ChangesOnePart old now
     → (IsTold now → (name : List ℕ) → StaysOnItsWay start.config.sources more old now name) → SameBoard b c
     → HasCommittedSets (begun_of start) notes opened old b → HasCommittedSets (begun_of start) (notes ++ more) opened now c
 sets_asked laws start notes more opened b c old now idle since others left same sets =
@@ -102,12 +112,12 @@ sets_asked laws start notes more opened b c old now idle since others left same 
         groups = laws.stay (begun_of start) notes more (all_groups sets.commits) sets.groups;
         order = rw (same.settled, same.verdicts) sets.order;
       };
-      aside = aside_same start.config.sources (installed_in b) (installed_in c) (notes ++ more) opened now (same_installed b c same)
-          (aside_asked start.config.sources (installed_in b) notes more opened old now others (left told) sets.aside);
+      aside = subst (λ (ns : List ℕ). KeepsAside start.config.sources (IsListOf start.config.sources ns) (notes ++ more) opened now) (sym (same_installed b c same))
+          (aside_asked start.config.sources (IsListOf start.config.sources (installed_in b)) notes more opened old now others (left told) sets.aside);
     }
 
 pub far_asked : CommittingLaws → (mirror here : Option MirrorMap) (count mid_count later : ℕ) (b c d : Board) (old mid now : List State) → here ≡ mirror → RunGoesOn mirror count mid_count b c old mid → IsNow IsIdle mid
-    → Since mid now (KeptAtRestSince mid) → KeepsAllButParts mid now → SameBoard c d → JobKeepsRunGoing here mid_count later c d mid now → RunGoesOn mirror count later b d old now
+    → Since mid now (KeptAtRestSince mid) → ChangesOnePart mid now → SameBoard c d → JobKeepsRunGoing here mid_count later c d mid now → RunGoesOn mirror count later b d old now
 far_asked laws mirror here count mid_count later b c d old mid now world far idle since others same goes = λ start notes sound from under.
     let w = far start notes sound from under in
     let v = goes start (notes ++ w.more) sound (from ∙ sym world) w.under_way in

@@ -2,6 +2,7 @@
 use Rattle.std.specs.Prelude.{◌≡◌, ◌≢◌, ◌⊎◌, ℕ, ℤ, ◌<◌, ◌≤◌, ◌-◌, ◌^◌, ◌==◌, Bool, true, false, Contains, IfOk, IfSome, IsTrue, List, [], ◌∷◌, filter, length, map, slice_get, take, Option, Some, None, Result, Err}
 use Rattle.std.specs.List.{flat_map, AllByRecursion as Each}
 use Rattle.acq_base.specs.Mirror.{MirrorMap}
+use Rattle.acq_base.specs.Plan.{names_of}
 use Rattle.acq_base.specs.declared.plan.Plan.{Plan}
 use Rattle.acq_base.specs.declared.plan.Source.{Source}
 use Rattle.acq_base.specs.declared.settings.Settings.{Settings}
@@ -15,17 +16,17 @@ use Rattle.board_model.specs.Reached.{Reached}
 use Rattle.board_model.specs.Runs.{Note}
 use Rattle.commit_journal.specs.Opening.{IsOfOpening, KeepsFilesBut, Recovers, damage_of}
 use Rattle.commit_journal.specs.Runs.{CommitProgress}
-use Rattle.journal_model.specs.Names.{journal, lock}
+use Rattle.journal_model.specs.Names.{is_installed_name, is_partial, journal, partial}
 use Rattle.journal_model.specs.Reopen.{installed_now}
 use Rattle.journal_model.specs.Rest.{IsAtRest, IsSynced, file_now, part_bytes, size_below}
-use Rattle.list_commits.specs.Loose.{NoneIsLoose}
+use Rattle.list_commits.specs.Loose.{IsLoose, NoneIsLoose}
 use Rattle.list_commits.specs.Made.{CommitsMade, after_all}
 use Rattle.lists_dir.specs.Installed.{installed_of}
 use Rattle.release_file.specs.declared.changing.Change.{Change}
 use Rattle.update_model.specs.declared.log.Asked.{Asked}
 use Rattle.update_model.specs.declared.log.RunLog.{RunLog}
 use Rattle.run_jobs.specs.Counting.{CountsUp, counted_on}
-use Rattle.run_jobs.specs.OnTheWay.{PartsStay}
+use Rattle.run_jobs.specs.OnTheWay.{StaysOnItsWay}
 use Rattle.run_jobs.specs.Running.{AgreesWhereKnown}
 use Rattle.run_jobs.specs.declared.error.RunError.{RunError}
 use Rattle.run_jobs.specs.declared.error.RunError.TheVariants.{BadJournal, DiskFault, NoMemory}
@@ -167,11 +168,23 @@ pub record IsLogOfBoard (begun : RunInput) (heard : List Note) (log : RunLog) : 
   pub asks : log.asks ≡ board.asks
   pub kept : cleans_up begun.config.settings log.verdicts ≡ false → log.removed ≡ []
 
--- Since the journal was open the hold's file stays, and each list on its way is as it was or as an answer left it, but for
--- those of the sources that are installed.
-pub record KeepsAside (sources : List Source) (installed : List ℕ) (heard : List Note) (opened now : List State) : Type 0 where
-  pub lock : file_now now lock ≡ file_now opened lock
-  pub parts : PartsStay sources installed heard opened now
+-- a list of one of these sources
+pub record IsListOf (sources : List Source) (numbers : List ℕ) (name : List ℕ) : Type 0 where
+  pub n : ℕ
+  pub source : Source
+  pub at : slice_get sources n ≡ Some source
+  pub own : Contains (names_of source) name
+  pub among : Contains numbers n
+
+-- a list that a run may have moved from its way, or removed there: of a source that is installed, or of none where these go
+abbrev pub IsTaken : List Source → List ℕ → Bool → List ℕ → Type 0
+IsTaken sources installed cleans name = IsListOf sources installed name ⊎ ((cleans ≡ true) × IsLoose sources (partial name))
+
+-- What lies beside the lists and the journal stays: the hold's file, and each list on its way, but for those that were taken,
+-- as it was or as an answer left it.
+pub record KeepsAside (sources : List Source) (Taken : List ℕ → Type 0) (heard : List Note) (old now : List State) : Type 0 where
+  pub others : (name : List ℕ) → is_installed_name name ≡ false → is_partial name ≡ false → name ≢ journal → file_now now name ≡ file_now old name
+  pub parts : (name : List ℕ) → (Taken name → ⊥) → StaysOnItsWay sources heard old now name
 
 -- All commits of the run are made since the journal was open, and the disk is at rest with the lists after them. What lies
 -- beside the lists stays, and where names of no source go none of them is left.
@@ -184,7 +197,7 @@ pub record HasFinished (run : Run) (begun : RunInput) (heard : List Note) (entry
   pub same : ran.heard ≡ heard
   pub made : CommitsMade (commits_of commits) opened now
   pub rests : ToldAs (IsAtRest (after_all (commits_of commits) (installed_now entry))) now
-  pub aside : KeepsAside begun.config.sources (installed_by log) heard opened now
+  pub aside : KeepsAside begun.config.sources (IsTaken begun.config.sources (installed_by log) (cleans_up begun.config.settings log.verdicts)) heard opened now
   pub gone : cleans_up begun.config.settings log.verdicts ≡ true → IsNow (λ s. NoneIsLoose begun.config.sources (reads s)) now
 
 -- The log tells what the run heard, and each answer that is known is the mirror's or a fault. Over a disk that tells and was

@@ -1,5 +1,5 @@
 -- A run between two of its steps, with the commits that it has made.
-use Rattle.std.specs.Prelude.{◌≡◌, ◌<◌, ◌&&◌, ℕ, Bool, true, false, not, if◌then◌else◌, List, [], ◌∷◌, ◌++◌, filter, map, slice_get, Option, Some, None, IfSome}
+use Rattle.std.specs.Prelude.{◌≡◌, ◌<◌, ◌&&◌, ℕ, Bool, true, false, not, if◌then◌else◌, Contains, List, [], ◌∷◌, ◌++◌, filter, map, slice_get, Option, Some, None, IfSome}
 use Rattle.std.specs.List.{AllByRecursion as Each, list_all}
 use Rattle.acq_base.specs.Mirror.{MirrorMap}
 use Rattle.acq_base.specs.declared.plan.Source.{Source}
@@ -25,7 +25,7 @@ use Rattle.run_jobs.specs.Running.{RunStart, IsSoundBegun, IsUnderWay}
 use Rattle.run_jobs.specs.declared.error.RunError.{RunError}
 use Rattle.run_jobs.specs.declared.error.RunError.TheVariants.{NoMemory}
 use Rattle.run_model.specs.Begun.{RunInput}
-use Rattle.update_engine.specs.Run.{IsConfiguredBy, IsReadFromDisk, KeepsAside, Run, IsLogOfBoard}
+use Rattle.update_engine.specs.Run.{IsConfiguredBy, IsListOf, IsReadFromDisk, IsTaken, KeepsAside, Run, IsLogOfBoard}
 use Rattle.run_model.specs.Groups.{Group, SetOf, AreGroups, CameToOnBoard, all_groups, commits_of, sources_in}
 use Rattle.run_model.specs.Begun.{ReadsPlanned}
 use Rattle.run_model.specs.Runs.{AreRising, MayBeStopped, HasRun, cleans_up, installed_by, is_installed, is_kept, is_told_installed}
@@ -64,7 +64,7 @@ pub record HasMadeSets (begun : RunInput) (heard : List Note) (opened now : List
 pub record HasCommittedSets (begun : RunInput) (heard : List Note) (opened now : List State) (b : Board) : Type 0 where
   pub sets : HasMadeSets begun heard opened now b
   pub open sets use *
-  pub aside : KeepsAside begun.config.sources (installed_in b) heard opened now
+  pub aside : KeepsAside begun.config.sources (IsListOf begun.config.sources (installed_in b)) heard opened now
 
 -- The commits of a run over these lists are made one after another since the journal was open: so many are acknowledged and
 -- so many begun, and as many where it stops for want of memory. Where the disk was at rest then, it is synced.
@@ -100,11 +100,15 @@ pub record OnlySettles (before after : Board) : Type 0 where
   pub asks : after.asks ≡ before.asks
   pub quiet : NoneAsks before → NoneAsks after
 
--- A run that is under way still is where nothing was heard, and so is its having committed its sets.
+-- A run that is under way still is where nothing was heard, and so is its having committed its sets. What lies beside the lists
+-- stays, but for what is on its way of the sources that were installed.
 pub record KeepsRunGoing (before after : Board) (old now : List State) : Type 0 where
   pub under_way : (start : RunStart) (notes : List Note) (count : ℕ) → IsSoundBegun start → IsUnderWay start notes count before old → IsUnderWay start notes count after now
   pub sets : (start : RunStart) (notes : List Note) (count : ℕ) (opened : List State) → IsSoundBegun start → IsUnderWay start notes count before old
       → HasCommittedSets (begun_of start) notes opened old before → HasCommittedSets (begun_of start) notes opened now after
+  pub aside : (start : RunStart) (notes : List Note) (count : ℕ) → IsSoundBegun start → IsUnderWay start notes count before old
+      → KeepsAside start.config.sources (IsListOf start.config.sources (installed_in after)) [] old now
+  pub more : (start : RunStart) (notes : List Note) (count : ℕ) → IsSoundBegun start → IsUnderWay start notes count before old → (n : ℕ) → Contains (installed_in before) n → Contains (installed_in after) n
 
 -- and where it stops, its commits have got so far
 abbrev pub StopsBetweenAsks : RunError → Board → List State → List State → Type 0
@@ -211,7 +215,7 @@ pub record HasCommittedAllBut (together : Bool) (start : RunStart) (notes : List
   pub order : installed_in b ≡ sources_in (all_groups commits) ++ numbers_of picks
   pub first : together ≡ true → commits ≡ []
   pub alone : together ≡ false → picks ≡ []
-  pub aside : KeepsAside start.config.sources (installed_in b) notes opened now
+  pub aside : KeepsAside start.config.sources (IsListOf start.config.sources (installed_in b)) notes opened now
 
 -- what is left to be committed of a run that is under way: the changes of these sources
 pub record HasUncommitted (together : Bool) (start : RunStart) (notes : List Note) (count : ℕ) (before : Board) (old now : List State) (b : Board) (groups : List (List Change)) : Type 0 where
@@ -221,6 +225,7 @@ pub record HasUncommitted (together : Bool) (start : RunStart) (notes : List Not
   pub each : Each (IsNewSource start notes now) picks
   pub in_turn : AreRising (numbers_of picks)
   pub sets : (opened : List State) → (together ≡ true → before.settled ≡ []) → HasCommittedSets (begun_of start) notes opened old before → HasCommittedAllBut together start notes opened now b picks
+  pub aside : KeepsAside start.config.sources (IsListOf start.config.sources (installed_in b)) [] old now
 
 -- so is it of each run that is under way
 abbrev pub LeavesUncommitted : Bool → Board → Board → List State → List State → List (List Change) → Type 0
@@ -243,21 +248,22 @@ StopsWhileEnding error together cleanup b old now =
     (start : RunStart) (notes : List Note) (count : ℕ) (lists : Files) (opened : List State) → start.config.settings.cleanup ≡ cleanup
     → RunsOverLists together start notes count lists opened old b → HasProgress error start together lists opened now
 
--- all commits of a run over these lists are made, and this is its log; what lies beside the lists stays, but for what the
--- clean-up takes
-pub record HasCommittedAll (together : Bool) (start : RunStart) (notes : List Note) (lists : Files) (opened now : List State) (log : RunLog) : Type 0 where
+-- all commits of a run over these lists are made, and this is its log; what lies beside the lists stays, at its end and all in
+-- all, but for what was taken
+pub record HasCommittedAll (together : Bool) (start : RunStart) (notes : List Note) (lists : Files) (opened old now : List State) (log : RunLog) : Type 0 where
   pub commits : List (List Group)
   pub ran : HasRun together (begun_of start) lists log commits
   pub same : ran.heard ≡ notes
   pub made : CommitsMade (commits_of commits) opened now
-  pub aside : KeepsAside start.config.sources (installed_by log) notes opened now
+  pub aside : KeepsAside start.config.sources (IsTaken start.config.sources (installed_by log) (cleans_up start.config.settings log.verdicts)) notes opened now
+  pub end : KeepsAside start.config.sources (IsTaken start.config.sources (installed_by log) (cleans_up start.config.settings log.verdicts)) [] old now
   pub gone : cleans_up start.config.settings log.verdicts ≡ true → IsNow (λ s. NoneIsLoose start.config.sources (reads s)) now
 
 -- so are those of each such run
 abbrev pub CommitsAll : Bool → Bool → Board → List State → List State → RunLog → Type 0
 CommitsAll together cleanup b old now log =
     (start : RunStart) (notes : List Note) (count : ℕ) (lists : Files) (opened : List State) → start.config.settings.cleanup ≡ cleanup
-    → RunsOverLists together start notes count lists opened old b → HasCommittedAll together start notes lists opened now log
+    → RunsOverLists together start notes count lists opened old b → HasCommittedAll together start notes lists opened old now log
 
 -- The log is that of the run's board, which is finished, with what the clean-up removed. Faults are those that the method
 -- counted, and all answers are those of the first method.

@@ -6,7 +6,7 @@ ghost use Rattle.acq_outside.specs.Stays.{StaysCounting};
 ghost use Rattle.board_model.specs.Boards.{first_ready, is_finished, log_of};
 ghost use Rattle.board_model.specs.Jobs.{NoneAsks};
 ghost use Rattle.commit_journal.specs.Changes.{AreAllStaged, CanRecord, filled_all};
-ghost use Rattle.commit_journal.specs.Commits.{KeepsUnchangedFiles, ReadsNoDropped};
+ghost use Rattle.commit_journal.specs.Commits.{KeepsUnchangedFiles, ReadsAllGone};
 ghost use Rattle.commit_journal.specs.Runs.{HasCommitted};
 ghost use Rattle.journal_model.specs.Rest.{IsIdle, IsSynced, part_bytes};
 ghost use Rattle.list_commits.specs.Made.{IsCommitStopped};
@@ -131,7 +131,7 @@ pub fn commit_last<D: Disk>(
     ensures idle { OnOk result (IsNow IsIdle (D.trace disk.new)) }
     ensures none { groups ≡ [] → D.trace disk.new ≡ D.trace disk.old }
     ensures others { groups ≢ [] → KeepsUnchangedFiles groups (D.trace disk.old) (D.trace disk.new) }
-    ensures gone { groups ≢ [] → OnOk result (IsNow (ReadsNoDropped groups) (D.trace disk.new)) }
+    ensures gone { groups ≢ [] → OnOk result (IsNow (ReadsAllGone groups) (D.trace disk.new)) }
     ensures done { groups ≢ [] → OnOk result (HasCommitted (filled_all (part_bytes (D.trace disk.old)) groups) (D.trace disk.old) (D.trace disk.new)) }
     ensures stopped { OnErr result (IsCommitStopped (filled_all (part_bytes (D.trace disk.old)) groups) (D.trace disk.old) (D.trace disk.new)) }
 {
