@@ -34,6 +34,7 @@ pub fn run_with_hold<D: Disk, M: Method, C: Clock, S: Sink>(
     ensures disk_fault { result.status.0 ≡ 102 → Rose (D.faults disk.old) (D.faults disk.new) }
     ensures quiet_disk { IsSome result.log → D.faults disk.new ≡ D.faults disk.old }
     ensures dry_disk { result.status.0 ≡ 103 → D.faults disk.new ≡ D.faults disk.old }
+    ensures dry_held { result.status.0 ≡ 103 → D.held disk.new ≡ D.held disk.old }
     ensures output { BlamesOutput (S.faults out.old) (S.faults out.new) result.status.0 }
     ensures held_fault { result.status.0 ≡ 104 → Rose (D.held disk.old) (D.held disk.new) }
     ensures quiet_held { IsSome result.log → D.held disk.new ≡ D.held disk.old }
