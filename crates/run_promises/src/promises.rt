@@ -9,8 +9,8 @@ pub fn lists_match_mirror()
     ensures { law.RunsEndAsServed }
 {}
 
-/// A source that a log tells to have a set has just that, and each other one its former files. Beside the lists the hold's file
-/// stays, and a list on its way where its source isn't told as installed; a clean-up leaves no file of no source.
+/// A source that a log tells to have a set has just that, and each other one its former files. Beside the lists and the journal
+/// no file changes but lists on their way, as answers left them; a clean-up leaves no file of no source.
 pub fn lists_match_log()
     ensures { law.RunsEndAsTold }
 {}

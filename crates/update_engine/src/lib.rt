@@ -8,10 +8,10 @@
 //! that was begun is acknowledged (`dry` of `Runs`). Where it answers a log, the log is that of a board to which the
 //! run's calls led and which is finished; each answer in it is the mirror's or a fault, and the faults of each method
 //! are told in order, within what it counted; over a disk that tells and was synced, the run's commits are all made,
-//! the disk is at rest with the lists after them, what lies beside them stays, and where names of no source go none of
-//! them is left (`LogIsTrue`). Just those fetches were begun that the log tells (`BeginsAsTold`). Damage of the
-//! journal is told only where it is there, and then no log is answered. A fault of the disk is told only where its
-//! count rose, and none goes untold beside a log (`frame`).
+//! the disk is at rest with the lists after them, beside them only lists on their way change, as answers left them,
+//! and where names of no source go none of them is left (`LogIsTrue`). Just those fetches were begun that the log
+//! tells (`BeginsAsTold`). Damage of the journal is told only where it is there, and then no log is answered. A fault
+//! of the disk is told only where its count rose, and none goes untold beside a log (`frame`).
 #![tactic(auto)]
 
 pub use top::run_update;
