@@ -87,8 +87,8 @@ fn carry_out<D: Disk>(disk: &mut D, prepared: &Prepared) -> Result<(), Fault>
 /// before the gate is open a crash leaves the lists before the commit, and from then on, once the journal is opened
 /// again, those after it. It takes no memory.
 ///
-/// What it moves to its name or removes is no file's any more. The disk stands as that `prepare` left it. `DiskFault` only where the disk's count of faults rose; the journal must
-/// then be opened again.
+/// What it moves to its name or removes is no file's any more. The disk stands as that `prepare` left it. `DiskFault` only
+/// where the disk's count of faults rose; the journal must then be opened again.
 pub fn commit<D: Disk>(
     _journal: &mut Journal,
     disk: &mut D,

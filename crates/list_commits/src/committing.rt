@@ -16,8 +16,9 @@ use std::alloc::Global;
 /// Makes one commit of these groups of changes: it is prepared, and then made. Whenever it is stopped, a crash leaves the
 /// lists before it or those after it, whole.
 ///
-/// What it moves to its name or removes is no file's any more. The changes can be recorded, each staged file is there and lasts, and the journal is open for commits. `DiskFault` only
-/// where the disk's count of faults rose, and never `BadJournal`. Without memory nothing was changed.
+/// What it moves to its name or removes is no file's any more. The changes can be recorded, each staged file is there and
+/// lasts, and the journal is open for commits. `DiskFault` only where the disk's count of faults rose, and never
+/// `BadJournal`. Without memory nothing was changed.
 pub fn commit_groups<D: Disk>(
     alloc: Global,
     journal: &mut Journal,
