@@ -1,7 +1,7 @@
 -- What a commit moves or removes is no file's once its steps are carried out.
-use Rattle.std.proofs.Common.{◌≡◌, ◌≢◌, ◌∙◌, inl, inr, refl, sym, ap, subst, ℕ, Bool, true, IsTrue, List, [], ◌∷◌, ◌++◌, Option, Some, None, Result, Ok, Err}
+use Rattle.std.proofs.Common.{◌≡◌, ◌≢◌, ◌∙◌, inl, inr, refl, sym, ap, subst, ℕ, Bool, IsTrue, List, [], ◌∷◌, Option, Some, None, Result, Ok, Err}
 use Rattle.std.specs.Prelude.{OnOk}
-use Rattle.acq_outside.specs.Crash.{State, IsShown, reads}
+use Rattle.acq_outside.specs.Crash.{State, IsShown}
 use Rattle.acq_outside.specs.Disk.{Files}
 use Rattle.acq_outside.specs.States.{IsNow}
 use Rattle.acq_outside.proofs.FileMaps.{with_file-other}
@@ -12,7 +12,7 @@ use Rattle.journal_model.specs.declared.step.Step.{Step}
 use Rattle.journal_model.specs.declared.step.Step.TheVariants as steps
 use Rattle.journal_model.proofs.Twice.{ChangeDifferentNames, carried_at, partial_other, with_other, with_same}
 use Rattle.journal_model.proofs.Views.{partial_not_journal}
-use Rattle.commit_journal.specs.Changes.{AllAllowed, CanRecord, all_changes, step_of, steps_in, steps_of}
+use Rattle.commit_journal.specs.Changes.{AllAllowed, CanRecord, all_changes, steps_in, steps_of}
 use Rattle.commit_journal.specs.Commits.{AreGone, ReadsAllGone}
 use Rattle.commit_journal.specs.Phases.{shut_files}
 use Rattle.commit_journal.specs.declared.changing.Change.{Change}

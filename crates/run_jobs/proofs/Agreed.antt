@@ -1,7 +1,6 @@
 -- What a run has heard of a mirror, while the disk's states go on.
 use Rattle.std.proofs.Common.{◌≡◌, ℕ, Bool, true, false, if◌then◌else◌, List, [], ◌∷◌, ◌++◌, length, subst, take, drop, Option, Some, None, IfSome}
 use Rattle.std.specs.Prelude.{nat_le, nat_lt, ◌&&◌}
-use Rattle.std.specs.List.{AllByRecursion as Each}
 use Rattle.acq_base.specs.Mirror.{MirrorMap}
 use Rattle.acq_base.specs.declared.fetch.Answer.{Answer}
 use Rattle.acq_base.specs.declared.fetch.Answer.TheVariants as answers
@@ -10,7 +9,7 @@ use Rattle.acq_base.specs.declared.fetch.NotServed.TheVariants as nots
 use Rattle.acq_base.specs.declared.plan.Source.{Source}
 use Rattle.acq_outside.specs.Crash.{State}
 use Rattle.acq_outside.specs.States.{IsTold}
-use Rattle.board_model.specs.Agreeing.{Agrees, IsMirrors}
+use Rattle.board_model.specs.Agreeing.{Agrees}
 use Rattle.board_model.specs.Runs.{Note}
 use Rattle.update_model.specs.Outcomes.{PartFiles}
 use Rattle.update_model.specs.Trails.{IsFaultOr, answered, body_for}

@@ -13,7 +13,7 @@ use Rattle.journal_model.proofs.Views.{partial_apart}
 use Rattle.journal_model.specs.Names.{partial}
 use Rattle.journal_model.specs.Rest.{part_file}
 use Rattle.run_jobs.specs.Fetching.{ComesTo, IsFetched, LeavesPart}
-use Rattle.run_jobs.specs.OnTheWay.{ChangesOnePart, IsServed, IsStagedFor, LeftAs, NoFileCame, StaysOnItsWay, WasLeft, list_of}
+use Rattle.run_jobs.specs.OnTheWay.{ChangesOnePart, IsServed, LeftAs, NoFileCame, StaysOnItsWay, WasLeft, list_of}
 use Rattle.update_model.specs.declared.ask.Body.TheVariants as bodies
 use Rattle.update_model.specs.declared.ask.Closed.{Closed}
 use Rattle.update_model.specs.declared.ask.Closed.TheVariants as closings

@@ -1,6 +1,5 @@
 -- What lies beside the lists, through jobs and commits.
-use Rattle.std.proofs.Common.{◌≡◌, ◌≢◌, ◌⊎◌, ◌∙◌, inl, inr, refl, sym, ap, subst, ℕ, Bool, true, false, List, [], ◌∷◌, ◌++◌, Contains, Option, Some, None, option_map}
-use Rattle.acq_base.specs.Plan.{names_of}
+use Rattle.std.proofs.Common.{◌≡◌, ◌≢◌, ◌∙◌, refl, sym, ap, subst, ℕ, true, false, List, [], ◌∷◌, ◌++◌, Contains, Option, Some, None, option_map}
 use Rattle.acq_base.specs.declared.plan.Source.{Source}
 use Rattle.acq_outside.specs.Crash.{State, file_at, names_of as file_names, reads, seen_at}
 use Rattle.acq_outside.specs.Disk.{Files}
@@ -14,7 +13,7 @@ use Rattle.journal_model.proofs.FolderNames.{list_if, plain_inside}
 use Rattle.journal_model.proofs.Twice.{other_name}
 use Rattle.journal_model.proofs.Views.{partial_not_journal}
 use Rattle.journal_model.specs.Names.{is_file_name, is_inside, is_installed_name, is_partial, journal, lock, partial}
-use Rattle.journal_model.specs.Rest.{KeepsOtherFiles, file_named, file_now}
+use Rattle.journal_model.specs.Rest.{file_named}
 use Rattle.run_jobs.proofs.OnTheWay.{same_unheard, stays_on, stays_same, unheard_same}
 use Rattle.run_jobs.specs.OnTheWay.{ChangesOnePart, StaysOnItsWay}
 use Rattle.update_engine.specs.Run.{IsListOf, KeepsAside}
@@ -46,7 +45,7 @@ list_more sources numbers more within name is = record { n = is.n; source = is.s
 
 -- a name that is that of no list on its way
 part_other : (own name : List ℕ) → is_partial name ≡ false → name ≢ partial own
-part_other own name no is = let wrong : is_partial (partial own) ≡ false = subst (λ (n : List ℕ). is_partial n ≡ false) is no in absurd (cc)
+part_other own name whole is = let wrong : is_partial (partial own) ≡ false = subst (λ (n : List ℕ). is_partial n ≡ false) is whole in absurd (cc)
 
 pub aside_asked : (sources : List Source) (Taken : List ℕ → Type 0) (notes more : List Note) (opened old now : List State) → ChangesOnePart old now → ((name : List ℕ) → StaysOnItsWay sources more old now name)
     → KeepsAside sources Taken notes opened old → KeepsAside sources Taken (notes ++ more) opened now

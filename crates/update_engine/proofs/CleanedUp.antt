@@ -1,9 +1,8 @@
 -- Behind the last commit of a run: what lies beside the lists stays, and the names of no source are gone.
-use Rattle.std.proofs.Common.{◌≡◌, ◌≢◌, ◌⊎◌, ◌∙◌, inl, inr, ⊎_elim, refl, sym, ap, subst, ℕ, suc, Bool, true, false, All, List, [], ◌∷◌, ◌++◌, map, Contains, Option, Some, None}
-use Rattle.std.specs.Prelude.{filter, if◌then◌else◌, is_some, slice_get}
+use Rattle.std.proofs.Common.{◌≡◌, ◌≢◌, ◌⊎◌, ◌∙◌, inl, inr, ⊎_elim, refl, sym, ap, subst, ℕ, suc, Bool, true, false, All, List, [], ◌∷◌, ◌++◌, Contains, Option, Some, None}
+use Rattle.std.specs.Prelude.{is_some, slice_get}
 use Rattle.std.specs.List.{flat_map, AllByRecursion as Each}
 use Rattle.std.proofs.lemmas.List.{append-nil}
-use Rattle.std.proofs.lemmas.List.Elements.{Contains-append_left, Contains-append_right}
 use Rattle.acq_base.specs.Plan.{IsPlanned, names_of}
 use Rattle.acq_base.specs.declared.plan.Source.{Source}
 use Rattle.acq_base.proofs.Lists.{first-or-rest}
@@ -13,12 +12,11 @@ use Rattle.acq_outside.specs.States.{IsTold, IsNow}
 use Rattle.board_bounds.proofs.Walking.{at_all}
 use Rattle.board_model.proofs.Making.{none-in}
 use Rattle.board_model.specs.Runs.{Note}
-use Rattle.commit_journal.specs.Changes.{AreApart, CanRecord, IsNone, all_changed_names, all_changes}
+use Rattle.commit_journal.specs.Changes.{IsNone, all_changed_names, all_changes}
 use Rattle.commit_journal.specs.Commits.{AreGone, KeepsUnchangedFiles, ReadsAllGone}
 use Rattle.commit_journal.specs.declared.changing.Change.{Change}
 use Rattle.journal_model.proofs.Views.{partial_one}
 use Rattle.journal_model.specs.Names.{journal, lock, partial}
-use Rattle.journal_model.specs.Rest.{file_now}
 use Rattle.list_commits.proofs.Apart.{here, there}
 use Rattle.list_commits.proofs.Gone.{all_kept, parts_kept}
 use Rattle.list_commits.specs.Changes.{drops_for}
@@ -27,7 +25,7 @@ use Rattle.list_commits.specs.RecordLaws.{AreGathered, group_of, groups_of, name
 use Rattle.run_jobs.specs.Running.{RunStart, IsSoundBegun}
 use Rattle.run_model.proofs.Names.{in_plan}
 use Rattle.update_engine.proofs.Beside.{gone_behind, reads_same}
-use Rattle.update_engine.proofs.Distinct.{are_gathered, either, gathered_for}
+use Rattle.update_engine.proofs.Distinct.{either, gathered_for}
 use Rattle.update_engine.proofs.Known.{CommittingLaws}
 use Rattle.update_engine.specs.Run.{IsListOf}
 use Rattle.update_engine.specs.Session.{IsNewSource, NewSource, numbers_of, some_names}

@@ -10,7 +10,7 @@ use Rattle.acq_base.specs.declared.plan.Source.{Source}
 use Rattle.acq_base.specs.declared.uri.ListName.{ListName}
 use Rattle.acq_outside.specs.Crash.{State, synced}
 use Rattle.acq_outside.specs.Disk.{Files}
-use Rattle.acq_outside.specs.States.{IsTold, Since, IsNow}
+use Rattle.acq_outside.specs.States.{IsTold, IsNow}
 use Rattle.board_model.specs.Boards.{Board, first_ready, settled_as, settled_of}
 use Rattle.board_model.specs.NameLaws.{AreNamedApart, RestsOn}
 use Rattle.board_model.specs.Runs.{Note}

@@ -1,6 +1,6 @@
 -- The end of a run: the last commit, with the clean-up.
 use Rattle.std.proofs.Common.{◌≡◌, ◌≢◌, ◌∙◌, inl, inr, refl, sym, ap, subst, arith, ℕ, suc, Bool, true, false, List, [], ◌∷◌, ◌++◌, length, map, Contains, Option, Some, None, IfSome}
-use Rattle.std.specs.Prelude.{IsTrue, ◌&&◌, if◌then◌else◌, not, slice_get}
+use Rattle.std.specs.Prelude.{IsTrue, ◌&&◌, if◌then◌else◌, not}
 use Rattle.std.specs.List.{flat_map, list_all, AllByRecursion as Each}
 use Rattle.std.proofs.lemmas.List.{append-nil, append_assoc}
 use Rattle.std.proofs.lemmas.List.Elements.{Contains-append_right}
@@ -32,7 +32,6 @@ use Rattle.run_model.specs.Groups.{Group, CleanUp, SetOf, AreGroups, AreRemovabl
 use Rattle.run_model.specs.Runs.{AreAllGroups, AreInPlanOrder, AreLooseLists, AreRising, RemovesLooseNames, MayBeStopped, MayBeCommitted, cleans_up, installed_by, is_kept}
 use Rattle.update_model.specs.declared.log.RunLog.{RunLog}
 use Rattle.update_model.specs.declared.settled.Verdict2.{Verdict2}
-use Rattle.acq_outside.proofs.Going.{no_time}
 use Rattle.list_commits.proofs.Apart.{there}
 use Rattle.list_commits.proofs.Gone.{all_kept}
 use Rattle.run_model.proofs.Stopping.{sources_of_both}

@@ -7,7 +7,7 @@ use Rattle.acq_base.specs.declared.plan.Plan.{Plan}
 use Rattle.acq_base.specs.declared.plan.Source.{Source}
 use Rattle.acq_base.specs.declared.settings.Settings.{Settings}
 use Rattle.acq_outside.specs.Crash.{State, reads}
-use Rattle.acq_outside.specs.States.{From, IsTold, Since, IsNow, ToldAs}
+use Rattle.acq_outside.specs.States.{From, Since, IsNow, ToldAs}
 use Rattle.acq_outside.specs.declared.disk.Disk.{Ghosts as Disks}
 use Rattle.acq_outside.specs.declared.method.Method.{Ghosts as Methods}
 use Rattle.board_model.specs.Agreeing.{Agrees}
