@@ -1,6 +1,5 @@
 -- Where memory runs out, whatever a crash leaves is the same lists.
-use Rattle.std.proofs.Common.{◌≡◌, ◌≤◌, ◌⊎◌, ℕ, List, [], ◌∷◌, Some, Ok, arith, inl, inr, subst}
-use Rattle.acq_base.specs.declared.plan.Source.{Source}
+use Rattle.std.proofs.Common.{◌≡◌, ◌≤◌, ◌⊎◌, ℕ, List, [], ◌∷◌, Some, arith, inl, inr, subst}
 use Rattle.acq_outside.specs.Crash.{State}
 use Rattle.acq_outside.specs.Disk.{Files}
 use Rattle.acq_outside.specs.States.{From, IsNow, IsTold, ToldAs}

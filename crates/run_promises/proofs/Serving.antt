@@ -228,6 +228,7 @@ folder_matches run before after log logged finished = record {
 }
 
 pub ends_as_told : RunsHoldAsTold → RunsKeepOthers → RunsEndAsTold
+unfolding reads_lists
 ends_as_told holds keeps run before after log logged settled =
     let finished = logged.commits settled in
     let lists = after_all (commits_of finished.commits) (installed_now before.trace) in

@@ -37,7 +37,6 @@ pub fn run_options<E: Etc, D: Disk, M: Method, C: Clock, S: Sink>(
     ensures quiet_disk { IsSome result.log → D.faults disk.new ≡ D.faults disk.old }
     ensures dry_disk { result.status.0 ≡ 103 → D.faults disk.new ≡ D.faults disk.old }
     ensures dry_held { result.status.0 ≡ 103 → D.held disk.new ≡ D.held disk.old }
-    ensures dry_etc { result.status.0 ≡ 103 → E.faults etc.new ≡ E.faults etc.old }
     ensures output { BlamesOutput (S.faults out.old) (S.faults out.new) result.status.0 }
     ensures held_fault { result.status.0 ≡ 104 → Rose (D.held disk.old) (D.held disk.new) }
     ensures quiet_held { IsSome result.log → D.held disk.new ≡ D.held disk.old }
@@ -63,7 +62,6 @@ fn refuse<S: Sink>(alloc: Global, refusal: ConfigurationError, out: &mut S) -> R
     ensures no_disk_fault { result.status.0 ≢ 102 }
     ensures not_held { result.status.0 ≢ 104 }
     ensures etc_fault { result.status.0 ≡ 106 → refusal ≡ ConfigurationError.Fault }
-    ensures memory { result.status.0 ≡ 103 → refusal ≢ ConfigurationError.Fault }
     ensures log { result.log ≡ None }
     ensures said { WritesFault (output S.Sink out.old) (output S.Sink out.new) (line_of refusal) result.status.0 }
 {

@@ -57,13 +57,12 @@ pub fn update_call<
     ensures held_fault { result.status.0 ≡ 104 → Rose (D.held disk.old) (D.held disk.new) }
     ensures etc_fault { result.status.0 ≡ 106 → Rose (E.faults etc.old) (E.faults etc.new) }
 
-    // No fault is swallowed: beside a log, and where memory ran out, no folder failed and none was held, and beside each status
-    // but 105 the output didn't fail.
+    // No fault is swallowed: beside a log no folder failed and none was held, where memory ran out the lists folder neither failed
+    // nor was held, and beside each status but 105 the output didn't fail.
     ensures quiet_held { IsSome result.log → D.held disk.new ≡ D.held disk.old }
     ensures quiet_disk { IsSome result.log → D.faults disk.new ≡ D.faults disk.old }
     ensures dry_disk { result.status.0 ≡ 103 → D.faults disk.new ≡ D.faults disk.old }
     ensures dry_held { result.status.0 ≡ 103 → D.held disk.new ≡ D.held disk.old }
-    ensures dry_etc { result.status.0 ≡ 103 → E.faults etc.new ≡ E.faults etc.old }
     ensures quiet_etc { IsSome result.log → E.faults etc.new ≡ E.faults etc.old }
     ensures quiet_sink { result.status.0 ≢ 105 → S.faults out.new ≡ S.faults out.old }
     ensures status { IfUpdate (asked words.now) (λ options. IsStatus result.log result.status.0) }

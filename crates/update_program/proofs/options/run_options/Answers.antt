@@ -15,7 +15,6 @@ returns-in-Err g c =
       quiet_disk = λ some. let never = rw by.log at some in absurd cc;
       dry_disk = λ e. refl;
       dry_held = λ e. refl;
-      dry_etc = λ e. read.frame.dry (by.memory e);
       output = by.frame;
       held_fault = λ e. absurd (by.not_held e);
       quiet_held = λ some. let never = rw by.log at some in absurd cc;
