@@ -213,7 +213,7 @@ pub fn read_some(file: &File, at: u64, out: &mut [u8]) -> io::Result<usize>
 }
 
 /// Moves a file to another path, in place of what is there, a link too, and answers the one that was moved, as it was
-/// found, or `None` where there is none to move. One in `partial` that somebody else can write is an error.
+/// found, or `None` where there is none to move. One in `partial` that is not this user's alone is an error.
 pub fn rename(
     rt: &impl Files,
     from: &str,
@@ -221,7 +221,7 @@ pub fn rename(
     to: &str,
 ) -> io::Result<Option<Found>>
     ensures plain { IfOk result (λ moved. IfSome moved (λ file. IsFile (file_type file.metadata))) }
-    ensures own { IsTrue from_partial → IfOk result (λ moved. IfSome moved (λ file. IsPrivate file.standing file.user)) }
+    ensures own { IsTrue from_partial → IfOk result (λ moved. IfSome moved (λ file. IsPrivateFile file.standing file.user)) }
     ensures mode { IfOk result (λ moved. IfSome moved ShowsMode) }
 {
     find_plain(rt, to)?;
@@ -229,7 +229,7 @@ pub fn rename(
         return Ok(None);
     };
     let found = look(metadata);
-    if from_partial && !is_private(found.standing, found.user) {
+    if from_partial && !is_private_file(found.standing, found.user) {
         return Err(Error::from(ErrorKind::PermissionDenied));
     }
     fs::rename(rt, from, to)?;

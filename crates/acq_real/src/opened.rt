@@ -1,5 +1,6 @@
 //! Files and folders that stay open from one call to the next.
-ghost use Rattle.std.specs.Prelude.{◌≡◌, ◌≢◌, ◌↔◌, string_bytes, true, IfOk, IfSome, IsTrue, Some};
+ghost use Rattle.std.specs.Prelude.{◌≡◌, ◌≢◌, ◌↔◌, false, string_bytes, true, IfOk, IfSome, IsTrue, Some};
+ghost use Rattle.std.specs.Fs.{asks_append, asks_create_new, asks_read, asks_write};
 ghost use Rattle.acq_real.specs.Opened.{IsClosed, IsOwn, StaysClosed, opened_by};
 ghost use Rattle.acq_real.specs.Ownership.{IsPrivateFile};
 
@@ -179,14 +180,25 @@ pub fn create(rt: &impl Files<File = File>, path: String) -> io::Result<OpenFile
 
 /// Makes a file where nothing has the path, with these permission bits whatever the umask.
 pub fn make_file(rt: &impl Files<File = File>, path: &str, mode: u32) -> io::Result<File> {
-    let mut how = OpenOptions::new();
-    how.read(true);
-    how.write(true);
-    how.create_new(true);
-    how.mode(mode);
-    let made = how.open(rt, path)?;
+    let mut way = way_to_make();
+    way.mode(mode);
+    let made = way.open(rt, path)?;
     give_back(&made, mode)?;
     Ok(made)
+}
+
+/// How a file is made to be read and written, its permission bits aside: nothing may stand at its path, not even a link.
+fn way_to_make() -> OpenOptions
+    ensures anew { asks_create_new result ≡ true }
+    ensures reads { asks_read result ≡ true }
+    ensures writes { asks_write result ≡ true }
+    ensures in_place { asks_append result ≡ false }
+{
+    let mut way = OpenOptions::new();
+    way.read(true);
+    way.write(true);
+    way.create_new(true);
+    way
 }
 
 /// Gives what was made with these permission bits those back that the umask took away.
