@@ -1,5 +1,5 @@
 -- What is written so far, as a front of a whole text.
-use Rattle.std.proofs.Common.{◌≡◌, ◌⊎◌, refl, sym, ap, subst, ◌∙◌, ℕ, ◌≤◌, min, nat_le, if◌then◌else◌, Bool, true, false, List, [], ◌∷◌, ◌++◌, length, take, append_assoc, append-nil, Option, Some, None, arith}
+use Rattle.std.proofs.Common.{◌≡◌, refl, sym, ap, subst, ◌∙◌, ℕ, min, nat_le, if◌then◌else◌, Bool, true, false, List, [], ◌∷◌, ◌++◌, length, take, append_assoc, append-nil, Option, Some, None, arith}
 use Rattle.std.proofs.lemmas.List.{take_min, take-append-le}
 use Rattle.acq_base.specs.Sum.{sum_of}
 use Rattle.acq_base.specs.Mirror.{MirrorMap, answer_at}
@@ -8,11 +8,11 @@ use Rattle.acq_base.specs.declared.fetch.Answer.TheVariants as answers
 use Rattle.acq_base.specs.declared.fetch.NotServed.TheVariants.{Moved, Absent, TooBig, Garbled, Fault}
 use Rattle.acq_base.specs.declared.fetch.Reply.{Reply}
 use Rattle.acq_base.specs.declared.fetch.Reply.TheVariants.{Served, Not, NoMemory}
-use Rattle.acq_outside.specs.Mirror.{Answers as AnswersWith, IsReply, reply_within}
+use Rattle.acq_outside.specs.Mirror.{Answers as AnswersWith, reply_within}
 use Rattle.method_messages.specs.declared.message.Message.{Message}
 use Rattle.method_server.specs.Asked.{is_request, wish_of}
 use Rattle.method_server.specs.Answers.{bad_request, capabilities, not_served, served}
-use Rattle.method_server.specs.Turns.{Moment, holding, IsAnswered, IsReplied, IsTurn, IsTurnOf, Answers, Touches}
+use Rattle.method_server.specs.Turns.{Moment, holding, IsAnswered, IsReplied, IsTurn, IsTurnOf, Answers}
 use Rattle.method_server.specs.Serving.{BeginsText, Serves, last_text, text_so_far}
 use Rattle.method_server.specs.declared.wish.Wish.{Wish}
 use Rattle.method_server.proofs.Answering.{answers_append, changes_none, touches_count}

@@ -1,15 +1,15 @@
 -- Files that are named, and those that aren't.
-use Rattle.std.proofs.Common.{◌≡◌, ◌≢◌, refl, sym, ap, subst, ◌∙◌, ℕ, Bool, true, false, if◌then◌else◌, List, [], ◌∷◌, Option, Some, None, option_map}
+use Rattle.std.proofs.Common.{◌≡◌, ◌≢◌, refl, sym, ap, subst, ◌∙◌, ℕ, Bool, true, false, if◌then◌else◌, List, [], ◌∷◌, ◌++◌, Option, Some, None}
 use Rattle.acq_base.specs.Mirror.{MirrorMap}
-use Rattle.acq_base.specs.declared.fetch.NotServed.{NotServed}
 use Rattle.acq_base.specs.declared.fetch.Reply.{Reply}
 use Rattle.acq_base.specs.declared.fetch.Reply.TheVariants.{Served, Not, NoMemory}
-use Rattle.acq_outside.specs.Disk.{Files, with_file}
+use Rattle.acq_outside.specs.Disk.{Files}
 use Rattle.acq_outside.proofs.FileMaps.{with_file-here, with_file-other}
 use Rattle.method_messages.specs.declared.message.Message.{Message}
 use Rattle.method_server.specs.Asked.{is_request, wish_of}
 use Rattle.method_server.specs.Named.{IsNamed, NamedByNone, Holds, file_at}
-use Rattle.method_server.specs.Turns.{Moment, ChangesOnly, LeavesBy, holding, IsAnswered, IsReplied, IsTurn, IsTurnOf, Answers, Touches, TouchesFor, asked}
+use Rattle.method_server.specs.Turns.{Moment, ChangesOnly, LeavesBy, holding, IsAnswered, IsReplied, IsTurn, IsTurnOf, Answers, Touches, TouchesFor}
+use Rattle.method_server.specs.Serving.{Serves}
 use Rattle.method_server.specs.declared.wish.Wish.{Wish}
 
 -- ---- one file changed
@@ -100,3 +100,15 @@ pub holds : (world : Option MirrorMap) (wish : Wish) (old mid new : Moment) (sai
     → Answers world true mid later text new → NamedByNone wish.name later → Holds wish.name bytes new.files
 holds world wish old mid new said text bytes later replied is are unnamed =
     told_on wish.name bytes mid.files new.files (stays world true mid new later text wish.name are unnamed) (reply_holds wish.name bytes replied.reply old.files mid.files is replied.leaves)
+
+-- ---- all messages of an input
+
+unnamed_parts : (name : List ℕ) (ms ns : List Message) → NamedByNone name (ms ++ ns) → NamedByNone name ms × NamedByNone name ns
+unnamed_parts name [] ns unnamed = (tt, unnamed)
+unnamed_parts name (m ∷ ms) ns unnamed = let rest = unnamed_parts name ms ns unnamed.1 in ((unnamed.0, rest.0), rest.1)
+
+pub serves_stays : (world : Option MirrorMap) (http : Bool) (old new : Moment) (bytes text : List ℕ) (h : Serves world http old new bytes text) (name : List ℕ) → NamedByNone name (h.handled ++ h.later)
+    → file_at name new.files ≡ file_at name old.files
+serves_stays world http old new bytes text h name unnamed =
+    let parts = unnamed_parts name h.handled h.later unnamed in
+    begun_stays http h.mid new h.later name h.last parts.1 ∙ stays world http old h.mid h.handled h.answers name h.are parts.0

@@ -1,5 +1,5 @@
 -- A request's file, piece by piece.
-use Rattle.std.proofs.Common.{◌≡◌, ◌≢◌, ◌⊎◌, inl, inr, refl, sym, ap, subst, ◌∙◌, ℕ, ◌+◌, ◌<◌, ◌≤◌, nat_le, Bool, true, false, MatchBool, if◌then◌else◌, List, [], ◌∷◌, ◌++◌, length, length-append, take, take-add, drop, Option, Some, None, option_map, unwrap_or, IfSome, Result, Ok, Err, arith}
+use Rattle.std.proofs.Common.{◌≡◌, ◌≢◌, inl, inr, refl, sym, ap, subst, ◌∙◌, ℕ, ◌+◌, ◌≤◌, Bool, true, false, MatchBool, List, [], ◌∷◌, ◌++◌, length, length-append, take, take-add, Option, Some, None, option_map, unwrap_or, IfSome, arith}
 use Rattle.std.specs.Prelude.{◌==◌}
 use Rattle.std.proofs.lemmas.Bool.{le-leb, lt-leb}
 use Rattle.std.proofs.lemmas.Bool.Decides.{nat_tests}
@@ -11,20 +11,19 @@ use Rattle.acq_base.specs.declared.fetch.Answer.TheVariants as answers
 use Rattle.acq_base.specs.declared.fetch.Job.{Job}
 use Rattle.acq_base.specs.declared.fetch.NotServed.{NotServed}
 use Rattle.acq_base.specs.declared.fetch.NotServed.TheVariants.{Moved, Absent, TooBig, Garbled, Fault}
-use Rattle.acq_base.specs.declared.fetch.Reply.{Reply}
 use Rattle.acq_base.specs.declared.fetch.Reply.TheVariants as replies
 use Rattle.acq_base.specs.declared.sum.Sum.{Sum}
 use Rattle.acq_base.specs.declared.uri.Uri.{Uri}
 use Rattle.acq_outside.specs.Disk.{Files, with_file}
 use Rattle.acq_outside.specs.Files.{CanPut, Put, PutPart, after_put}
 use Rattle.acq_outside.specs.Mirror.{Answers, IsReply, reply_within}
-use Rattle.acq_outside.specs.Word.{HasSize, IsCounted, IsDone, IsOther, IsPiece, IsPieceOf, IsReplyOf, IsWord}
+use Rattle.acq_outside.specs.Word.{HasSize, IsDone, IsOther, IsPiece, IsPieceOf, IsReplyOf, IsWord}
 use Rattle.acq_outside.specs.declared.word.Fetch.{Fetch}
 use Rattle.acq_outside.specs.declared.word.Word.{Word}
 use Rattle.acq_outside.proofs.FileMaps.{with_file-here, with_file-other, with_file-twice}
 use Rattle.hash_gate.specs.Pieces.{HasSummed}
 use Rattle.hash_gate.specs.declared.total.Total.{Total}
-use Rattle.method_server.specs.Fetching.{Comes, HasCome, IsFrontOf, IsWhole, Keeps, MayPut, fetch_at, fetched_text, holding_so_far}
+use Rattle.method_server.specs.Fetching.{Comes, Finishes, HasCome, IsFrontOf, Keeps, MayPut, fetch_at, fetched_text, holding_so_far}
 use Rattle.method_server.specs.Answers.{served}
 use Rattle.method_server.specs.Turns.{ChangesOnly, IsReplied, Moment, holding}
 use Rattle.method_server.specs.declared.fetching.Fetched.{Fetched}
@@ -165,10 +164,6 @@ whole_told : (world : Option MirrorMap) (job : Job) (bytes : List ℕ) (size : �
     → IfSome world (λ entries. HasSize (answer_at entries job.uri) job size) → Answers world job (replies.Served bytes)
 whole_told None job bytes size long front has = tt
 whole_told (Some entries) job bytes size long front has = whole_of (answer_at entries job.uri) job bytes size long front has
-
--- where no piece came, the file is made at the end
-abbrev pub Finishes : Bool → List ℕ → ℕ → Option Files → Option Files → Type 0
-Finishes http name at old new = MatchBool (at == 0) (Keeps http old name 0 [] new) (new ≡ old)
 
 not_zero : (n : ℕ) → 1 ≤ n → (n == 0) ≡ false
 not_zero n some = grind (arith, nat_tests)

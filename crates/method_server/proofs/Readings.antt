@@ -9,7 +9,7 @@ use Rattle.method_messages.specs.declared.error.MessageError.{MessageError}
 use Rattle.method_messages.specs.declared.error.MessageError.TheVariants.{BadMessage, TooLong, NoMemory}
 use Rattle.method_messages.specs.Lines.{is_feed, is_line, ended, message_in, can_begin, may_follow}
 use Rattle.method_messages.specs.Streams.{IsMessage, AreMessages, IsOpen, Unended, Reads, begun_at, place}
-use Rattle.method_messages.specs.Refused.{IsBad, IsTooLong, IsRefused}
+use Rattle.method_messages.specs.Refused.{IsBad, IsRefused}
 use Rattle.method_messages.proofs.Cuts.{next_feed_none, next_feed_some}
 use Rattle.method_messages.proofs.Ended.{all-append, line-append, ended-push, begun-push, plain_of}
 use Rattle.method_messages.proofs.Going.{are-append, are-one, are-feed}

@@ -1,5 +1,5 @@
 -- A stream's pieces taken one after another, and how serving its input ends.
-use Rattle.std.proofs.Common.{◌≡◌, ◌≢◌, ◌⊎◌, inl, inr, refl, sym, ap, subst, ◌∙◌, ℕ, ◌+◌, ◌≤◌, Bool, List, [], ◌∷◌, ◌++◌, length, length-append, take, min, append_assoc, append-nil, Option, Some, None, option_map, IfSome, Result, Ok, Err, arith}
+use Rattle.std.proofs.Common.{◌≡◌, ◌⊎◌, inl, inr, refl, sym, ap, subst, ◌∙◌, ℕ, ◌+◌, ◌≤◌, Bool, List, [], ◌∷◌, ◌++◌, length, length-append, take, min, append_assoc, append-nil, Option, Some, None, option_map, Result, Err, arith}
 use Rattle.std.proofs.lemmas.List.{take_all, take_at}
 use Rattle.acq_base.specs.Mirror.{MirrorMap}
 use Rattle.acq_outside.specs.Count.{Rose}
@@ -13,7 +13,7 @@ use Rattle.method_messages.specs.Streams.{Unended, Reads, begun_at}
 use Rattle.method_server.specs.Answers.{capabilities, general_failure}
 use Rattle.method_server.specs.Turns.{Moment, Answers}
 use Rattle.method_server.specs.Input.{Input, Ended, Refused, IsRefusedBehind}
-use Rattle.method_server.specs.Serving.{EndsBy, IsRead, MethodText, Scene, Served, Serves, last_text, most_input, text_so_far}
+use Rattle.method_server.specs.Serving.{EndsBy, IsRead, Scene, Served, Serves, last_text, most_input, text_so_far}
 use Rattle.method_server.specs.Taking.{Answered, ClosesBy, FailsBy, Halts, IsCut, SoFar, TakesBad, TakesBy, TakesFront, TakesPart, end_of_stop}
 use Rattle.method_server.specs.declared.end.ServeEnd.{ServeEnd}
 use Rattle.method_server.specs.declared.end.ServeEnd.TheVariants as ends
@@ -21,6 +21,7 @@ use Rattle.method_server.specs.declared.end.Stop.{Stop}
 use Rattle.method_server.specs.declared.end.Stop.TheVariants as stops
 use Rattle.method_server.proofs.Answering.{answered_append, answered_none, answers_append, halts_none, halts_within, part_more, touches_more, wrote_more}
 use Rattle.method_server.proofs.Completing.{begins_text, take_front}
+use Rattle.method_server.proofs.Naming.{serves_stays}
 use Rattle.method_server.proofs.Readings.{every_input, fault_place, nothing_read, refused_by, refused_more}
 
 -- ---- a line
@@ -184,6 +185,7 @@ ends_with world http old new end bytes text read wrote few serves ended = record
   wrote = wrote;
   few = few;
   serves = serves;
+  stays = serves_stays world http old.at new.at bytes text serves;
   begins = begins_text world http old.at new.at bytes text serves;
   ends = ended;
 }

@@ -1,5 +1,5 @@
 -- A request's file while its pieces come.
-use Rattle.std.specs.Prelude.{◌≡◌, ◌⊎◌, ℕ, ◌+◌, ◌<◌, ◌≤◌, Bool, true, false, List, [], length, take, Option, Some, None, IfSome}
+use Rattle.std.specs.Prelude.{◌==◌, MatchBool, ◌≡◌, ℕ, Bool, true, false, List, [], length, take, Option, IfSome}
 use Rattle.acq_base.specs.Mirror.{MirrorMap, answer_at}
 use Rattle.acq_base.specs.Sum.{sum_of}
 use Rattle.acq_base.specs.declared.fetch.Answer.{Answer}
@@ -27,6 +27,10 @@ MayPut false old name at = Unit {0}
 abbrev pub Keeps : Bool → Option Files → List ℕ → ℕ → List ℕ → Option Files → Type 0
 Keeps true old name at bytes new = Put old name at bytes new
 Keeps false old name at bytes new = new ≡ old
+
+-- where no piece came, the file is made at the end
+abbrev pub Finishes : Bool → List ℕ → ℕ → Option Files → Option Files → Type 0
+Finishes http name at old new = MatchBool (at == 0) (Keeps http old name 0 [] new) (new ≡ old)
 
 -- before the first piece nothing has changed
 abbrev pub holding_so_far : Bool → List ℕ → Option Files → List ℕ → Option Files

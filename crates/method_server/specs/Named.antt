@@ -1,8 +1,11 @@
 -- Which files requests over http name.
-use Rattle.std.specs.Prelude.{◌≡◌, ℕ, true, List, [], ◌∷◌, Option, Some, option_map}
+use Rattle.std.specs.Prelude.{◌≡◌, ℕ, Bool, true, List, [], ◌∷◌, Option, Some, option_map}
+use Rattle.acq_base.specs.Mirror.{MirrorMap}
+use Rattle.acq_base.specs.declared.fetch.Reply.TheVariants.{Served}
 use Rattle.acq_outside.specs.Disk.{Files}
 use Rattle.method_messages.specs.declared.message.Message.{Message}
 use Rattle.method_server.specs.Asked.{is_request, wish_of}
+use Rattle.method_server.specs.Turns.{Answers, IsReplied, Moment, Touches}
 use Rattle.method_server.specs.declared.wish.Wish.{Wish}
 
 -- a request that asks for a file under this name
@@ -23,3 +26,19 @@ file_at name files = option_map (λ (all : Files). all name) files
 -- where files are told, these bytes stand under the name
 abbrev pub Holds : List ℕ → List ℕ → Option Files → Type 0
 Holds name bytes files = file_at name files ≡ option_map (λ (all : Files). Some bytes) files
+
+-- ---- laws
+
+-- a file that no request names stays
+abbrev pub StaysUnnamed : Type 0
+StaysUnnamed = (world : Option MirrorMap) (http : Bool) (old new : Moment) (messages : List Message) (text name : List ℕ) → Answers world http old messages text new → NamedByNone name messages
+    → file_at name new.files ≡ file_at name old.files
+
+-- and while an answer is under way too
+abbrev pub StaysUntouched : Type 0
+StaysUntouched = (http : Bool) (old new : Moment) (messages : List Message) (name : List ℕ) → Touches http messages old new → NamedByNone name messages → file_at name new.files ≡ file_at name old.files
+
+-- a file that was served is there until a later request names it
+abbrev pub StaysServed : Type 0
+StaysServed = (world : Option MirrorMap) (wish : Wish) (old mid new : Moment) (said text bytes : List ℕ) (later : List Message) → (replied : IsReplied world true wish old said mid) → replied.reply ≡ Served bytes
+    → Answers world true mid later text new → NamedByNone wish.name later → Holds wish.name bytes new.files

@@ -1,5 +1,5 @@
 -- What serving an input comes to.
-use Rattle.std.specs.Prelude.{◌≡◌, ◌≢◌, ◌⊎◌, ℕ, ◌^◌, ◌≤◌, Bool, List, [], ◌∷◌, ◌++◌, length, take, Option, Some, None}
+use Rattle.std.specs.Prelude.{◌≡◌, ◌≢◌, ◌⊎◌, ℕ, ◌≤◌, Bool, List, [], ◌∷◌, ◌++◌, length, take, Option, Some, None}
 use Rattle.acq_base.specs.Mirror.{MirrorMap}
 use Rattle.acq_outside.specs.Count.{Rose}
 use Rattle.acq_outside.specs.Inlet.{Gave, IsSpent}
@@ -10,6 +10,7 @@ use Rattle.acq_outside.specs.declared.method.Method as methods
 use Rattle.acq_outside.specs.declared.sink.Sink as sinks
 use Rattle.method_messages.specs.declared.message.Message.{Message}
 use Rattle.method_server.specs.Answers.{capabilities, general_failure}
+use Rattle.method_server.specs.Named.{NamedByNone, file_at}
 use Rattle.method_server.specs.Turns.{Moment, moment, Answers, Touches}
 use Rattle.method_server.specs.Input.{Input, IsRefusedBehind}
 use Rattle.method_server.specs.declared.end.ServeEnd.{ServeEnd}
@@ -102,8 +103,13 @@ pub record Served (world : Option MirrorMap) (http : Bool) (old new : Scene) (en
   pub wrote : Wrote old.written text new.written
   pub few : length bytes ≤ most_input
   pub serves : Serves world http old.at new.at bytes text
+  -- a file that no request over http names stays as it was
+  pub stays : (name : List ℕ) → NamedByNone name (serves.handled ++ serves.later) → file_at name new.at.files ≡ file_at name old.at.files
   pub begins : BeginsText world http old.at new.at.count bytes text
   pub ends : EndsBy world http old new bytes text end
+
+abbrev pub ServesCall : {I M F S : Type 0} → inlets.Ghosts I → methods.Ghosts M → put_files.Ghosts F → sinks.Ghosts S → Bool → I → I → M → M → F → F → S → S → ServeEnd → Type 0
+ServesCall i m f s http input input' method method' files files' out out' end = Served (m.world method) http (scene i m f s input method files out) (scene i m f s input' method' files' out') end
 
 -- ---- faults
 

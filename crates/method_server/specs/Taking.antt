@@ -1,16 +1,19 @@
 -- How far messages have been answered, while a stream comes in pieces.
-use Rattle.std.specs.Prelude.{◌≡◌, ◌⊎◌, ℕ, ◌+◌, ◌≤◌, Bool, true, false, List, [], ◌∷◌, ◌++◌, length, take, Option, Some, None, Result, Ok, Err}
+use Rattle.std.specs.Prelude.{◌≡◌, ℕ, ◌+◌, ◌≤◌, Bool, false, List, [], ◌∷◌, ◌++◌, length, Option, Some, None, Result, Ok, Err}
 use Rattle.acq_base.specs.Mirror.{MirrorMap}
-use Rattle.acq_outside.specs.Count.{Rose}
 use Rattle.acq_outside.specs.Inlet.{Gave}
 use Rattle.acq_outside.specs.Sink.{Wrote, WrotePart}
+use Rattle.acq_outside.specs.declared.files.Files as put_files
+use Rattle.acq_outside.specs.declared.inlet.Inlet as inlets
+use Rattle.acq_outside.specs.declared.method.Method as methods
+use Rattle.acq_outside.specs.declared.sink.Sink as sinks
 use Rattle.method_messages.specs.declared.message.Message.{Message}
 use Rattle.method_messages.specs.Lines.{is_feed}
 use Rattle.method_messages.specs.Streams.{Unended, Reads}
 use Rattle.method_server.specs.Answers.{capabilities, general_failure}
-use Rattle.method_server.specs.Turns.{Moment, Answers, IsTurn, Touches}
+use Rattle.method_server.specs.Turns.{Moment, Answers, Touches, moment}
 use Rattle.method_server.specs.Input.{IsRefusedBehind}
-use Rattle.method_server.specs.Serving.{Scene, Served, most_input}
+use Rattle.method_server.specs.Serving.{Scene, scene, Served, most_input}
 use Rattle.method_server.specs.declared.end.ServeEnd.{ServeEnd}
 use Rattle.method_server.specs.declared.end.ServeEnd.TheVariants as ends
 use Rattle.method_server.specs.declared.end.Stop.{Stop}
@@ -139,3 +142,17 @@ abbrev pub end_of_stop : Stop → ServeEnd
 end_of_stop stops.Files = ends.Files
 end_of_stop stops.Memory = ends.Memory
 end_of_stop stops.Output = ends.Output
+
+-- ---- in the words of a call's objects
+
+abbrev pub AnswersAllCall : {M F S T : Type 0} → methods.Ghosts M → put_files.Ghosts F → sinks.Ghosts S → Bool → List Message → M → M → F → F → S → S → Result T Stop → Type 0
+AnswersAllCall m f s http messages method method' files files' out out' result =
+    AnswersOrHalts (m.world method) http messages (moment m f method files) (moment m f method' files') (s.written out) (s.written out') result
+
+abbrev pub TakesCall : {M F S : Type 0} → methods.Ghosts M → put_files.Ghosts F → sinks.Ghosts S → Bool → List ℕ → Unended → Unended → M → M → F → F → S → S → Result (Option ℕ) Stop → Type 0
+TakesCall m f s http piece reader reader' method method' files files' out out' result =
+    Takes (m.world method) http piece reader reader' (moment m f method files) (moment m f method' files') (s.written out) (s.written out') result
+
+abbrev pub TurnsCall : {I M F S : Type 0} → inlets.Ghosts I → methods.Ghosts M → put_files.Ghosts F → sinks.Ghosts S → Bool → ℕ → Unended → Unended → I → I → M → M → F → F → S → S → Result ℕ ServeEnd → Type 0
+TurnsCall i m f s http room reader reader' input input' method method' files files' out out' result =
+    Turns (m.world method) http room (scene i m f s input method files out) (scene i m f s input' method' files' out') reader reader' result

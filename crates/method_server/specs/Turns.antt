@@ -82,3 +82,11 @@ asked http message = if is_request message then wish_of http message else None
 abbrev pub Touches : Bool → List Message → Moment → Moment → Type 0
 Touches http [] old new = new ≡ old
 Touches http (message ∷ messages) old new = (old.count ≤ new.count) × TouchesFor http (asked http message) old.files new.files
+
+-- ---- in the words of a call's objects
+
+abbrev pub AnswersCall : {M F : Type 0} → methods.Ghosts M → put_files.Ghosts F → Bool → Message → M → M → F → F → List ℕ → Type 0
+AnswersCall m f http message old new before after text = IsAnswered (m.world old) http message (wish_of http message) (moment m f old before) text (moment m f new after)
+
+abbrev pub RepliesCall : {M F : Type 0} → methods.Ghosts M → put_files.Ghosts F → Bool → Wish → M → M → F → F → List ℕ → Type 0
+RepliesCall m f http wish old new before after text = IsReplied (m.world old) http wish (moment m f old before) text (moment m f new after)

@@ -7,8 +7,8 @@ ghost use Rattle.acq_outside.specs.Frame.{CountsOnly};
 ghost use Rattle.acq_outside.specs.Sink.{Wrote, WrotePart};
 ghost use Rattle.method_server.specs.Asked.{is_request as asks, wish_of};
 ghost use Rattle.method_server.specs.Fetching.{fetched_text as text_of};
-ghost use Rattle.method_server.specs.Taking.{AnswersOrHalts};
-ghost use Rattle.method_server.specs.Turns.{ChangesOnly, IsAnswered, IsReplied, TouchesFor, moment};
+ghost use Rattle.method_server.specs.Taking.{AnswersAllCall};
+ghost use Rattle.method_server.specs.Turns.{AnswersCall, ChangesOnly, RepliesCall, TouchesFor};
 
 use crate::end::Stop;
 use crate::fetching::{Fetched, fetch};
@@ -35,8 +35,7 @@ pub fn answer_all<M: Method, F: Files, S: Sink>(
     ensures method { Fetches M.Method method.old method.new }
     ensures files { CountsOnly Stop.Files (F.faults files.old) (F.faults files.new) result }
     ensures output { CountsOnly Stop.Output (S.faults out.old) (S.faults out.new) result }
-    ensures answers { AnswersOrHalts (M.world method.old) http messages.now (moment M.Method F.Files method.old files.old) (moment M.Method F.Files method.new files.new)
-        (S.written out.old) (S.written out.new) result }
+    ensures answers { AnswersAllCall M.Method F.Files S.Sink http messages.now method.old method.new files.old files.new out.old out.new result }
 {
     let mut rest = messages;
     while let Some((message, others)) = rest.split_first() {
@@ -58,8 +57,7 @@ fn answer<M: Method, F: Files, S: Sink>(
     ensures method { Fetches M.Method method.old method.new }
     ensures files { CountsOnly Stop.Files (F.faults files.old) (F.faults files.new) result }
     ensures output { CountsOnly Stop.Output (S.faults out.old) (S.faults out.new) result }
-    ensures answers { AnswersOrHalts (M.world method.old) http (message.now ∷ []) (moment M.Method F.Files method.old files.old) (moment M.Method F.Files method.new files.new)
-        (S.written out.old) (S.written out.new) result }
+    ensures answers { AnswersAllCall M.Method F.Files S.Sink http (message.now ∷ []) method.old method.new files.old files.new out.old out.new result }
 {
     if !is_request(message) {
         return Ok(());
@@ -98,8 +96,7 @@ fn find_answer<M: Method, F: Files>(
     ensures method { Fetches M.Method method.old method.new }
     ensures files { CountsOnly OutError.Fault (F.faults files.old) (F.faults files.new) result }
     ensures touches { TouchesFor http (wish_of http message.now) (F.files files.old) (F.files files.new) }
-    ensures text { IfOk result (λ text. IsAnswered (M.world method.old) http message.now (wish_of http message.now)
-        (moment M.Method F.Files method.old files.old) text (moment M.Method F.Files method.new files.new)) }
+    ensures text { IfOk result (AnswersCall M.Method F.Files http message.now method.old method.new files.old files.new) }
 {
     match read_wish(alloc, http, message)? {
         Some(wish) => answer_wish(alloc, http, &wish, method, files),
@@ -120,8 +117,7 @@ fn answer_wish<M: Method, F: Files>(
     ensures method { Fetches M.Method method.old method.new }
     ensures files { CountsOnly OutError.Fault (F.faults files.old) (F.faults files.new) result }
     ensures only { ChangesOnly http wish.now.name (F.files files.old) (F.files files.new) }
-    ensures text { IfOk result (λ text. IsReplied (M.world method.old) http wish.now
-        (moment M.Method F.Files method.old files.old) text (moment M.Method F.Files method.new files.new)) }
+    ensures text { IfOk result (RepliesCall M.Method F.Files http wish.now method.old method.new files.old files.new) }
 {
     let fetched = fetch(alloc, http, wish, method, files)?;
     Ok(fetched_text(alloc, wish, &fetched)?)

@@ -1,10 +1,10 @@
 //! A request's file, fetched: over http its pieces go into the file as they come.
 
-ghost use Rattle.std.specs.Prelude.{◌≡◌, [], ◌==◌, IfOk, OnErr, OnOk, MatchBool};
+ghost use Rattle.std.specs.Prelude.{◌≡◌, IfOk, OnErr, OnOk};
 ghost use Rattle.acq_base.specs.Uri.{IsSound};
 ghost use Rattle.acq_outside.specs.Fetches.{Fetches};
 ghost use Rattle.acq_outside.specs.Frame.{Counts, CountsOnly};
-ghost use Rattle.method_server.specs.Fetching.{Comes, Keeps, MayPut};
+ghost use Rattle.method_server.specs.Fetching.{Comes, Finishes, Keeps, MayPut};
 ghost use Rattle.method_server.specs.Turns.{ChangesOnly};
 
 use crate::wish::Wish;
@@ -38,7 +38,8 @@ pub fn fetch<M: Method, F: Files>(
     ensures method { Fetches M.Method method.old method.new }
     ensures files { CountsOnly OutError.Fault (F.faults files.old) (F.faults files.new) result }
     ensures only { ChangesOnly http wish.now.name (F.files files.old) (F.files files.new) }
-    ensures comes { IfOk result (Comes (M.world method.old) http wish.now (M.faults method.old) (M.faults method.new) (F.files files.old) (F.files files.new)) }
+    ensures comes { IfOk result (Comes (M.world method.old) http wish.now (M.faults method.old) (M.faults method.new)
+        (F.files files.old) (F.files files.new)) }
 {
     prove!(wish.job.from <= wish.job.max);
     let mut total = Total::new();
@@ -86,7 +87,7 @@ fn keep<F: Files>(
 /// Over http, makes the file where no piece did.
 fn finish<F: Files>(http: bool, files: &mut F, name: &Text, at: u64) -> Result<(), Fault>
     ensures frame { Counts (F.faults files.old) (F.faults files.new) result }
-    ensures ok { OnOk result (MatchBool (at == 0) (Keeps http (F.files files.old) name.now 0 [] (F.files files.new)) (F.files files.new ≡ F.files files.old)) }
+    ensures ok { OnOk result (Finishes http name.now at (F.files files.old) (F.files files.new)) }
     ensures err { OnErr result (ChangesOnly http name.now (F.files files.old) (F.files files.new)) }
 {
     if at == 0 {

@@ -4,8 +4,8 @@ ghost use Rattle.std.specs.Prelude.{◌≡◌, ◌<◌, ◌≤◌, length, IfOk}
 ghost use Rattle.acq_outside.specs.Fetches.{Fetches};
 ghost use Rattle.acq_outside.specs.Frame.{CountsOnly};
 ghost use Rattle.method_messages.specs.Streams.{begun_at};
-ghost use Rattle.method_server.specs.Serving.{Blames, Served, scene};
-ghost use Rattle.method_server.specs.Taking.{ClosesBy, FailsBy, Turns};
+ghost use Rattle.method_server.specs.Serving.{Blames, ServesCall};
+ghost use Rattle.method_server.specs.Taking.{ClosesBy, FailsBy, TurnsCall};
 
 use crate::ServeEnd;
 use crate::answer::say;
@@ -40,8 +40,7 @@ pub fn serve_method<I: Inlet, M: Method, F: Files, S: Sink>(
 
     // What is written is a text of the messages read, whole or a front of it, and each end has its cause. At every moment the
     // files are as the answers so far leave them.
-    ensures serves { Served (M.world method.old) http (scene I.Inlet M.Method F.Files S.Sink input.old method.old files.old out.old)
-        (scene I.Inlet M.Method F.Files S.Sink input.new method.new files.new out.new) result }
+    ensures serves { ServesCall I.Inlet M.Method F.Files S.Sink http input.old input.new method.old method.new files.old files.new out.old out.new result }
 {
     if let Err(stop) = say(out, capabilities()) {
         return stop.end();
@@ -85,8 +84,8 @@ fn turn<I: Inlet, M: Method, F: Files, S: Sink>(
     ensures files { CountsOnly ServeEnd.Files (F.faults files.old) (F.faults files.new) result }
     ensures output { CountsOnly ServeEnd.Output (S.faults out.old) (S.faults out.new) result }
     ensures some { IfOk result (λ n. (0 < n) × (n ≤ length room.old)) }
-    ensures turns { Turns (M.world method.old) http (length room.old) (scene I.Inlet M.Method F.Files S.Sink input.old method.old files.old out.old)
-        (scene I.Inlet M.Method F.Files S.Sink input.new method.new files.new out.new) reader.old reader.new result }
+    ensures turns { TurnsCall I.Inlet M.Method F.Files S.Sink http (length room.old) reader.old reader.new input.old input.new
+        method.old method.new files.old files.new out.old out.new result }
 {
     let Ok(n) = input.read(room) else {
         return Err(ServeEnd::Input);

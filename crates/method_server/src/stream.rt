@@ -4,8 +4,7 @@
 ghost use Rattle.std.specs.Prelude.{◌≡◌, ◌≢◌, [], ◌++◌};
 ghost use Rattle.acq_outside.specs.Fetches.{Fetches};
 ghost use Rattle.acq_outside.specs.Frame.{CountsOnly};
-ghost use Rattle.method_server.specs.Taking.{IsCut, Takes};
-ghost use Rattle.method_server.specs.Turns.{moment};
+ghost use Rattle.method_server.specs.Taking.{IsCut, TakesCall};
 
 use crate::answer::answer_all;
 use crate::end::Stop;
@@ -29,8 +28,7 @@ pub fn take_piece<M: Method, F: Files, S: Sink>(
     ensures method { Fetches M.Method method.old method.new }
     ensures files { CountsOnly Stop.Files (F.faults files.old) (F.faults files.new) result }
     ensures output { CountsOnly Stop.Output (S.faults out.old) (S.faults out.new) result }
-    ensures takes { Takes (M.world method.old) http piece.now reader.old reader.new (moment M.Method F.Files method.old files.old) (moment M.Method F.Files method.new files.new)
-        (S.written out.old) (S.written out.new) result }
+    ensures takes { TakesCall M.Method F.Files S.Sink http piece.now reader.old reader.new method.old method.new files.old files.new out.old out.new result }
 {
     let mut rest = piece;
     'lines: while !rest.is_empty() {
@@ -69,8 +67,7 @@ fn take_line<M: Method, F: Files, S: Sink>(
     ensures method { Fetches M.Method method.old method.new }
     ensures files { CountsOnly Stop.Files (F.faults files.old) (F.faults files.new) result }
     ensures output { CountsOnly Stop.Output (S.faults out.old) (S.faults out.new) result }
-    ensures takes { Takes (M.world method.old) http line.now reader.old reader.new (moment M.Method F.Files method.old files.old) (moment M.Method F.Files method.new files.new)
-        (S.written out.old) (S.written out.new) result }
+    ensures takes { TakesCall M.Method F.Files S.Sink http line.now reader.old reader.new method.old method.new files.old files.new out.old out.new result }
 {
     match reader.feed(alloc, line) {
         Ok(messages) => {

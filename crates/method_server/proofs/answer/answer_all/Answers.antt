@@ -1,4 +1,4 @@
-use Rattle.std.proofs.Common.{◌≡◌, ◌∙◌, ◌∷◌, [], subst, sym, arith, Option, Result, Ok, Err}
+use Rattle.std.proofs.Common.{◌∙◌, ◌∷◌, [], subst, arith, Option}
 use Rattle.std.proofs.lemmas.Result.{err_from_is_err_and}
 use Rattle.acq_base.specs.Mirror.{MirrorMap}
 use Rattle.method_server.specs.Taking.{Answered, Halts}

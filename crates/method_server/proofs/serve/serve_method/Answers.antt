@@ -1,4 +1,4 @@
-use Rattle.std.proofs.Common.{◌≡◌, ◌∙◌, refl, sym, ap, subst, arith, ℕ, List, length-take, Option}
+use Rattle.std.proofs.Common.{◌∙◌, refl, sym, ap, subst, arith, ℕ, List, length-take, Option}
 use Rattle.acq_base.specs.Mirror.{MirrorMap}
 use Rattle.acq_outside.specs.Sink.{WrotePart}
 use Rattle.method_server.specs.Serving.{Served, scene}

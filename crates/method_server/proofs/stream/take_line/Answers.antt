@@ -1,4 +1,4 @@
-use Rattle.std.proofs.Common.{subst, List, Option, sym}
+use Rattle.std.proofs.Common.{subst, List}
 use Rattle.std.proofs.lemmas.Result.{err_from_is_err_and}
 use Rattle.method_messages.specs.declared.error.MessageError.TheVariants.{BadMessage, TooLong}
 use Rattle.method_messages.specs.declared.message.Message.{Message}

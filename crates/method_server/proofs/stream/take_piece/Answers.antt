@@ -1,4 +1,4 @@
-use Rattle.std.proofs.Common.{◌≡◌, ◌∙◌, ◌++◌, refl, subst, sym, arith, ℕ, Option, None, Result, Ok, Err, List, rules}
+use Rattle.std.proofs.Common.{◌≡◌, ◌∙◌, ◌++◌, refl, subst, arith, ℕ, Option, None, Ok, Err}
 use Rattle.std.proofs.lemmas.Result.{err_from_is_err_and}
 use Rattle.acq_base.specs.Mirror.{MirrorMap}
 use Rattle.method_server.specs.Taking.{Takes, TakesBy}
