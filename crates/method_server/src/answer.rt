@@ -57,7 +57,8 @@ fn answer<M: Method, F: Files, S: Sink>(
     ensures method { Fetches M.Method method.old method.new }
     ensures files { CountsOnly Stop.Files (F.faults files.old) (F.faults files.new) result }
     ensures output { CountsOnly Stop.Output (S.faults out.old) (S.faults out.new) result }
-    ensures answers { AnswersAllCall M.Method F.Files S.Sink http (message.now ∷ []) method.old method.new files.old files.new out.old out.new result }
+    ensures answers { AnswersAllCall M.Method F.Files S.Sink http (message.now ∷ [])
+        method.old method.new files.old files.new out.old out.new result }
 {
     if !is_request(message) {
         return Ok(());

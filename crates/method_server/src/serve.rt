@@ -40,7 +40,8 @@ pub fn serve_method<I: Inlet, M: Method, F: Files, S: Sink>(
 
     // What is written is a text of the messages read, whole or a front of it, and each end has its cause. At every moment the
     // files are as the answers so far leave them.
-    ensures serves { ServesCall I.Inlet M.Method F.Files S.Sink http input.old input.new method.old method.new files.old files.new out.old out.new result }
+    ensures serves { ServesCall I.Inlet M.Method F.Files S.Sink http
+        input.old input.new method.old method.new files.old files.new out.old out.new result }
 {
     if let Err(stop) = say(out, capabilities()) {
         return stop.end();

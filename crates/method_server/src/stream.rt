@@ -28,7 +28,8 @@ pub fn take_piece<M: Method, F: Files, S: Sink>(
     ensures method { Fetches M.Method method.old method.new }
     ensures files { CountsOnly Stop.Files (F.faults files.old) (F.faults files.new) result }
     ensures output { CountsOnly Stop.Output (S.faults out.old) (S.faults out.new) result }
-    ensures takes { TakesCall M.Method F.Files S.Sink http piece.now reader.old reader.new method.old method.new files.old files.new out.old out.new result }
+    ensures takes { TakesCall M.Method F.Files S.Sink http piece.now reader.old reader.new
+        method.old method.new files.old files.new out.old out.new result }
 {
     let mut rest = piece;
     'lines: while !rest.is_empty() {
@@ -67,7 +68,8 @@ fn take_line<M: Method, F: Files, S: Sink>(
     ensures method { Fetches M.Method method.old method.new }
     ensures files { CountsOnly Stop.Files (F.faults files.old) (F.faults files.new) result }
     ensures output { CountsOnly Stop.Output (S.faults out.old) (S.faults out.new) result }
-    ensures takes { TakesCall M.Method F.Files S.Sink http line.now reader.old reader.new method.old method.new files.old files.new out.old out.new result }
+    ensures takes { TakesCall M.Method F.Files S.Sink http line.now reader.old reader.new
+        method.old method.new files.old files.new out.old out.new result }
 {
     match reader.feed(alloc, line) {
         Ok(messages) => {
