@@ -7,3 +7,5 @@ pub mod Pieces
 pub mod Answering
 pub mod Naming
 pub mod Takings
+-- Rows of the definitions.
+mod Rows

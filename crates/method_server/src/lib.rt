@@ -4,10 +4,13 @@
 //! `serve_method` answers each request of the input's stream by what a method replies to it. Over `http` the file goes
 //! where the request says, piece by piece as it comes, and is never whole in memory.
 //!
-//! Where input, method, files and output tell, what is written is a text of the messages read (`serves`): whole where the
-//! input was read to its end or its stream broke off, and else a front of one. A fault is said only in the answer to a
-//! request during which the method's count rose. Each request changes at most the file that it names, and one whose
-//! answer is 201 leaves all bytes there. Each end has its cause (`input`, `files`, `output` and the record of `serves`).
+//! Where input, method, files and output tell, what is written is a text of the messages read (`serves`, a record): whole
+//! where the input was read to its end or its stream broke off (`ends`), and else a front of one (`begins`). A fault is
+//! said only in the answer to a request during which the method's count rose, and nothing but answers is ever written.
+//! Each request changes at most the file that it names, one whose answer is 201 leaves all bytes there, and no other file
+//! changes (`stays`, and the law `files_are_as_answered`). A fault of input, files or output is told, and comes only
+//! where that object's count rose (`input`, `files`, `output`); `Full` comes exactly behind the most bytes that are read.
+//! Only tested: that one piece of a file at a time is in memory.
 #![tactic(auto)]
 
 pub use end::ServeEnd;
