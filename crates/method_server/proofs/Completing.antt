@@ -8,6 +8,7 @@ use Rattle.acq_base.specs.declared.fetch.Answer.TheVariants as answers
 use Rattle.acq_base.specs.declared.fetch.NotServed.TheVariants.{Moved, Absent, TooBig, Garbled, Fault}
 use Rattle.acq_base.specs.declared.fetch.Reply.{Reply}
 use Rattle.acq_base.specs.declared.fetch.Reply.TheVariants.{Served, Not, NoMemory}
+use Rattle.acq_outside.specs.Count.{one_more}
 use Rattle.acq_outside.specs.Mirror.{Answers as AnswersWith, reply_within}
 use Rattle.method_messages.specs.declared.message.Message.{Message}
 use Rattle.method_server.specs.Asked.{is_request, wish_of}
@@ -31,18 +32,18 @@ HasReply world http wish old = (text : List ℕ) × (new : Moment) × IsReplied 
 replied : (world : Option MirrorMap) (http : Bool) (wish : Wish) (old : Moment) (reply : Reply) → IsAnswer reply → AnswersWith world wish.job reply → HasReply world http wish old
 replied world http wish old (Served bytes) is told = (
   served wish (sum_of bytes),
-  record { count = old.count; files = holding http wish.name old.files bytes },
-  record { reply = Served bytes; told = (refl, told); says = refl; leaves = refl },
+  record { count = old.count; begun = one_more old.begun; files = holding http wish.name old.files bytes },
+  record { reply = Served bytes; once = refl; told = (refl, told); says = refl; leaves = refl },
   refl,
 )
 replied world http wish old (Not (Moved place)) is told =
-    (not_served wish (Moved place), old, record { reply = Not (Moved place); told = (refl, told); says = refl; leaves = changes_none http wish.name old.files }, refl)
+    (not_served wish (Moved place), record { count = old.count; begun = one_more old.begun; files = old.files }, record { reply = Not (Moved place); once = refl; told = (refl, told); says = refl; leaves = changes_none http wish.name old.files }, refl)
 replied world http wish old (Not (Absent status)) is told =
-    (not_served wish (Absent status), old, record { reply = Not (Absent status); told = (refl, told); says = refl; leaves = changes_none http wish.name old.files }, refl)
+    (not_served wish (Absent status), record { count = old.count; begun = one_more old.begun; files = old.files }, record { reply = Not (Absent status); once = refl; told = (refl, told); says = refl; leaves = changes_none http wish.name old.files }, refl)
 replied world http wish old (Not TooBig) is told =
-    (not_served wish TooBig, old, record { reply = Not TooBig; told = (refl, told); says = refl; leaves = changes_none http wish.name old.files }, refl)
+    (not_served wish TooBig, record { count = old.count; begun = one_more old.begun; files = old.files }, record { reply = Not TooBig; once = refl; told = (refl, told); says = refl; leaves = changes_none http wish.name old.files }, refl)
 replied world http wish old (Not (Garbled at)) is told =
-    (not_served wish (Garbled at), old, record { reply = Not (Garbled at); told = (refl, told); says = refl; leaves = changes_none http wish.name old.files }, refl)
+    (not_served wish (Garbled at), record { count = old.count; begun = one_more old.begun; files = old.files }, record { reply = Not (Garbled at); once = refl; told = (refl, told); says = refl; leaves = changes_none http wish.name old.files }, refl)
 replied world http wish old (Not (Fault before after)) is told = absurd is
 replied world http wish old NoMemory is told = absurd is
 

@@ -8,7 +8,7 @@ use Rattle.acq_outside.proofs.FileMaps.{with_file-here, with_file-other}
 use Rattle.method_messages.specs.declared.message.Message.{Message}
 use Rattle.method_server.specs.Asked.{is_request, wish_of}
 use Rattle.method_server.specs.Named.{IsNamed, NamedByNone, Holds, file_at}
-use Rattle.method_server.specs.Turns.{Moment, ChangesOnly, LeavesBy, holding, IsAnswered, IsReplied, IsTurn, IsTurnOf, Answers, Touches, TouchesFor}
+use Rattle.method_server.specs.Turns.{Moment, ChangesOnly, LeavesBy, holding, IsAnswered, IsReplied, IsTurn, IsTurnOf, Answers, Touches, TouchesFor, asked}
 use Rattle.method_server.specs.Serving.{Serves}
 use Rattle.method_server.specs.declared.wish.Wish.{Wish}
 
@@ -100,6 +100,43 @@ pub holds : (world : Option MirrorMap) (wish : Wish) (old mid new : Moment) (sai
     → Answers world true mid later text new → NamedByNone wish.name later → Holds wish.name bytes new.files
 holds world wish old mid new said text bytes later replied is are unnamed =
     told_on wish.name bytes mid.files new.files (stays world true mid new later text wish.name are unnamed) (reply_holds wish.name bytes replied.reply old.files mid.files is replied.leaves)
+
+-- ---- without http
+
+reply_apart : (name : List ℕ) (reply : Reply) (old new : Option Files) → LeavesBy false name reply old new → new ≡ old
+reply_apart name (Served bytes) old new leaves = leaves
+reply_apart name (Not end) old new leaves = leaves
+reply_apart name NoMemory old new leaves = absurd leaves
+
+answer_apart : (world : Option MirrorMap) (message : Message) (wish : Option Wish) (old new : Moment) (text : List ℕ) → IsAnswered world false message wish old text new → new.files ≡ old.files
+answer_apart world message None old new text answered = ap (λ (m : Moment). m.files) answered.1
+answer_apart world message (Some wish) old new text answered = reply_apart wish.name answered.reply old.files new.files answered.leaves
+
+turn_of_apart : (world : Option MirrorMap) (message : Message) (asks : Bool) (old new : Moment) (text : List ℕ) → IsTurnOf asks world false message old text new → new.files ≡ old.files
+turn_of_apart world message true old new text turn = answer_apart world message (wish_of false message) old new text turn
+turn_of_apart world message false old new text turn = ap (λ (m : Moment). m.files) turn.1
+
+turn_apart : (world : Option MirrorMap) (message : Message) (old new : Moment) (text : List ℕ) → IsTurn world false message old text new → new.files ≡ old.files
+unfolding IsTurn
+turn_apart world message old new text turn = turn_of_apart world message (is_request message) old new text turn
+
+answers_apart : (world : Option MirrorMap) (old new : Moment) (messages : List Message) (text : List ℕ) → Answers world false old messages text new → new.files ≡ old.files
+answers_apart world old new [] text are = ap (λ (m : Moment). m.files) are.1
+answers_apart world old new (message ∷ messages) text (mid, first, rest, turn, are, split) = answers_apart world mid new messages rest are ∙ turn_apart world message old mid first turn
+
+touch_apart : (wish : Option Wish) (old new : Option Files) → TouchesFor false wish old new → new ≡ old
+touch_apart None old new same = same
+touch_apart (Some wish) old new same = same
+
+touches_apart : (messages : List Message) (old new : Moment) → Touches false messages old new → new.files ≡ old.files
+touches_apart [] old new same = ap (λ (m : Moment). m.files) same
+touches_apart (message ∷ messages) old new touches = touch_apart (asked false message) old.files new.files touches.1
+
+pub serves_apart : (world : Option MirrorMap) (http : Bool) (old new : Moment) (bytes text : List ℕ) → Serves world http old new bytes text → http ≡ false → new.files ≡ old.files
+serves_apart world http old new bytes text h over =
+    let last : Touches false h.later h.mid new = subst (λ (b : Bool). Touches b h.later h.mid new) over h.last in
+    let are : Answers world false old h.handled h.answers h.mid = subst (λ (b : Bool). Answers world b old h.handled h.answers h.mid) over h.are in
+    touches_apart h.later h.mid new last ∙ answers_apart world old h.mid h.handled h.answers are
 
 -- ---- all messages of an input
 

@@ -14,6 +14,7 @@ use Rattle.acq_base.specs.declared.fetch.NotServed.TheVariants.{Moved, Absent, T
 use Rattle.acq_base.specs.declared.fetch.Reply.TheVariants as replies
 use Rattle.acq_base.specs.declared.sum.Sum.{Sum}
 use Rattle.acq_base.specs.declared.uri.Uri.{Uri}
+use Rattle.acq_outside.specs.Count.{one_more}
 use Rattle.acq_outside.specs.Disk.{Files, with_file}
 use Rattle.acq_outside.specs.Files.{CanPut, Put, PutPart, after_put}
 use Rattle.acq_outside.specs.Mirror.{Answers, IsReply, reply_within}
@@ -229,12 +230,12 @@ goes_on before mid after world same job at next under later place bytes word pie
 
 -- ---- as a reply
 
-pub replied_by : (world : Option MirrorMap) (http : Bool) (wish : Wish) (old new : Moment) (fetched : Fetched) (text : List ℕ) → Comes world http wish old.count new.count old.files new.files fetched
+pub replied_by : (world : Option MirrorMap) (http : Bool) (wish : Wish) (old new : Moment) (fetched : Fetched) (text : List ℕ) → new.begun ≡ one_more old.begun → Comes world http wish old.count new.count old.files new.files fetched
     → text ≡ fetched_text wish fetched → IsReplied world http wish old text new
-replied_by world http wish old new (Whole sum) text comes is =
+replied_by world http wish old new (Whole sum) text once comes is =
     let same : sum ≡ sum_of comes.bytes = whole_sum sum (sum_of comes.bytes) comes.sum in
-    record { reply = replies.Served comes.bytes; told = comes.told; says = ap (λ (t : List ℕ). Some t) (sym (is ∙ ap (served wish) same)); leaves = comes.file }
+    record { reply = replies.Served comes.bytes; once = once; told = comes.told; says = ap (λ (t : List ℕ). Some t) (sym (is ∙ ap (served wish) same)); leaves = comes.file }
   where
     whole_sum : (a b : Sum) → Whole a ≡ Whole b → a ≡ b
     whole_sum a b e = cc
-replied_by world http wish old new (Not end) text comes is = record { reply = replies.Not end; told = comes.0; says = ap (λ (t : List ℕ). Some t) (sym is); leaves = comes.1 }
+replied_by world http wish old new (Not end) text once comes is = record { reply = replies.Not end; once = once; told = comes.0; says = ap (λ (t : List ℕ). Some t) (sym is); leaves = comes.1 }

@@ -21,7 +21,7 @@ use Rattle.method_server.specs.declared.end.Stop.{Stop}
 use Rattle.method_server.specs.declared.end.Stop.TheVariants as stops
 use Rattle.method_server.proofs.Answering.{answered_append, answered_none, answers_append, halts_none, halts_within, part_more, touches_more, wrote_more}
 use Rattle.method_server.proofs.Completing.{begins_text, take_front}
-use Rattle.method_server.proofs.Naming.{serves_stays}
+use Rattle.method_server.proofs.Naming.{serves_apart, serves_stays}
 use Rattle.method_server.proofs.Readings.{every_input, fault_place, nothing_read, refused_by, refused_more}
 
 -- ---- a line
@@ -185,6 +185,7 @@ ends_with world http old new end bytes text read wrote few serves ended = record
   wrote = wrote;
   few = few;
   serves = serves;
+  untouched = serves_apart world http old.at new.at bytes text serves;
   stays = serves_stays world http old.at new.at bytes text serves;
   begins = begins_text world http old.at new.at bytes text serves;
   ends = ended;

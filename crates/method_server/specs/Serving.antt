@@ -1,5 +1,5 @@
 -- What serving an input comes to.
-use Rattle.std.specs.Prelude.{◌≡◌, ◌≢◌, ◌⊎◌, ℕ, ◌≤◌, Bool, List, [], ◌∷◌, ◌++◌, length, take, Option, Some, None}
+use Rattle.std.specs.Prelude.{◌≡◌, ◌≢◌, ◌⊎◌, ℕ, ◌≤◌, Bool, false, List, [], ◌∷◌, ◌++◌, length, take, Option, Some, None}
 use Rattle.acq_base.specs.Mirror.{MirrorMap}
 use Rattle.acq_outside.specs.Count.{Rose}
 use Rattle.acq_outside.specs.Inlet.{Gave, IsSpent}
@@ -103,7 +103,8 @@ pub record Served (world : Option MirrorMap) (http : Bool) (old new : Scene) (en
   pub wrote : Wrote old.written text new.written
   pub few : length bytes ≤ most_input
   pub serves : Serves world http old.at new.at bytes text
-  -- a file that no request over http names stays as it was
+  -- over files none changes, and over http a file that no request names stays as it was
+  pub untouched : http ≡ false → new.at.files ≡ old.at.files
   pub stays : (name : List ℕ) → NamedByNone name (serves.handled ++ serves.later) → file_at name new.at.files ≡ file_at name old.at.files
   pub begins : BeginsText world http old.at new.at.count bytes text
   pub ends : EndsBy world http old new bytes text end

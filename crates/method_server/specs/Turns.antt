@@ -4,6 +4,7 @@ use Rattle.std.specs.Prelude.{◌≡◌, ◌≢◌, ℕ, ◌≤◌, Bool, true, 
 use Rattle.acq_base.specs.Mirror.{MirrorMap}
 use Rattle.acq_base.specs.declared.fetch.Reply.{Reply}
 use Rattle.acq_base.specs.declared.fetch.Reply.TheVariants.{Served, Not, NoMemory}
+use Rattle.acq_outside.specs.Count.{one_more}
 use Rattle.acq_outside.specs.Disk.{Files, with_file}
 use Rattle.acq_outside.specs.Mirror.{IsReply}
 use Rattle.acq_outside.specs.declared.files.Files as put_files
@@ -13,13 +14,14 @@ use Rattle.method_server.specs.Asked.{is_request, wish_of}
 use Rattle.method_server.specs.Answers.{bad_request, reply_text}
 use Rattle.method_server.specs.declared.wish.Wish.{Wish}
 
--- how often the method has failed, and the files, where they are told
+-- how often the method has failed, how many fetches were begun, and the files, where they are told
 pub record Moment : Type 0 where
   pub count : ℕ
+  pub begun : ℕ
   pub files : Option Files
 
 abbrev pub moment : {M F : Type 0} → methods.Ghosts M → put_files.Ghosts F → M → F → Moment
-moment m f method files = record { count = m.faults method; files = f.files files }
+moment m f method files = record { count = m.faults method; begun = m.begins method; files = f.files files }
 
 -- ---- the files
 
@@ -42,9 +44,11 @@ LeavesBy http name NoMemory old new = ⊥
 
 -- ---- one message
 
--- The method's reply to a request, and what is said by it. A fault is a reply only where the count rose meanwhile.
+-- The method's reply to a request, which is asked once, and what is said by it. A fault is a reply only where the count rose
+-- meanwhile.
 pub record IsReplied (world : Option MirrorMap) (http : Bool) (wish : Wish) (old : Moment) (text : List ℕ) (new : Moment) : Type 0 where
   pub reply : Reply
+  pub once : new.begun ≡ one_more old.begun
   pub told : IsReply old.count new.count world wish.job reply
   pub says : reply_text wish reply ≡ Some text
   pub leaves : LeavesBy http wish.name reply old.files new.files

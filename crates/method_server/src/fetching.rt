@@ -2,6 +2,7 @@
 
 ghost use Rattle.std.specs.Prelude.{◌≡◌, IfOk, OnErr, OnOk};
 ghost use Rattle.acq_base.specs.Uri.{IsSound};
+ghost use Rattle.acq_outside.specs.Count.{one_more};
 ghost use Rattle.acq_outside.specs.Fetches.{Fetches};
 ghost use Rattle.acq_outside.specs.Frame.{Counts, CountsOnly};
 ghost use Rattle.method_server.specs.Fetching.{Comes, Finishes, Keeps, MayPut};
@@ -36,6 +37,7 @@ pub fn fetch<M: Method, F: Files>(
     requires sound { IsSound wish.now.job.uri }
     requires whole { wish.now.job.from ≡ 0 }
     ensures method { Fetches M.Method method.old method.new }
+    ensures begins { M.begins method.new ≡ one_more (M.begins method.old) }
     ensures files { CountsOnly OutError.Fault (F.faults files.old) (F.faults files.new) result }
     ensures only { ChangesOnly http wish.now.name (F.files files.old) (F.files files.new) }
     ensures comes { IfOk result (Comes (M.world method.old) http wish.now (M.faults method.old) (M.faults method.new)

@@ -7,10 +7,11 @@
 //! Where input, method, files and output tell, what is written is a text of the messages read (`serves`, a record): whole
 //! where the input was read to its end or its stream broke off (`ends`), and else a front of one (`begins`). A fault is
 //! said only in the answer to a request during which the method's count rose, and nothing but answers is ever written.
+//! Each request is asked once.
 //! Each request changes at most the file that it names, one whose answer is 201 leaves all bytes there, and no other file
 //! changes (`stays`, and the law `files_are_as_answered`). A fault of input, files or output is told, and comes only
 //! where that object's count rose (`input`, `files`, `output`); `Full` comes exactly behind the most bytes that are read.
-//! Only tested: that one piece of a file at a time is in memory.
+//! No clause says that no file is whole in memory.
 #![tactic(auto)]
 
 pub use end::ServeEnd;

@@ -12,6 +12,7 @@ keep-requires g c =
 pub loop-word-init : goal.loop-word-init
 loop-word-init g c = record {
   method = c.begin-word.ensures.frame;
+  begins = c.begin-word.ensures.begins;
   files = refl;
   word = subst (λ n. IsWord (g.M.Method.faults c.args.method.now) (g.M.Method.faults c.begin-word.new.self) (g.M.Method.world c.args.method.now) (fetch_at c.args.wish.now.job n) (g.M.Method.under c.begin-word.new.self) c.begin-word.result)
       c.requires.whole c.begin-word.ensures.word;
@@ -28,6 +29,7 @@ loop-word-preserved g c =
     let some : 1 ≤ length c.as_slice-piece.result.now = omega (arith, piece.nonempty, ap length given) in
     record {
       method = record { count = omega (arith, inv.method.count, c.more-word.ensures.frame.count); same = c.more-word.ensures.frame.same ∙ inv.method.same };
+      begins = c.more-word.ensures.begins ∙ inv.begins;
       files = c.in_ok-keep-in-Piece.ensures.frame.quiet ∙ inv.files;
       word = goes_on (g.M.Method.faults c.args.method.now) (g.M.Method.faults c.loop-word.method) (g.M.Method.faults c.more-word.new.self) world (g.M.Method.world c.loop-word.method) job c.loop-word.at
           (c.loop-word.at + length c.as_slice-piece.result.now) (g.M.Method.under c.loop-word.method) (g.M.Method.under c.more-word.new.self) c.in-Piece.at c.in-Piece.bytes c.more-word.result piece inv.method.same
