@@ -18,6 +18,7 @@ mod links;
 mod messages;
 mod methods;
 mod page;
+mod serving;
 mod streams;
 mod trees;
 
@@ -76,6 +77,9 @@ fn answered(alloc: Global, page: &mut Page, steps: &[Step]) -> Result<(), Refuse
         "reader" => messages::answer_steps(alloc, page, steps),
         "link" => links::answer(alloc, page, steps),
         "files" => trees::answer(alloc, page, steps),
+        "serve-file" | "serve-http" | "serve-link" => {
+            serving::answer(alloc, page, name, arguments, steps)
+        }
         _ => methods::answer(alloc, page, name, arguments, steps),
     }
 }

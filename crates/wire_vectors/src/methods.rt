@@ -47,7 +47,7 @@ fn over_link(alloc: Global, page: &mut Page, steps: &[Step]) -> Result<(), Refus
 }
 
 /// A file's bytes, of which no two pieces are alike.
-fn pattern(alloc: Global, size: u64) -> Result<Bytes, NoMemory> {
+pub fn pattern(alloc: Global, size: u64) -> Result<Bytes, NoMemory> {
     let mut bytes = Bytes::new(alloc);
     for at in 0..size {
         bytes.push(pattern_byte(at))?;
