@@ -1,0 +1,9 @@
+pub mod Answering
+pub mod Planning
+pub mod Saying
+pub mod Sending
+pub mod Streams
+pub mod Turns
+pub mod Serving
+pub mod Hearing
+pub mod Frames

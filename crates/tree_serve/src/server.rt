@@ -1,0 +1,57 @@
+//! Serves one connection after another.
+ghost use Rattle.std.specs.Prelude.{◌≡◌, IfSome, OnOk};
+ghost use Rattle.tree_serve.specs.Frame.{Stops};
+ghost use Rattle.tree_serve.specs.Talks.{ServesAll, ServesNext};
+
+use crate::serving::serve_one;
+use crate::{ServeError, Stop};
+use acq_base::Text;
+use acq_net::Port;
+use acq_outside::Tree;
+use std::alloc::Global;
+
+/// Serves so many connections of the port of this number one after another, from the files below `root`, and ends. A fault of
+/// a connection or of the tree, and a file that became shorter, end that connection alone.
+pub fn serve<P: Port, T: Tree>(
+    alloc: Global,
+    port: &mut P,
+    tree: &mut T,
+    root: &Text,
+    number: u16,
+    connections: u64,
+) -> Result<(), Stop>
+    ensures frame { Stops P.Port T.Tree port.old port.new tree.old tree.new result }
+    ensures served { OnOk result (IfSome (T.files tree.old) (λ files. IfSome (P.talks port.old)
+        (λ former. ServesAll files root.now connections former (P.faults port.old) (T.faults tree.old) (P.talks port.new) (P.faults port.new) (T.faults tree.new)))) }
+{
+    if port.listen(number).is_err() {
+        return Err(Stop::Port);
+    }
+    for _ in 0..connections {
+        serve_next(alloc, port, tree, root)?;
+    }
+    Ok(())
+}
+
+/// Serves the next connection.
+fn serve_next<P: Port, T: Tree>(
+    alloc: Global,
+    port: &mut P,
+    tree: &mut T,
+    root: &Text,
+) -> Result<(), Stop>
+    ensures frame { Stops P.Port T.Tree port.old port.new tree.old tree.new result }
+    ensures served { OnOk result (IfSome (T.files tree.old) (λ files. IfSome (P.talks port.old)
+        (λ former. ServesNext files root.now former (P.faults port.old) (T.faults tree.old) (P.talks port.new) (P.faults port.new) (T.faults tree.new)))) }
+{
+    if port.accept().is_err() {
+        return Err(Stop::Port);
+    }
+    match serve_one(alloc, port, tree, root) {
+        Err(ServeError::NoMemory) => Err(Stop::NoMemory),
+        Ok(_)
+        | Err(ServeError::PortFault)
+        | Err(ServeError::TreeFault)
+        | Err(ServeError::Shrunk { size: _, got: _ }) => Ok(()),
+    }
+}
