@@ -134,23 +134,15 @@ fn method_of(text: &[u8]) -> Method
 }
 
 /// The path of a target.
-#[tactic(auto, unfolding(crate::specs::Asked::path_of))]
+#[tactic(auto, unfolding(crate::specs::Asked::path_of), using(crate::proofs::Asking::take_front, crate::proofs::Asking::drop_front))]
 fn path_of(target: &[u8]) -> &[u8]
     ensures { result.now ≡ spec.path_of target.now }
 {
-    if !is_absolute(target) {
+    let (front, behind) = target.split_at(SCHEME.len().min(target.len()));
+    if !same_word(front, SCHEME) {
         return target;
     }
-    let (_, behind) = target.split_at(target.len().min(SCHEME.len()));
     from_slash(behind)
-}
-
-/// Whether a target begins with the scheme.
-fn is_absolute(target: &[u8]) -> bool
-    ensures { result ≡ spec.is_absolute target.now }
-{
-    let (front, _) = target.split_at(target.len().min(SCHEME.len()));
-    same_word(front, SCHEME)
 }
 
 /// The text from its first `/` on, or that alone where there is none.

@@ -31,6 +31,9 @@ unused g a v = record { counts = record { count = omega arith; fault = λ is. ab
 unused_err : {P A : Type 0} (g : PortGhosts P) (a : P) (e : ServeError) → e ≢ PortFault → Uses {A = A} g a a (Err e)
 unused_err g a e other = record { counts = record { count = omega arith; fault = λ is. absurd (other (let same : e ≡ PortFault = cc in same)); quiet = tt; dry = λ own. refl }; lost = refl; at = refl }
 
+pub unconversed : {P : Type 0} (g : PortGhosts P) (a : P) → Converses {A = Unit {0}} g a a (Ok tt)
+unconversed g a = record { uses = unused g a tt; errors = tt }
+
 pub conversed_then : {P A : Type 0} {g : PortGhosts P} {a b c : P} {r : Result A ServeError} → Converses {A = Unit {0}} g a b (Ok tt) → Converses {A = A} g b c r → Converses {A = A} g a c r
 conversed_then first now = record { uses = used_then first.uses now.uses; errors = now.errors }
 
@@ -76,6 +79,9 @@ serves_by_port {P} {T} {A} {p} {t} {a} {b} {x} {r} now = by r now
     by (Ok v) now = record { port_is = now.uses; tree_is = still t x v; shrunk = tt }
     by (Err e) now = record { port_is = now.uses; tree_is = still_err t x e now.errors; shrunk = untold_of_port (t.files x) e now.errors }
 
+pub unserved : {P T : Type 0} (p : PortGhosts P) (t : TreeGhosts T) (a : P) (x : T) → Serves {A = Unit {0}} p t a a x x (Ok tt)
+unserved p t a x = record { port_is = unused p a tt; tree_is = still t x tt; shrunk = tt }
+
 pub served_then : {P T A : Type 0} {p : PortGhosts P} {t : TreeGhosts T} {a b c : P} {x y z : T} {r : Result A ServeError} → Serves {A = Unit {0}} p t a b x y (Ok tt) → Serves {A = A} p t b c y z r → Serves {A = A} p t a c x z r
 served_then {P} {T} {A} {p} {t} {a} {b} {c} {x} {y} {z} {r} first now = by r now
   where
@@ -97,7 +103,7 @@ served_in now = record { port_is = used_in now.port_is; tree_is = read_in now.tr
 -- a fault of it
 pub serves_by_fault : {P T A B E : Type 0} {p : PortGhosts P} {t : TreeGhosts T} {a : P} {x y : T} {e : E} → LooksBy {T = B} {E = E} t.faults t.files x y (Err e) → Serves {A = A} p t a a x y (Err TreeFault)
 serves_by_fault {P} {T} {A} {B} {E} {p} {t} {a} {x} {y} {e} looked = record {
-  port_is = unused_err p a TreeFault cc;
+  port_is = unused_err p a TreeFault (λ e. let x : ⊥ = cc in x);
   tree_is = record { counts = record { count = looked.count; fault = λ is. looked.fault; quiet = tt; dry = λ other. absurd (other refl) }; same = looked.same };
   shrunk = tt;
 }
@@ -122,12 +128,12 @@ serves_by_no_plan {P} {T} {A} {B} {p} {t} {a} {x} {y} {e} looked = by e looked
   where
     by : (e : OutError) → LooksCountingBy {T = B} {E = OutError} outs.Fault t.faults t.files x y (Err e) → Serves {A = A} p t a a x y (Err (serve_error_of e))
     by outs.Fault looked = record {
-      port_is = unused_err p a TreeFault cc;
+      port_is = unused_err p a TreeFault (λ e. let x : ⊥ = cc in x);
       tree_is = record { counts = record { count = looked.count; fault = λ is. looked.fault refl; quiet = tt; dry = λ other. absurd (other refl) }; same = looked.same };
       shrunk = tt;
     }
     by outs.NoMemory looked = record {
-      port_is = unused_err p a NoMemory cc;
-      tree_is = record { counts = record { count = looked.count; fault = λ is. absurd cc; quiet = tt; dry = λ other. looked.dry cc }; same = looked.same };
+      port_is = unused_err p a NoMemory (λ e. let x : ⊥ = cc in x);
+      tree_is = record { counts = record { count = looked.count; fault = λ is. absurd cc; quiet = tt; dry = λ other. looked.dry (λ e. let x : ⊥ = cc in x) }; same = looked.same };
       shrunk = tt;
     }

@@ -15,12 +15,12 @@ heard_twice true a b talk = adds_twice a b talk
 heard_twice false a b talk = ap (receives []) (adds_twice a b talk)
 
 pub hears_on : (goes_on : Bool) (u v w : List ℕ) (before middle after : Option (List Talk)) → Hears true u v before middle → Hears goes_on v w middle after → Hears goes_on u w before after
-hears_on goes_on u v w before middle after first then = record {
-  bytes = first.bytes ++ then.bytes;
-  grows = then.grows ∙ ap (λ t. t ++ then.bytes) first.grows ∙ append_assoc u first.bytes then.bytes;
+hears_on goes_on u v w before middle after first second = record {
+  bytes = first.bytes ++ second.bytes;
+  grows = second.grows ∙ ap (λ t. t ++ second.bytes) first.grows ∙ append_assoc u first.bytes second.bytes;
   talks =
-    then.talks ∙ ap (λ x. option_map (on_first (heard goes_on then.bytes)) x) first.talks
-    ∙ two_said (adds first.bytes) (heard goes_on then.bytes) (heard goes_on (first.bytes ++ then.bytes)) (heard_twice goes_on first.bytes then.bytes) before;
+    second.talks ∙ ap (λ x. option_map (on_first (heard goes_on second.bytes)) x) first.talks
+    ∙ two_said (adds first.bytes) (heard goes_on second.bytes) (heard goes_on (first.bytes ++ second.bytes)) (heard_twice goes_on first.bytes second.bytes) before;
 }
 
 -- the peer's end

@@ -1,7 +1,7 @@
 -- A response that is planned is the one that a request gets.
 use Rattle.std.proofs.Common.{◌≡◌, ℕ, ◌+◌, ◌-◌, ◌<◌, ◌≤◌, Bool, true, false, not, arith, ap, sym, subst, ◌∙◌, refl, List, [], ◌++◌, length, take, drop, length-drop, Option, Some, None, IfSome}
 use Rattle.std.specs.Prelude.{if◌then◌else◌}
-use Rattle.std.proofs.lemmas.List.{take-all}
+use Rattle.std.proofs.lemmas.List.{take_all}
 use Rattle.httparse.specs.Grammar.{RequestHead}
 use Rattle.acq_outside.specs.Tree.{TreeFiles}
 use Rattle.http_requests.specs.Asked.{fields_of, is_last, is_proper, method_of, part_asked, path_of, request_of}
@@ -18,9 +18,9 @@ body_taken : (file : List ℕ) (answer : Answer) → IsOf file answer → take (
 body_taken file Bad is = refl
 body_taken file NotAllowed is = refl
 body_taken file NotFound is = refl
-body_taken file (Part from size) is = take-all (size - from) (drop from file) (let d = length-drop from file in let s = is.1 in omega (arith, d, s))
+body_taken file (Part from size) is = take_all (size - from) (drop from file) (let d = length-drop from file in let s = is.1 in omega (arith, d, s))
 body_taken file (Beyond size) is = refl
-body_taken file (Whole size) is = take-all size file (let s = is in omega (arith, s))
+body_taken file (Whole size) is = take_all size file (let s = is in omega (arith, s))
 
 body_within : (file : List ℕ) (answer : Answer) → IsOf file answer → body_start answer + body_length answer ≤ length file
 body_within file Bad is = omega arith

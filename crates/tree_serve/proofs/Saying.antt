@@ -41,8 +41,8 @@ unsaid f same (Some (talk ∷ others)) = ap (λ t. Some (t ∷ others)) (same ta
 -- ---- sending
 
 pub sent_on : (a b : List ℕ) (t u v : Option (List Talk)) → u ≡ option_map (on_first (sends a)) t → v ≡ option_map (on_first (sends b)) u → v ≡ option_map (on_first (sends (a ++ b))) t
-sent_on a b t u v first then =
-    then ∙ ap (λ x. option_map (on_first (sends b)) x) first
+sent_on a b t u v first second =
+    second ∙ ap (λ x. option_map (on_first (sends b)) x) first
     ∙ two_said (sends a) (sends b) (sends (a ++ b)) (λ talk. ap (λ s. record { sent = s; received = talk.received; ended = talk.ended }) (append_assoc talk.sent a b)) t
 
 pub nothing_sent : (t v : Option (List Talk)) → v ≡ t → v ≡ option_map (on_first (sends [])) t
@@ -87,7 +87,7 @@ pub adds_twice : (a b : List ℕ) (talk : Talk) → adds b (adds a talk) ≡ add
 adds_twice a b talk = ap (λ r. record { sent = talk.sent; received = r; ended = talk.ended }) (append_assoc talk.received a b)
 
 pub added_on : (a b : List ℕ) (t u v : Option (List Talk)) → u ≡ option_map (on_first (adds a)) t → v ≡ option_map (on_first (adds b)) u → v ≡ option_map (on_first (adds (a ++ b))) t
-added_on a b t u v first then = then ∙ ap (λ x. option_map (on_first (adds b)) x) first ∙ two_said (adds a) (adds b) (adds (a ++ b)) (adds_twice a b) t
+added_on a b t u v first second = second ∙ ap (λ x. option_map (on_first (adds b)) x) first ∙ two_said (adds a) (adds b) (adds (a ++ b)) (adds_twice a b) t
 
 pub nothing_added : (t v : Option (List Talk)) → v ≡ t → v ≡ option_map (on_first (adds [])) t
 nothing_added t v is = is ∙ sym (unsaid (adds []) (λ talk. ap (λ r. record { sent = talk.sent; received = r; ended = talk.ended }) (append-nil talk.received)) t)

@@ -5,7 +5,8 @@ use Rattle.acq_outside.specs.Count.{Rose}
 use Rattle.acq_outside.specs.Tree.{TreeFiles}
 use Rattle.acq_net.specs.Talk.{Talk, silent}
 use Rattle.acq_net.specs.Talks.{accepts}
-use Rattle.tree_serve.specs.Talks.{AllServed, IsCut, IsFresh, IsServed, IsServedOrCut, IsServedSome, ServesAll, ServesNext, WhereTold, others_of}
+use Rattle.tree_serve.specs.Connections.{AllServed, IsServedOrCut, IsServedSome, ServesAll, ServesNext}
+use Rattle.tree_serve.specs.Talks.{IsCut, IsFresh, IsServed, WhereTold, others_of}
 
 pub fresh_accepted : (before after : Option (List Talk)) → after ≡ option_map accepts before → IfSome after IsFresh
 fresh_accepted None after is = let F : Option (List Talk) → Type 0 = λ t. IfSome t IsFresh in subst F (sym is) tt

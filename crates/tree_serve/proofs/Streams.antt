@@ -57,7 +57,7 @@ both_whole files root n m rest final h behind true same whole keeps ends =
     closing next =
         let head_is = (one_head rest h next.head behind next.behind whole next.whole).0 in
         let e : closes files root n h ≡ closes files root m next.head = ap (λ k. closes files root k h) same ∙ ap (closes files root m) head_is in
-        let f : false ≡ true = sym keeps ∙ e ∙ next.closes in
+        let f : false ≡ true = sym keeps ∙ e ∙ next.closes_is in
         cc
 
 same_ending : (files : TreeFiles) (root : List ℕ) (m n : ℕ) (rest a b : List ℕ) (p q : Bool) → m ≡ n → Ends files root m rest a p → Ends files root n rest b q → (a ≡ b) × (p ≡ q)
@@ -73,7 +73,7 @@ same_ending files root m n rest a b true true same x y =
     both : IsNext files root m rest a true → IsNext files root n rest b true → (a ≡ b) × (true ≡ true)
     both next other =
         let head_is = (one_head rest next.head other.head next.behind other.behind next.whole other.whole).0 in
-        (next.sent ∙ ap (λ k. response_to files root k next.head) same ∙ ap (response_to files root n) head_is ∙ sym other.sent, refl)
+        (next.sent_is ∙ ap (λ k. response_to files root k next.head) same ∙ ap (response_to files root n) head_is ∙ sym other.sent_is, refl)
 
 -- ---- one answer
 
@@ -107,8 +107,8 @@ same_run files root number (h ∷ hs) (k ∷ ks) bytes before rest final before'
 pub one_answer : (files : TreeFiles) (root bytes a b : List ℕ) (m n : ℕ) (p q : Bool) → Responses files root bytes a m p → Responses files root bytes b n q → (a ≡ b) × (m ≡ n) × (p ≡ q)
 one_answer files root bytes a b m n p q x y =
     let same = same_run files root 1 x.heads y.heads bytes x.before x.rest x.final y.before y.rest y.final (length x.heads + 1) (length y.heads + 1) p q (omega arith) (omega arith) x.answered y.answered x.ends y.ends in
-    let counts : m ≡ n = x.count ∙ ap (λ k. k + one_if p) same.1 ∙ ap (λ t. length y.heads + one_if t) same.2 ∙ sym y.count in
-    (x.sent ∙ same.0 ∙ sym y.sent, counts, same.2)
+    let counts : m ≡ n = x.count_is ∙ ap (λ k. k + one_if p) same.1 ∙ ap (λ t. length y.heads + one_if t) same.2 ∙ sym y.count_is in
+    (x.sent_is ∙ same.0 ∙ sym y.sent_is, counts, same.2)
 
 -- ---- fronts
 
@@ -131,7 +131,7 @@ front_run files root number [] [] bytes before rest front before' rest' final m 
     front_here files root m n rest front final true same (Response last all next is) y =
         ⊎_elim (λ bad. absurd (bad.0.none next.head next.behind next.whole)) (λ other.
           (let head_is = (one_head rest next.head other.head next.behind other.behind next.whole other.whole).0 in
-              let e : final ≡ all = other.sent ∙ sym (ap (response_to files root n) head_is) ∙ ap (λ k. response_to files root k next.head) (sym same) ∙ sym next.sent in
+              let e : final ≡ all = other.sent_is ∙ sym (ap (response_to files root n) head_is) ∙ ap (λ k. response_to files root k next.head) (sym same) ∙ sym next.sent_is in
               record { more = is.more; is = e ∙ is.is })) y
 front_run files root number [] (k ∷ ks) bytes before rest front before' rest' final m n q is also a b begins y =
     let here = front_of files root number m rest front k b.0 (omega (arith, is)) (subst (λ t. Whole request_form t k b.0) a.0 b.2) begins (b.1 ++ final) in
@@ -145,7 +145,7 @@ front_run files root number [] (k ∷ ks) bytes before rest front before' rest' 
     front_of files root number m rest front k behind same whole (Refusal bad is) later = absurd (bad.none k behind whole)
     front_of files root number m rest front k behind same whole (Response last all next is) later =
         let head_is = (one_head rest next.head k next.behind behind next.whole whole).0 in
-        let e : response_to files root number k ≡ front ++ is.more = ap (λ j. response_to files root j k) (sym same) ∙ ap (response_to files root m) (sym head_is) ∙ sym next.sent ∙ is.is in
+        let e : response_to files root number k ≡ front ++ is.more = ap (λ j. response_to files root j k) (sym same) ∙ ap (response_to files root m) (sym head_is) ∙ sym next.sent_is ∙ is.is in
         record { more = is.more ++ later; is = ap (λ t. t ++ later) e ∙ append_assoc front is.more later }
 front_run files root number (h ∷ hs) [] bytes before rest front before' rest' final m n q is also a b begins y =
     absurd (both_whole files root number n rest' final h a.0 q (omega (arith, also)) (subst (λ t. Whole request_form t h a.0) b.0 a.2) a.3 y)
@@ -168,4 +168,4 @@ front_run files root number (h ∷ hs) (k ∷ ks) bytes before rest front before
 pub cut_is_front : (files : TreeFiles) (root bytes front all : List ℕ) (n : ℕ) (p : Bool) → CutResponses files root bytes front → Responses files root bytes all n p → IsFrontOf front all
 cut_is_front files root bytes front all n p cut y =
     let run = front_run files root 1 cut.heads y.heads bytes cut.before cut.rest cut.front y.before y.rest y.final (length cut.heads + 1) (length y.heads + 1) p (omega arith) (omega arith) cut.answered y.answered cut.begins y.ends in
-    record { more = run.more; is = y.sent ∙ run.is ∙ ap (λ t. t ++ run.more) (sym cut.sent) }
+    record { more = run.more; is = y.sent_is ∙ run.is ∙ ap (λ t. t ++ run.more) (sym cut.sent_is) }

@@ -48,8 +48,8 @@ goes_at_first root told (Some (talk ∷ others)) fresh = record {
   holds = λ files list t l. (let s : list ≡ talk ∷ others = cc in (talk, others, s, record {
     heads = [];
     answered = subst (λ k. Answered files root 1 [] k.received k.sent []) (sym fresh) (none_answered files root 1 []);
-    done = refl;
-    open = ap (λ k. k.ended) fresh;
+    done_is = refl;
+    unended = ap (λ k. k.ended) fresh;
   }));
 }
 
@@ -66,8 +66,8 @@ heard_more : (root : List ℕ) (done : ℕ) (unread bytes later : List ℕ) (fil
 heard_more root done unread bytes later files talk grows goes = record {
   heads = goes.heads;
   answered = subst (λ r. Answered files root 1 goes.heads (talk.received ++ bytes) talk.sent r) (sym grows) (answered_more files root 1 goes.heads talk.received talk.sent unread bytes goes.answered);
-  done_is = goes.done;
-  ended = goes.open;
+  done_is = goes.done_is;
+  ended = goes.unended;
 }
 
 heard_end : (root : List ℕ) (done : ℕ) (unread bytes later : List ℕ) (files : TreeFiles) (talk : Talk) → later ≡ unread ++ bytes → Goes root done unread files talk → Heard root done later false files (receives [] (adds bytes talk))
@@ -75,8 +75,8 @@ heard_end root done unread bytes later files talk grows goes = record {
   heads = goes.heads;
   answered = subst (λ k. Answered files root 1 goes.heads k talk.sent later) (sym (append-nil (talk.received ++ bytes)))
       (subst (λ r. Answered files root 1 goes.heads (talk.received ++ bytes) talk.sent r) (sym grows) (answered_more files root 1 goes.heads talk.received talk.sent unread bytes goes.answered));
-  done_is = goes.done;
-  ended = ap (λ e. e || true) goes.open;
+  done_is = goes.done_is;
+  ended = ap (λ e. e || true) goes.unended;
 }
 
 -- the next request, or none, was heard
@@ -107,9 +107,9 @@ served_at_end root done later told talks unfinished heard = record {
             rest = later;
             final = [];
             answered = is.answered;
-            sent = sym (append-nil talk.sent);
+            sent_is = sym (append-nil talk.sent);
             ends = (unfinished, refl);
-            count = (let d = is.done_is in omega (arith, d));
+            count_is = (let d = is.done_is in omega (arith, d));
           };
           over = inr is.ended;
         },
@@ -125,7 +125,7 @@ cut_in_hearing root done unread told before after part goes =
       rest = unread ++ part.bytes;
       front = [];
       answered = answered_more files root 1 g.heads talk.received talk.sent unread part.bytes g.answered;
-      sent = sym (append-nil talk.sent);
+      sent_is = sym (append-nil talk.sent);
       begins = Nothing refl;
     })) goes
 
@@ -142,9 +142,9 @@ served_by_refusal root done later told before after bad sent heard =
         rest = later;
         final = refusal;
         answered = h.answered;
-        sent = refl;
+        sent_is = refl;
         ends = inl (bad, refl);
-        count = (let d = h.done_is in omega (arith, d));
+        count_is = (let d = h.done_is in omega (arith, d));
       };
       over = inl refl;
     })) heard
@@ -158,7 +158,7 @@ cut_in_refusal root done later told before after bad part heard =
       rest = later;
       front = part.front;
       answered = h.answered;
-      sent = refl;
+      sent_is = refl;
       begins = Refusal bad (record { more = part.rest; is = part.is });
     })) heard
 
@@ -177,8 +177,8 @@ next_is root done later len request files talk last read heard closing =
       head = read.head;
       behind = drop len later;
       whole = read.whole;
-      closes = ap (λ n. closes files root n read.head) same ∙ closing;
-      sent = ap (λ n. response_to files root n read.head) (sym same);
+      closes_is = ap (λ n. closes files root n read.head) same ∙ closing;
+      sent_is = ap (λ n. response_to files root n read.head) (sym same);
     }
 
 pub served_by_response : (root : List ℕ) (done : ℕ) (later : List ℕ) (len : ℕ) (request : Request) (told : Option TreeFiles) (before after : Option (List Talk)) → others_of after ≡ others_of before → IsRequestRead later len request
@@ -197,9 +197,9 @@ served_by_response root done later len request told before after others read clo
           rest = later;
           final = of_number files root done read.head;
           answered = h.answered;
-          sent = refl;
+          sent_is = refl;
           ends = inr (next_is root done later len request files talk true read h (opposite (closes files root (done + 1) read.head) (of_files told (λ f. (k : RequestHead) → request ≡ request_of k → false ≡ not (closes f root (done + 1) k)) files t closing read.head read.asks)));
-          count = (let d = h.done_is in omega (arith, d));
+          count_is = (let d = h.done_is in omega (arith, d));
         };
         over = inl refl;
       },
@@ -221,8 +221,8 @@ goes_behind_response root done later len request told before after others read c
         heads = h.heads ++ read.head ∷ [];
         answered = answered_next files root 1 h.heads talk.received talk.sent later read.head (drop len later) (done + 1) (let d = h.done_is in omega (arith, d)) h.answered read.whole
             (opposite (closes files root (done + 1) read.head) (of_files told (λ f. (k : RequestHead) → request ≡ request_of k → true ≡ not (closes f root (done + 1) k)) files t closing read.head read.asks));
-        done = (let d = h.done_is in let a = length-append h.heads (read.head ∷ []) in omega (arith, d, a));
-        open = h.ended;
+        done_is = (let d = h.done_is in let a = length-append h.heads (read.head ∷ []) in omega (arith, d, a));
+        unended = h.ended;
       },
     )) heard
   where
@@ -243,6 +243,6 @@ cut_in_response root done later len request told before after others read cut he
       rest = later;
       front = part.front;
       answered = h.answered;
-      sent = refl;
+      sent_is = refl;
       begins = Response (closes files root (done + 1) read.head) (of_number files root done read.head) (next_is root done later len request files talk (closes files root (done + 1) read.head) read h refl) (record { more = part.rest; is = part.is });
     })

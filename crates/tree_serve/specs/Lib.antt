@@ -4,6 +4,7 @@ pub mod Texts
 pub mod Streams
 pub mod Planned
 pub mod Talks
+pub mod Connections
 pub mod Frame
 pub mod Hearing
 pub mod Sending

@@ -20,8 +20,8 @@ pub record IsNext (files : TreeFiles) (root : List ℕ) (number : ℕ) (rest sen
   pub head : RequestHead
   pub behind : List ℕ
   pub whole : Whole request_form rest head behind
-  pub closes : closes files root number head ≡ last
-  pub sent : sent ≡ response_to files root number head
+  pub closes_is : closes files root number head ≡ last
+  pub sent_is : sent ≡ response_to files root number head
 
 -- How it ends. Either no request comes of the rest, or one that closes the connection, and the response to that is the last;
 -- or nothing is sent for the rest, which is no request yet.
@@ -40,9 +40,9 @@ pub record Responses (files : TreeFiles) (root bytes sent : List ℕ) (count : �
   pub rest : List ℕ
   pub final : List ℕ
   pub answered : Answered files root 1 heads bytes before rest
-  pub sent : sent ≡ before ++ final
+  pub sent_is : sent ≡ before ++ final
   pub ends : Ends files root (length heads + 1) rest final last
-  pub count : count ≡ length heads + one_if last
+  pub count_is : count ≡ length heads + one_if last
 
 -- ---- where something failed
 
@@ -63,5 +63,5 @@ pub record CutResponses (files : TreeFiles) (root bytes sent : List ℕ) : Type 
   pub rest : List ℕ
   pub front : List ℕ
   pub answered : Answered files root 1 heads bytes before rest
-  pub sent : sent ≡ before ++ front
+  pub sent_is : sent ≡ before ++ front
   pub begins : Begins files root (length heads + 1) rest front

@@ -1,7 +1,6 @@
 -- What is said on a connection that is served, and on all of them.
-use Rattle.std.specs.Prelude.{◌≡◌, ◌⊎◌, ℕ, ◌≤◌, Bool, true, false, List, [], ◌∷◌, ◌++◌, length, drop, Option, Some, option_map}
+use Rattle.std.specs.Prelude.{◌≡◌, ◌⊎◌, ℕ, Bool, true, false, List, [], ◌∷◌, length, drop, Option, Some, option_map}
 use Rattle.httparse.specs.Grammar.{RequestHead}
-use Rattle.acq_outside.specs.Count.{Rose}
 use Rattle.acq_outside.specs.Tree.{TreeFiles}
 use Rattle.acq_net.specs.Talk.{Talk, silent}
 use Rattle.tree_serve.specs.Streams.{Answered, CutResponses, Responses}
@@ -25,8 +24,8 @@ IsFresh (talk ∷ others) = talk ≡ silent
 pub record Goes (root : List ℕ) (done : ℕ) (rest : List ℕ) (files : TreeFiles) (talk : Talk) : Type 0 where
   pub heads : List RequestHead
   pub answered : Answered files root 1 heads talk.received talk.sent rest
-  pub done : done ≡ length heads
-  pub open : talk.ended ≡ false
+  pub done_is : done ≡ length heads
+  pub unended : talk.ended ≡ false
 
 -- All that was received was answered by so many responses, and nothing more: the peer has ended, or the last closes.
 pub record IsServed (root : List ℕ) (count : ℕ) (files : TreeFiles) (talk : Talk) : Type 0 where
@@ -37,33 +36,3 @@ pub record IsServed (root : List ℕ) (count : ℕ) (files : TreeFiles) (talk : 
 -- what was sent is a part of what that would be, from its beginning on
 abbrev pub IsCut : List ℕ → TreeFiles → Talk → Type 0
 IsCut root files talk = CutResponses files root talk.received talk.sent
-
--- ---- one connection after another
-
-pub record IsServedSome (root : List ℕ) (files : TreeFiles) (talk : Talk) : Type 0 where
-  pub count : ℕ
-  pub served : IsServed root count files talk
-
--- it was served, or cut short, and then the port's count rose, or the tree's
-abbrev pub IsServedOrCut : TreeFiles → List ℕ → ℕ → ℕ → Talk → ℕ → ℕ → Type 0
-IsServedOrCut files root port tree talk port_after tree_after =
-    IsServedSome root files talk ⊎ (IsCut root files talk × (Rose port port_after ⊎ Rose tree tree_after))
-
--- Each of these connections, the latest first, was served or cut short. Both counts run along, from the oldest to the latest.
-abbrev pub AllServed : TreeFiles → List ℕ → ℕ → ℕ → List Talk → ℕ → ℕ → Type 0
-AllServed files root port tree [] port_after tree_after = (port ≤ port_after) × (tree ≤ tree_after)
-AllServed files root port tree (talk ∷ talks) port_after tree_after =
-    (p : ℕ) × (t : ℕ) × AllServed files root port tree talks p t × (p ≤ port_after) × (t ≤ tree_after) × IsServedOrCut files root p t talk port_after tree_after
-
--- one more connection was accepted and served, or cut short
-pub record ServesNext (files : TreeFiles) (root : List ℕ) (former : List Talk) (port tree : ℕ) (after : Option (List Talk)) (port_after tree_after : ℕ) : Type 0 where
-  pub talk : Talk
-  pub is : after ≡ Some (talk ∷ former)
-  pub served : IsServedOrCut files root port tree talk port_after tree_after
-
--- so many more were
-pub record ServesAll (files : TreeFiles) (root : List ℕ) (connections : ℕ) (former : List Talk) (port tree : ℕ) (after : Option (List Talk)) (port_after tree_after : ℕ) : Type 0 where
-  pub latest : List Talk
-  pub is : after ≡ Some (latest ++ former)
-  pub long : length latest ≡ connections
-  pub served : AllServed files root port tree latest port_after tree_after

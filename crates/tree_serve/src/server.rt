@@ -1,7 +1,7 @@
 //! Serves one connection after another.
-ghost use Rattle.std.specs.Prelude.{◌≡◌, IfSome, OnOk};
+ghost use Rattle.std.specs.Prelude.{OnOk};
+ghost use Rattle.tree_serve.specs.Connections.{HasServedAll, HasServedNext};
 ghost use Rattle.tree_serve.specs.Frame.{Stops};
-ghost use Rattle.tree_serve.specs.Talks.{ServesAll, ServesNext};
 
 use crate::serving::serve_one;
 use crate::{ServeError, Stop};
@@ -21,8 +21,7 @@ pub fn serve<P: Port, T: Tree>(
     connections: u64,
 ) -> Result<(), Stop>
     ensures frame { Stops P.Port T.Tree port.old port.new tree.old tree.new result }
-    ensures served { OnOk result (IfSome (T.files tree.old) (λ files. IfSome (P.talks port.old)
-        (λ former. ServesAll files root.now connections former (P.faults port.old) (T.faults tree.old) (P.talks port.new) (P.faults port.new) (T.faults tree.new)))) }
+    ensures served { OnOk result (HasServedAll P.Port T.Tree root.now connections port.old port.new tree.old tree.new) }
 {
     if port.listen(number).is_err() {
         return Err(Stop::Port);
@@ -41,8 +40,7 @@ fn serve_next<P: Port, T: Tree>(
     root: &Text,
 ) -> Result<(), Stop>
     ensures frame { Stops P.Port T.Tree port.old port.new tree.old tree.new result }
-    ensures served { OnOk result (IfSome (T.files tree.old) (λ files. IfSome (P.talks port.old)
-        (λ former. ServesNext files root.now former (P.faults port.old) (T.faults tree.old) (P.talks port.new) (P.faults port.new) (T.faults tree.new)))) }
+    ensures served { OnOk result (HasServedNext P.Port T.Tree root.now port.old port.new tree.old tree.new) }
 {
     if port.accept().is_err() {
         return Err(Stop::Port);
