@@ -1,11 +1,12 @@
 -- The frame over calls one after another.
-use Rattle.std.proofs.Common.{◌≡◌, ◌≢◌, ◌∙◌, ap, subst, refl, arith, Result, Ok, Err, Option}
+use Rattle.std.proofs.Common.{◌≡◌, ◌≢◌, ◌∙◌, ◌≤◌, ℕ, None, ap, sym, subst, refl, arith, Result, Ok, Err, Option}
 use Rattle.acq_outside.specs.Frame.{CountsOnly, LooksBy, LooksCountingBy}
 use Rattle.acq_outside.specs.declared.fault.OutError.{OutError}
 use Rattle.acq_outside.specs.declared.fault.OutError.TheVariants as outs
 use Rattle.acq_outside.specs.declared.tree.Tree.{Ghosts as TreeGhosts}
 use Rattle.acq_net.specs.declared.port.Port.{Ghosts as PortGhosts}
-use Rattle.tree_serve.specs.Frame.{Converses, IsOfPort, IsUntoldIfShrunk, Reads, Serves, Uses, serve_error_of}
+use Rattle.tree_serve.specs.Frame.{Converses, IsOfPort, IsUntoldIfShrunk, Reads, Serves, Stops, Uses, serve_error_of, stop_of}
+use Rattle.tree_serve.specs.declared.error.Stop.{Stop}
 use Rattle.tree_serve.specs.declared.error.ServeError.{ServeError}
 use Rattle.tree_serve.specs.declared.error.ServeError.TheVariants.{PortFault, TreeFault, Shrunk, NoMemory}
 
@@ -108,6 +109,14 @@ serves_by_fault {P} {T} {A} {B} {E} {p} {t} {a} {x} {y} {e} looked = record {
   shrunk = tt;
 }
 
+-- it gave nothing of a file that should have gone on
+pub serves_by_shrunk : {P T A B E : Type 0} {p : PortGhosts P} {t : TreeGhosts T} {a : P} {x y : T} {v : B} (size got : ℕ) → t.files x ≡ None → LooksBy {T = B} {E = E} t.faults t.files x y (Ok v) → Serves {A = A} p t a a x y (Err (Shrunk size got))
+serves_by_shrunk {P} {T} {A} {B} {E} {p} {t} {a} {x} {y} {v} size got untold looked = record {
+  port_is = unused_err p a (Shrunk size got) (λ e. let x : ⊥ = cc in x);
+  tree_is = record { counts = record { count = looked.count; fault = λ is. absurd cc; quiet = tt; dry = λ other. looked.quiet }; same = looked.same };
+  shrunk = untold;
+}
+
 -- it gave what was asked
 pub serves_by_look : {P T B E : Type 0} {p : PortGhosts P} {t : TreeGhosts T} {a : P} {x y : T} {v : B} → LooksBy {T = B} {E = E} t.faults t.files x y (Ok v) → Serves {A = Unit {0}} p t a a x y (Ok tt)
 serves_by_look {P} {T} {B} {E} {p} {t} {a} {x} {y} {v} looked = record {
@@ -136,4 +145,37 @@ serves_by_no_plan {P} {T} {A} {B} {p} {t} {a} {x} {y} {e} looked = by e looked
       port_is = unused_err p a NoMemory (λ e. let x : ⊥ = cc in x);
       tree_is = record { counts = record { count = looked.count; fault = λ is. absurd cc; quiet = tt; dry = λ other. looked.dry (λ e. let x : ⊥ = cc in x) }; same = looked.same };
       shrunk = tt;
+    }
+
+-- ---- one connection after another
+
+pub stopped_then : {P T A : Type 0} {p : PortGhosts P} {t : TreeGhosts T} {a b c : P} {x y z : T} {v : A} → Stops {A = Unit {0}} p t a b x y (Ok tt) → Stops {A = A} p t b c y z (Ok v) → Stops {A = Unit {0}} p t a c x z (Ok tt)
+stopped_then first now = record {
+  port_count = omega (arith, first.port_count, now.port_count);
+  tree_count = omega (arith, first.tree_count, now.tree_count);
+  lost = record { count = omega (arith, first.lost.count, now.lost.count); fault = λ is. absurd cc; quiet = now.lost.quiet ∙ first.lost.quiet; dry = tt };
+  same = now.same ∙ first.same;
+}
+
+-- an error of one
+pub stops_behind : {P T A : Type 0} {p : PortGhosts P} {t : TreeGhosts T} {a b c : P} {x y : T} {e : ServeError} {r : Result (Unit {0}) Stop} → p.faults a ≤ p.faults b → p.lost b ≡ p.lost a → Serves {A = A} p t b c x y (Err e) → r ≡ stop_of e → Stops {A = Unit {0}} p t a c x y r
+stops_behind {P} {T} {A} {p} {t} {a} {b} {c} {x} {y} {e} {r} accepted lost now is = subst (λ k. Stops {A = Unit {0}} p t a c x y k) (sym is) (by e now)
+  where
+    fine : (e : ServeError) → Serves {A = A} p t b c x y (Err e) → Stops {A = Unit {0}} p t a c x y (Ok tt)
+    fine e now = record {
+      port_count = (let n = now.port_is.count in omega (arith, accepted, n));
+      tree_count = now.tree_is.count;
+      lost = record { count = (let n = now.port_is.lost in omega (arith, n, lost)); fault = λ is. absurd cc; quiet = now.port_is.lost ∙ lost; dry = tt };
+      same = now.tree_is.same;
+    }
+
+    by : (e : ServeError) → Serves {A = A} p t b c x y (Err e) → Stops {A = Unit {0}} p t a c x y (stop_of e)
+    by PortFault now = fine PortFault now
+    by TreeFault now = fine TreeFault now
+    by (Shrunk size got) now = fine (Shrunk size got) now
+    by NoMemory now = record {
+      port_count = (let n = now.port_is.count in omega (arith, accepted, n));
+      tree_count = now.tree_is.count;
+      lost = record { count = (let n = now.port_is.lost in omega (arith, n, lost)); fault = λ is. absurd cc; quiet = tt; dry = λ other. now.port_is.lost ∙ lost };
+      same = now.tree_is.same;
     }

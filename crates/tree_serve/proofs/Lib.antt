@@ -1,9 +1,9 @@
-pub mod Answering
-pub mod Planning
+pub mod Sizes
+pub mod Plans
 pub mod Saying
-pub mod Sending
+pub mod Sent
 pub mod Streams
 pub mod Turns
-pub mod Serving
-pub mod Hearing
+pub mod Served
+pub mod Heard
 pub mod Frames

@@ -1,9 +1,19 @@
 -- What is said on the latest connection, one thing after another.
-use Rattle.std.proofs.Common.{◌≡◌, ℕ, ◌<◌, Bool, true, false, arith, ap, sym, ◌∙◌, refl, List, [], ◌∷◌, ◌++◌, length, drop, append_assoc, append-nil, Option, Some, None}
-use Rattle.std.specs.Prelude.{◌||◌, option_map}
+use Rattle.std.proofs.Common.{◌≡◌, ℕ, ◌<◌, Bool, true, false, arith, ap, sym, ◌∙◌, refl, List, [], ◌∷◌, ◌++◌, length, drop, append_assoc, append-nil, Option, Some, None, Result, Ok, Err}
+use Rattle.std.specs.Prelude.{◌||◌, is_err, option_map, OnErr, OnOk}
 use Rattle.acq_net.specs.Talk.{Talk, adds, receives, sends}
 use Rattle.acq_net.specs.Talks.{ReceivesPartOfLatest, SendsPartOfLatest, on_first}
 use Rattle.tree_serve.specs.Talks.{others_of}
+
+-- ---- an error of whatever call
+
+pub on_err : {A E : Type 0} (result : Result A E) (P : Type 0) → P → OnErr result P
+on_err (Ok x) P p = tt
+on_err (Err e) P p = p
+
+pub on_ok : {A E : Type 0} (result : Result A E) (P : Type 0) → is_err result ≡ false → OnOk result P → P
+on_ok (Ok x) P fine p = p
+on_ok (Err e) P fine p = absurd cc
 
 -- ---- the others stay
 

@@ -1,5 +1,5 @@
 -- The frame of a call over a port and a tree: how their counts go whatever it answers, and what it leaves as it was.
-use Rattle.std.specs.Prelude.{◌≡◌, ◌≤◌, Option, None, Result, Ok, IfErr}
+use Rattle.std.specs.Prelude.{◌≡◌, ◌≤◌, Option, None, Result, Ok, Err, IfErr}
 use Rattle.acq_outside.specs.Frame.{CountsOnly}
 use Rattle.acq_outside.specs.declared.fault.OutError.{OutError}
 use Rattle.acq_outside.specs.declared.fault.OutError.TheVariants as outs
@@ -7,7 +7,7 @@ use Rattle.acq_outside.specs.declared.tree.Tree.{Ghosts as TreeGhosts}
 use Rattle.acq_net.specs.declared.port.Port.{Ghosts as PortGhosts}
 use Rattle.tree_serve.specs.declared.error.ServeError.{ServeError}
 use Rattle.tree_serve.specs.declared.error.Stop.{Stop}
-use Rattle.tree_serve.specs.declared.error.Stop.TheVariants.{Port}
+use Rattle.tree_serve.specs.declared.error.Stop.TheVariants as stops
 use Rattle.tree_serve.specs.declared.error.ServeError.TheVariants.{PortFault, TreeFault, Shrunk, NoMemory}
 
 abbrev pub serve_error_of : OutError → ServeError
@@ -61,12 +61,19 @@ HasConversed g old new = Converses {A = Unit {0}} g old new (Ok tt)
 abbrev pub HasServed : {P T : Type 0} → PortGhosts P → TreeGhosts T → P → P → T → T → Type 0
 HasServed p t port port_after tree tree_after = Serves {A = Unit {0}} p t port port_after tree tree_after (Ok tt)
 
+-- an error that ends more than its connection
+abbrev pub stop_of : ServeError → Result (Unit {0}) Stop
+stop_of PortFault = Ok tt
+stop_of TreeFault = Ok tt
+stop_of (Shrunk size got) = Ok tt
+stop_of NoMemory = Err stops.NoMemory
+
 -- A call that serves connections: its counts never fall, the one of lost ones rose where the port stopped it, and only there,
 -- and the tree has the same files.
 pub record Stops {P T A : Type 0} (p : PortGhosts P) (t : TreeGhosts T) (port port_after : P) (tree tree_after : T) (result : Result A Stop) : Type 0 where
   pub port_count : p.faults port ≤ p.faults port_after
   pub tree_count : t.faults tree ≤ t.faults tree_after
-  pub lost : CountsOnly Port (p.lost port) (p.lost port_after) result
+  pub lost : CountsOnly stops.Port (p.lost port) (p.lost port_after) result
   pub same : t.files tree_after ≡ t.files tree
 
 abbrev pub HasNotStopped : {P T : Type 0} → PortGhosts P → TreeGhosts T → P → P → T → T → Type 0

@@ -15,7 +15,7 @@ use http_requests::{Method, Request};
 pub const MOST_RESPONSES: u64 = 10_000;
 
 /// What a request is answered, whose path is that of the file behind the root.
-#[tactic(auto, using(crate::proofs::Answering::of_size_capped))]
+#[tactic(auto, using(crate::proofs::Sizes::of_size_capped))]
 pub fn answer<T: Tree>(tree: &mut T, path: &Text, request: &Request) -> Result<Answer, Fault>
     ensures frame { LooksBy T.faults T.files tree.old tree.new result }
     ensures sound { IfOk result spec.IsSound }

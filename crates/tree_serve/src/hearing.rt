@@ -1,5 +1,5 @@
 //! Hears the next request of a connection.
-ghost use Rattle.std.specs.Prelude.{◌≡◌, ◌<◌, ◌≤◌, length, take, IfOk, OnErr, OnOk, option_map};
+ghost use Rattle.std.specs.Prelude.{◌≡◌, ◌<◌, ◌≤◌, true, false, length, take, IfOk, OnErr, OnOk, option_map};
 ghost use Rattle.acq_net.specs.Talk.{receives};
 ghost use Rattle.acq_net.specs.Talks.{ReceivesPartOfLatest, on_first};
 ghost use Rattle.tree_serve.specs.Frame.{Converses};
@@ -58,6 +58,8 @@ pub fn hear_next<P: Port>(
 fn hear<P: Port>(port: &mut P, unread: &mut Bytes) -> Result<bool, ServeError>
     ensures frame { Converses P.Port port.old port.new result }
     ensures others { others_of (P.talks port.new) ≡ others_of (P.talks port.old) }
+    ensures same { IfOk result (λ goes_on. goes_on ≡ false → unread.new ≡ unread.old) }
+    ensures longer { IfOk result (λ goes_on. goes_on ≡ true → length unread.old < length unread.new) }
     ensures heard { IfOk result (λ goes_on. Hears goes_on unread.old unread.new (P.talks port.old) (P.talks port.new)) }
     ensures part { OnErr result (ReceivesPartOfLatest (P.talks port.old) (P.talks port.new)) }
 {

@@ -2,7 +2,7 @@
 ghost use Rattle.std.specs.Prelude.{◌≡◌, ◌≢◌, ◌+◌, ◌^◌, ◌<◌, true, IfOk, IfSome};
 ghost use Rattle.acq_outside.specs.Frame.{LooksCountingBy};
 ghost use Rattle.tree_serve.specs.Answers.{IsSound};
-ghost use Rattle.tree_serve.specs.Planned.{InRange, IsPlanFor, planned_by};
+ghost use Rattle.tree_serve.specs.Planned.{InRange, IsPlanFor, IsWithin, planned_by};
 ghost use Rattle.tree_serve.specs.Texts.{head_text};
 
 use crate::answering::{answer, closes_by};
@@ -15,7 +15,7 @@ use std::alloc::Global;
 
 /// The response of this number on its connection, counted from 1, to a request over the files below `root`. No byte of a file
 /// is read. The 10,000th closes the connection.
-#[tactic(auto, using(crate::proofs::Planning::planned_in))]
+#[tactic(auto, using(crate::proofs::Plans::planned_in, crate::proofs::Plans::within_in))]
 pub fn plan<T: Tree>(
     alloc: Global,
     tree: &mut T,
@@ -25,6 +25,7 @@ pub fn plan<T: Tree>(
 ) -> Result<Planned, OutError>
     ensures frame { LooksCountingBy OutError.Fault T.faults T.files tree.old tree.new result }
     ensures range { IfOk result InRange }
+    ensures within { IfSome (T.files tree.old) (λ files. IfOk result (IsWithin files)) }
     ensures most { IfOk result (λ planned. planned.keep ≡ true → number ≢ 10000) }
     ensures plan { IfSome (T.files tree.old) (λ files. IfOk result (IsPlanFor files root.now number request.now)) }
 {

@@ -39,12 +39,13 @@ pub fn send_planned<P: Port, T: Tree>(
     planned: &Planned,
 ) -> Result<(), ServeError>
     requires range { InRange planned.now }
+    requires within { IfSome (T.files tree.old) (λ files. IsWithin files planned.now) }
     ensures frame { Serves P.Port T.Tree port.old port.new tree.old tree.new result }
     ensures others { others_of (P.talks port.new) ≡ others_of (P.talks port.old) }
-    ensures sent { IfSome (T.files tree.old) (λ files. IsWithin files planned.now
-        → OnOk result (P.talks port.new ≡ option_map (on_first (sends (to_send files planned.now))) (P.talks port.old))) }
-    ensures part { IfSome (T.files tree.old) (λ files. IsWithin files planned.now
-        → OnErr result (SendsPartOfLatest (to_send files planned.now) (P.talks port.old) (P.talks port.new))) }
+    ensures sent { IfSome (T.files tree.old) (λ files.
+        OnOk result (P.talks port.new ≡ option_map (on_first (sends (to_send files planned.now))) (P.talks port.old))) }
+    ensures part { IfSome (T.files tree.old) (λ files.
+        OnErr result (SendsPartOfLatest (to_send files planned.now) (P.talks port.old) (P.talks port.new))) }
 {
     send(port, planned.head.as_slice())?;
     send_body(alloc, port, tree, planned)
@@ -58,12 +59,13 @@ fn send_body<P: Port, T: Tree>(
     planned: &Planned,
 ) -> Result<(), ServeError>
     requires range { InRange planned.now }
+    requires within { IfSome (T.files tree.old) (λ files. IsWithin files planned.now) }
     ensures frame { Serves P.Port T.Tree port.old port.new tree.old tree.new result }
     ensures others { others_of (P.talks port.new) ≡ others_of (P.talks port.old) }
-    ensures sent { IfSome (T.files tree.old) (λ files. IsWithin files planned.now
-        → OnOk result (P.talks port.new ≡ option_map (on_first (sends (part_at files planned.now.path planned.now.at planned.now.left))) (P.talks port.old))) }
-    ensures part { IfSome (T.files tree.old) (λ files. IsWithin files planned.now
-        → OnErr result (SendsPartOfLatest (part_at files planned.now.path planned.now.at planned.now.left) (P.talks port.old) (P.talks port.new))) }
+    ensures sent { IfSome (T.files tree.old) (λ files.
+        OnOk result (P.talks port.new ≡ option_map (on_first (sends (part_at files planned.now.path planned.now.at planned.now.left))) (P.talks port.old))) }
+    ensures part { IfSome (T.files tree.old) (λ files.
+        OnErr result (SendsPartOfLatest (part_at files planned.now.path planned.now.at planned.now.left) (P.talks port.old) (P.talks port.new))) }
 {
     if planned.left == 0 {
         return Ok(());
@@ -89,15 +91,16 @@ fn send_piece<P: Port, T: Tree>(
     requires some { 0 < left }
     requires range { at + left < 2 ^ 64 }
     requires room { 0 < length room.old }
+    requires within { IfSome (T.files tree.old) (λ files. at + left ≤ length (content_at files path.now)) }
     ensures frame { Serves P.Port T.Tree port.old port.new tree.old tree.new result }
     ensures others { others_of (P.talks port.new) ≡ others_of (P.talks port.old) }
     ensures room { length room.new ≡ length room.old }
     ensures some { IfOk result (λ n. 0 < n) }
     ensures few { IfOk result (λ n. n ≤ left) }
-    ensures sent { IfSome (T.files tree.old) (λ files. at + left ≤ length (content_at files path.now)
-        → IfOk result (λ n. P.talks port.new ≡ option_map (on_first (sends (part_at files path.now at n))) (P.talks port.old))) }
-    ensures part { IfSome (T.files tree.old) (λ files. at + left ≤ length (content_at files path.now)
-        → OnErr result (SendsPartOfLatest (part_at files path.now at left) (P.talks port.old) (P.talks port.new))) }
+    ensures sent { IfSome (T.files tree.old) (λ files.
+        IfOk result (λ n. P.talks port.new ≡ option_map (on_first (sends (part_at files path.now at n))) (P.talks port.old))) }
+    ensures part { IfSome (T.files tree.old) (λ files.
+        OnErr result (SendsPartOfLatest (part_at files path.now at left) (P.talks port.old) (P.talks port.new))) }
 {
     let n = match read_some(tree, path, at, left, room) {
         Ok(n) => n,

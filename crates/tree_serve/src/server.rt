@@ -1,7 +1,7 @@
 //! Serves one connection after another.
-ghost use Rattle.std.specs.Prelude.{OnOk};
+ghost use Rattle.std.specs.Prelude.{◌≡◌, OnOk};
 ghost use Rattle.tree_serve.specs.Connections.{HasServedAll, HasServedNext};
-ghost use Rattle.tree_serve.specs.Frame.{Stops};
+ghost use Rattle.tree_serve.specs.Frame.{Stops, stop_of};
 
 use crate::serving::serve_one;
 use crate::{ServeError, Stop};
@@ -46,10 +46,19 @@ fn serve_next<P: Port, T: Tree>(
         return Err(Stop::Port);
     }
     match serve_one(alloc, port, tree, root) {
-        Err(ServeError::NoMemory) => Err(Stop::NoMemory),
-        Ok(_)
-        | Err(ServeError::PortFault)
-        | Err(ServeError::TreeFault)
-        | Err(ServeError::Shrunk { size: _, got: _ }) => Ok(()),
+        Ok(_) => Ok(()),
+        Err(error) => go_on(error),
+    }
+}
+
+/// Whether the next connection is served behind an error: all but want of memory end their connection alone.
+fn go_on(error: ServeError) -> Result<(), Stop>
+    ensures { result ≡ stop_of error }
+{
+    match error {
+        ServeError::PortFault
+        | ServeError::TreeFault
+        | ServeError::Shrunk { size: _, got: _ } => Ok(()),
+        ServeError::NoMemory => Err(Stop::NoMemory),
     }
 }

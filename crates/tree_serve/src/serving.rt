@@ -66,7 +66,7 @@ fn serve_all<P: Port, T: Tree>(
 {
     let mut unread = Bytes::new(alloc);
     for done in 0..MOST_RESPONSES {
-        match turn(alloc, port, tree, root, done, &mut unread)? {
+        match take_turn(alloc, port, tree, root, done, &mut unread)? {
             Turn::Kept => {}
             Turn::Over(count) => return Ok(count),
         }
@@ -75,7 +75,7 @@ fn serve_all<P: Port, T: Tree>(
 }
 
 /// Hears the next request behind the unread bytes, and answers it.
-fn turn<P: Port, T: Tree>(
+fn take_turn<P: Port, T: Tree>(
     alloc: Global,
     port: &mut P,
     tree: &mut T,

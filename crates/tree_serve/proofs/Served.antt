@@ -1,11 +1,17 @@
 -- One connection after another.
-use Rattle.std.proofs.Common.{◌≡◌, ℕ, suc, ◌+◌, ◌≤◌, ◌⊎◌, inl, inr, arith, ap, sym, subst, ◌∙◌, refl, List, [], ◌∷◌, ◌++◌, length, drop, Option, Some, None, IfSome}
-use Rattle.std.specs.Prelude.{option_map}
+use Rattle.std.proofs.Common.{◌≡◌, ℕ, suc, ◌+◌, ◌≤◌, ◌⊎◌, inl, inr, arith, ap, sym, subst, ◌∙◌, refl, List, [], ◌∷◌, ◌++◌, length, drop, Option, Some, None, IfSome, Result, Ok, Err}
+use Rattle.std.specs.Prelude.{option_map, OnOk}
 use Rattle.acq_outside.specs.Count.{Rose}
 use Rattle.acq_outside.specs.Tree.{TreeFiles}
+use Rattle.acq_outside.specs.declared.tree.Tree.{Ghosts as TreeGhosts}
+use Rattle.acq_net.specs.declared.port.Port.{Ghosts as PortGhosts}
 use Rattle.acq_net.specs.Talk.{Talk, silent}
 use Rattle.acq_net.specs.Talks.{accepts}
-use Rattle.tree_serve.specs.Connections.{AllServed, IsServedOrCut, IsServedSome, ServesAll, ServesNext}
+use Rattle.tree_serve.specs.Connections.{AllServed, HasServedNext, IsServedOrCut, IsServedSome, ServesAll, ServesNext}
+use Rattle.tree_serve.specs.Frame.{Serves, stop_of}
+use Rattle.tree_serve.specs.declared.error.ServeError.{ServeError}
+use Rattle.tree_serve.specs.declared.error.ServeError.TheVariants.{PortFault, TreeFault, Shrunk, NoMemory}
+use Rattle.tree_serve.specs.declared.error.Stop.{Stop}
 use Rattle.tree_serve.specs.Talks.{IsCut, IsFresh, IsServed, WhereTold, others_of}
 
 pub fresh_accepted : (before after : Option (List Talk)) → after ≡ option_map accepts before → IfSome after IsFresh
@@ -49,6 +55,20 @@ next_cut told before accepted after root port tree port_after tree_after is othe
 pub next_untold : (told : Option TreeFiles) (before : Option (List Talk)) (root : List ℕ) (port tree : ℕ) (after : Option (List Talk)) (port_after tree_after : ℕ) → told ≡ None → Next told before root port tree after port_after tree_after
 next_untold None before root port tree after port_after tree_after is = tt
 next_untold (Some files) before root port tree after port_after tree_after is = absurd cc
+
+-- an error ended the connection
+pub next_failed : {P T A : Type 0} (p : PortGhosts P) (t : TreeGhosts T) (root : List ℕ) (a b c : P) (x y : T) (e : ServeError) (r : Result (Unit {0}) Stop) → r ≡ stop_of e → p.talks b ≡ option_map accepts (p.talks a) → p.faults b ≡ p.faults a
+    → others_of (p.talks c) ≡ others_of (p.talks b) → Serves {A = A} p t b c x y (Err e) → WhereTold (t.files x) (p.talks c) (IsCut root) → OnOk r (HasServedNext p t root a c x y)
+next_failed {P} {T} {A} p t root a b c x y e r is accepted quiet others now cut = let F : Result (Unit {0}) Stop → Type 0 = λ k. OnOk k (HasServedNext p t root a c x y) in subst F (sym is) (by e now)
+  where
+    cut_short : Rose (p.faults a) (p.faults c) ⊎ Rose (t.faults x) (t.faults y) → HasServedNext p t root a c x y
+    cut_short rose = next_cut (t.files x) (p.talks a) (p.talks b) (p.talks c) root (p.faults a) (t.faults x) (p.faults c) (t.faults y) accepted others rose cut
+
+    by : (e : ServeError) → Serves {A = A} p t b c x y (Err e) → OnOk (stop_of e) (HasServedNext p t root a c x y)
+    by PortFault now = cut_short (inl (subst (λ n. Rose n (p.faults c)) quiet (now.port_is.fault refl)))
+    by TreeFault now = cut_short (inr (now.tree_is.fault refl))
+    by (Shrunk size got) now = next_untold (t.files x) (p.talks a) root (p.faults a) (t.faults x) (p.talks c) (p.faults c) (t.faults y) now.shrunk
+    by NoMemory now = tt
 
 -- ---- all of them
 

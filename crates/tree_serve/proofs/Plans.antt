@@ -87,5 +87,11 @@ pub planned_in : (told : Option TreeFiles) (root : List ℕ) (number : ℕ) (req
     → close ≡ closes_by answer request.last number → head ≡ head_text answer close → bare ≡ is_bare request.method → planned ≡ planned_by head path answer bare (not close)
     → IfSome told (λ files. IsPlanFor files root number request planned)
 planned_in None root number request answer close head path bare planned path_is of answers close_is head_is bare_is is = tt
-planned_in (Some files) root number request answer close head path bare planned path_is of answers close_is head_is bare_is is h asks =
+planned_in (Some files) root number request answer close head path bare planned path_is of answers close_is head_is bare_is is = λ h asks.
     subst (IsPlanOf files root number h) (sym is) (plan_for files root number request h answer close head path bare asks path_is of answers close_is head_is bare_is)
+
+-- the file has what is to be sent of it
+pub within_in : (told : Option TreeFiles) (answer : Answer) (close : Bool) (head path : List ℕ) (bare : Bool) (planned : Planned) → IfSome told (λ files. IsOf (content_at files path) answer) → planned ≡ planned_by head path answer bare (not close)
+    → IfSome told (λ files. IsWithin files planned)
+within_in None answer close head path bare planned of is = tt
+within_in (Some files) answer close head path bare planned of is = subst (IsWithin files) (sym is) (left_within files path answer bare of)
