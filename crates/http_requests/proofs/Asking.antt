@@ -22,11 +22,11 @@ asked_by_head text spans head request found is = record {
   whole = found.whole;
   within = found.within.section.len_fits;
   asks =
-    is
-    ∙ ap (λ m. request_by m (span_bytes text head.path) head.version (map (header_bytes text) (take head.headers spans))) found.at.method
-    ∙ ap (λ t. request_by found.is.method t head.version (map (header_bytes text) (take head.headers spans))) found.at.path
-    ∙ ap (λ n. request_by found.is.method found.is.target n (map (header_bytes text) (take head.headers spans))) found.at.version
-    ∙ ap (λ f. request_by found.is.method found.is.target found.is.minor f) found.at.fields;
+      is
+      ∙ ap (λ m. request_by m (span_bytes text head.path) head.version (map (header_bytes text) (take head.headers spans))) found.at.method
+      ∙ ap (λ t. request_by found.is.method t head.version (map (header_bytes text) (take head.headers spans))) found.at.path
+      ∙ ap (λ n. request_by found.is.method found.is.target n (map (header_bytes text) (take head.headers spans))) found.at.version
+      ∙ ap (λ f. request_by found.is.method found.is.target found.is.minor f) found.at.fields;
 }
 
 -- as many bytes as there are

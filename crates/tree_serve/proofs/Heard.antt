@@ -19,8 +19,8 @@ hears_on goes_on u v w before middle after first second = record {
   bytes = first.bytes ++ second.bytes;
   grows = second.grows ∙ ap (λ t. t ++ second.bytes) first.grows ∙ append_assoc u first.bytes second.bytes;
   talks =
-    second.talks ∙ ap (λ x. option_map (on_first (heard goes_on second.bytes)) x) first.talks
-    ∙ two_said (adds first.bytes) (heard goes_on second.bytes) (heard goes_on (first.bytes ++ second.bytes)) (heard_twice goes_on first.bytes second.bytes) before;
+      second.talks ∙ ap (λ x. option_map (on_first (heard goes_on second.bytes)) x) first.talks
+      ∙ two_said (adds first.bytes) (heard goes_on second.bytes) (heard goes_on (first.bytes ++ second.bytes)) (heard_twice goes_on first.bytes second.bytes) before;
 }
 
 -- the peer's end
@@ -29,8 +29,8 @@ hears_end unread room n before after none is = record {
   bytes = [];
   grows = sym (append-nil unread);
   talks =
-    is ∙ ap (λ k. option_map (on_first (receives (take k room))) before) none
-    ∙ same_said (receives []) (heard false []) (λ talk. ap (λ r. receives [] (record { sent = talk.sent; received = r; ended = talk.ended })) (sym (append-nil talk.received))) before;
+      is ∙ ap (λ k. option_map (on_first (receives (take k room))) before) none
+      ∙ same_said (receives []) (heard false []) (λ talk. ap (λ r. receives [] (record { sent = talk.sent; received = r; ended = talk.ended })) (sym (append-nil talk.received))) before;
 }
 
 some_taken : (room : List ℕ) (n : ℕ) → n ≢ 0 → n ≤ length room → 0 < length (take n room)

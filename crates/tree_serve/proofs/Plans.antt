@@ -68,17 +68,17 @@ plan_for files root number request h answer close head path bare asks path_is of
     let last = is_last h.minor (fields_of h) in
     let path_so : path ≡ root ++ path_of h.target = path_is ∙ ap (λ r. root ++ r.path) asks in
     let answer_so : answer ≡ answer_to files root h =
-        answers asked (ap (λ r. r.from) asks)
-        ∙ ap (λ r. answer_by (size_at files path) r.proper r.method r.path asked) asks
-        ∙ ap (λ p. answer_by (size_at files p) (is_proper h.minor (fields_of h)) (method_of h.method) (path_of h.target) asked) path_so in
+    answers asked (ap (λ r. r.from) asks)
+    ∙ ap (λ r. answer_by (size_at files path) r.proper r.method r.path asked) asks
+    ∙ ap (λ p. answer_by (size_at files p) (is_proper h.minor (fields_of h)) (method_of h.method) (path_of h.target) asked) path_so in
     let close_so : close ≡ closes_by answer last number = close_is ∙ ap (λ r. closes_by answer r.last number) asks in
     let head_so : head ≡ head_text answer (closes_by answer last number) = head_is ∙ ap (head_text answer) close_so in
     let bare_so : bare ≡ is_bare (method_of h.method) = bare_is ∙ ap (λ r. is_bare r.method) asks in
     let planned_so : planned_by head path answer bare (not close) ≡ planned_by (head_text answer (closes_by answer last number)) (root ++ path_of h.target) answer (is_bare (method_of h.method)) (not (closes_by answer last number)) =
-        ap (λ t. planned_by t path answer bare (not close)) head_so
-        ∙ ap (λ p. planned_by (head_text answer (closes_by answer last number)) p answer bare (not close)) path_so
-        ∙ ap (λ b. planned_by (head_text answer (closes_by answer last number)) (root ++ path_of h.target) answer b (not close)) bare_so
-        ∙ ap (λ c. planned_by (head_text answer (closes_by answer last number)) (root ++ path_of h.target) answer (is_bare (method_of h.method)) (not c)) close_so in
+    ap (λ t. planned_by t path answer bare (not close)) head_so
+    ∙ ap (λ p. planned_by (head_text answer (closes_by answer last number)) p answer bare (not close)) path_so
+    ∙ ap (λ b. planned_by (head_text answer (closes_by answer last number)) (root ++ path_of h.target) answer b (not close)) bare_so
+    ∙ ap (λ c. planned_by (head_text answer (closes_by answer last number)) (root ++ path_of h.target) answer (is_bare (method_of h.method)) (not c)) close_so in
     subst (IsPlanOf files root number h) (sym planned_so) (plan_of_head files root number h answer (subst (λ p. IsOf (content_at files p) answer) path_so of) answer_so)
 
 -- where the tree tells its files

@@ -29,7 +29,7 @@ piece_on files path start done n t u v first second =
     let file = content_at files path in
     let more : (done + n) - done ≡ n = omega arith in
     let whole : take (done + n) (drop start file) ≡ take done (drop start file) ++ take n (drop (start + done) file) =
-        part_cut file start done (done + n) (omega arith) ∙ ap (λ k. take done (drop start file) ++ take k (drop (start + done) file)) more in
+    part_cut file start done (done + n) (omega arith) ∙ ap (λ k. take done (drop start file) ++ take k (drop (start + done) file)) more in
     sent_on (part_at files path start done) (part_at files path (start + done) n) t u v first second ∙ ap (λ b. option_map (on_first (sends b)) t) (sym whole)
 
 -- a front of what is left was
@@ -39,7 +39,7 @@ piece_part files path start done left t u v first part =
     let file = content_at files path in
     let more : (done + left) - done ≡ left = omega arith in
     let whole : take (done + left) (drop start file) ≡ take done (drop start file) ++ take left (drop (start + done) file) =
-        part_cut file start done (done + left) (omega arith) ∙ ap (λ k. take done (drop start file) ++ take k (drop (start + done) file)) more in
+    part_cut file start done (done + left) (omega arith) ∙ ap (λ k. take done (drop start file) ++ take k (drop (start + done) file)) more in
     subst (λ b. SendsPartOfLatest b t v) (sym whole) (part_behind (part_at files path start done) (part_at files path (start + done) left) t u v first part)
 
 -- ---- where the tree tells

@@ -95,12 +95,12 @@ same_run files root number (h ∷ hs) (k ∷ ks) bytes before rest final before'
     let later = subst (λ t. Answered files root (number + 1) ks t b.1 rest') (sym same.1) b.5 in
     let tail = same_run files root (number + 1) hs ks a.0 a.1 rest final b.1 rest' final' m n p q (omega (arith, is)) (omega (arith, also)) a.5 later x y in
     let text : before ++ final ≡ before' ++ final' =
-        ap (λ t. t ++ final) a.4
-        ∙ append_assoc (response_to files root number h) a.1 final
-        ∙ ap (λ t. response_to files root number h ++ t) tail.0
-        ∙ ap (λ g. response_to files root number g ++ (b.1 ++ final')) same.0
-        ∙ sym (append_assoc (response_to files root number k) b.1 final')
-        ∙ ap (λ t. t ++ final') (sym b.4) in
+    ap (λ t. t ++ final) a.4
+    ∙ append_assoc (response_to files root number h) a.1 final
+    ∙ ap (λ t. response_to files root number h ++ t) tail.0
+    ∙ ap (λ g. response_to files root number g ++ (b.1 ++ final')) same.0
+    ∙ sym (append_assoc (response_to files root number k) b.1 final')
+    ∙ ap (λ t. t ++ final') (sym b.4) in
     let long = tail.1 in
     (text, omega (arith, long), tail.2)
 
@@ -130,9 +130,9 @@ front_run files root number [] [] bytes before rest front before' rest' final m 
     front_here files root m n rest front final false same (Response last all next is) y = absurd (y.0.none next.head next.behind next.whole)
     front_here files root m n rest front final true same (Response last all next is) y =
         ⊎_elim (λ bad. absurd (bad.0.none next.head next.behind next.whole)) (λ other.
-          (let head_is = (one_head rest next.head other.head next.behind other.behind next.whole other.whole).0 in
-              let e : final ≡ all = other.sent_is ∙ sym (ap (response_to files root n) head_is) ∙ ap (λ k. response_to files root k next.head) (sym same) ∙ sym next.sent_is in
-              record { more = is.more; is = e ∙ is.is })) y
+        (let head_is = (one_head rest next.head other.head next.behind other.behind next.whole other.whole).0 in
+        let e : final ≡ all = other.sent_is ∙ sym (ap (response_to files root n) head_is) ∙ ap (λ k. response_to files root k next.head) (sym same) ∙ sym next.sent_is in
+        record { more = is.more; is = e ∙ is.is })) y
 front_run files root number [] (k ∷ ks) bytes before rest front before' rest' final m n q is also a b begins y =
     let here = front_of files root number m rest front k b.0 (omega (arith, is)) (subst (λ t. Whole request_form t k b.0) a.0 b.2) begins (b.1 ++ final) in
     record {
@@ -157,12 +157,12 @@ front_run files root number (h ∷ hs) (k ∷ ks) bytes before rest front before
     record {
       more = tail.more;
       is =
-        ap (λ t. t ++ final) b.4
-        ∙ append_assoc (response_to files root number k) b.1 final
-        ∙ ap (λ t. response_to files root number k ++ t) tail.is
-        ∙ ap (λ g. response_to files root number g ++ ((a.1 ++ front) ++ tail.more)) (sym same.0)
-        ∙ sym (append_assoc own (a.1 ++ front) tail.more)
-        ∙ ap (λ t. t ++ tail.more) (sym (append_assoc own a.1 front) ∙ ap (λ t. t ++ front) (sym a.4));
+          ap (λ t. t ++ final) b.4
+          ∙ append_assoc (response_to files root number k) b.1 final
+          ∙ ap (λ t. response_to files root number k ++ t) tail.is
+          ∙ ap (λ g. response_to files root number g ++ ((a.1 ++ front) ++ tail.more)) (sym same.0)
+          ∙ sym (append_assoc own (a.1 ++ front) tail.more)
+          ∙ ap (λ t. t ++ tail.more) (sym (append_assoc own a.1 front) ∙ ap (λ t. t ++ front) (sym a.4));
     }
 
 pub cut_is_front : (files : TreeFiles) (root bytes front all : List ℕ) (n : ℕ) (p : Bool) → CutResponses files root bytes front → Responses files root bytes all n p → IsFrontOf front all

@@ -45,12 +45,17 @@ pub goes_at_first : (root : List ℕ) (told : Option TreeFiles) (talks : Option 
 goes_at_first root told None fresh = record { holds = λ files list t l. absurd (let e : None ≡ Some list = l in cc) }
 goes_at_first root told (Some []) fresh = absurd fresh
 goes_at_first root told (Some (talk ∷ others)) fresh = record {
-  holds = λ files list t l. (let s : list ≡ talk ∷ others = cc in (talk, others, s, record {
-    heads = [];
-    answered = subst (λ k. Answered files root 1 [] k.received k.sent []) (sym fresh) (none_answered files root 1 []);
-    done_is = refl;
-    unended = ap (λ k. k.ended) fresh;
-  }));
+  holds = λ files list t l. (let s : list ≡ talk ∷ others = cc in (
+    talk,
+    others,
+    s,
+    record {
+      heads = [];
+      answered = subst (λ k. Answered files root 1 [] k.received k.sent []) (sym fresh) (none_answered files root 1 []);
+      done_is = refl;
+      unended = ap (λ k. k.ended) fresh;
+    },
+  ));
 }
 
 -- ---- bytes were heard
@@ -119,48 +124,60 @@ served_at_end root done later told talks unfinished heard = record {
 -- where hearing failed, what was sent is what was answered
 pub cut_in_hearing : (root : List ℕ) (done : ℕ) (unread : List ℕ) (told : Option TreeFiles) (before after : Option (List Talk)) → ReceivesPartOfLatest before after → WhereTold told before (Goes root done unread) → WhereTold told after (IsCut root)
 cut_in_hearing root done unread told before after part goes =
-    told_then told before after (Goes root done unread) (IsCut root) (others_received before after part) (λ files talk t g. (adds part.bytes, part.received, record {
-      heads = g.heads;
-      before = talk.sent;
-      rest = unread ++ part.bytes;
-      front = [];
-      answered = answered_more files root 1 g.heads talk.received talk.sent unread part.bytes g.answered;
-      sent_is = sym (append-nil talk.sent);
-      begins = Nothing refl;
-    })) goes
+    told_then told before after (Goes root done unread) (IsCut root) (others_received before after part) (λ files talk t g. (
+      adds part.bytes,
+      part.received,
+      record {
+        heads = g.heads;
+        before = talk.sent;
+        rest = unread ++ part.bytes;
+        front = [];
+        answered = answered_more files root 1 g.heads talk.received talk.sent unread part.bytes g.answered;
+        sent_is = sym (append-nil talk.sent);
+        begins = Nothing refl;
+      },
+    )) goes
 
 -- ---- no request came
 
 pub served_by_refusal : (root : List ℕ) (done : ℕ) (later : List ℕ) (told : Option TreeFiles) (before after : Option (List Talk)) → IsBad later → after ≡ option_map (on_first (sends refusal)) before
     → WhereTold told before (Heard root done later true) → WhereTold told after (IsServed root (done + 1))
 served_by_refusal root done later told before after bad sent heard =
-    told_then told before after (Heard root done later true) (IsServed root (done + 1)) (others_same (sends refusal) before after sent) (λ files talk t h. (sends refusal, sent, record {
-      last = true;
-      responses = record {
-        heads = h.heads;
-        before = talk.sent;
-        rest = later;
-        final = refusal;
-        answered = h.answered;
-        sent_is = refl;
-        ends = inl (bad, refl);
-        count_is = (let d = h.done_is in omega (arith, d));
-      };
-      over = inl refl;
-    })) heard
+    told_then told before after (Heard root done later true) (IsServed root (done + 1)) (others_same (sends refusal) before after sent) (λ files talk t h. (
+      sends refusal,
+      sent,
+      record {
+        last = true;
+        responses = record {
+          heads = h.heads;
+          before = talk.sent;
+          rest = later;
+          final = refusal;
+          answered = h.answered;
+          sent_is = refl;
+          ends = inl (bad, refl);
+          count_is = (let d = h.done_is in omega (arith, d));
+        };
+        over = inl refl;
+      },
+    )) heard
 
 pub cut_in_refusal : (root : List ℕ) (done : ℕ) (later : List ℕ) (told : Option TreeFiles) (before after : Option (List Talk)) → IsBad later → SendsPartOfLatest refusal before after
     → WhereTold told before (Heard root done later true) → WhereTold told after (IsCut root)
 cut_in_refusal root done later told before after bad part heard =
-    told_then told before after (Heard root done later true) (IsCut root) (others_sent refusal before after part) (λ files talk t h. (sends part.front, part.sent, record {
-      heads = h.heads;
-      before = talk.sent;
-      rest = later;
-      front = part.front;
-      answered = h.answered;
-      sent_is = refl;
-      begins = Refusal bad (record { more = part.rest; is = part.is });
-    })) heard
+    told_then told before after (Heard root done later true) (IsCut root) (others_sent refusal before after part) (λ files talk t h. (
+      sends part.front,
+      part.sent,
+      record {
+        heads = h.heads;
+        before = talk.sent;
+        rest = later;
+        front = part.front;
+        answered = h.answered;
+        sent_is = refl;
+        begins = Refusal bad (record { more = part.rest; is = part.is });
+      },
+    )) heard
 
 -- ---- a request came
 
@@ -237,12 +254,16 @@ cut_in_response root done later len request told before after others read cut he
     told_then told before after (Heard root done later true) (IsCut root) others (λ files talk t h. by files talk h (of_files told (λ f. (k : RequestHead) → request ≡ request_of k → SendsPartOfLatest (response_to f root (done + 1) k) before after) files t cut read.head read.asks)) heard
   where
     by : (files : TreeFiles) (talk : Talk) → Heard root done later true files talk → SendsPartOfLatest (response_to files root (done + 1) read.head) before after → (f : Talk → Talk) × (after ≡ option_map (on_first f) before) × IsCut root files (f talk)
-    by files talk h part = (sends part.front, part.sent, record {
-      heads = h.heads;
-      before = talk.sent;
-      rest = later;
-      front = part.front;
-      answered = h.answered;
-      sent_is = refl;
-      begins = Response (closes files root (done + 1) read.head) (of_number files root done read.head) (next_is root done later len request files talk (closes files root (done + 1) read.head) read h refl) (record { more = part.rest; is = part.is });
-    })
+    by files talk h part = (
+      sends part.front,
+      part.sent,
+      record {
+        heads = h.heads;
+        before = talk.sent;
+        rest = later;
+        front = part.front;
+        answered = h.answered;
+        sent_is = refl;
+        begins = Response (closes files root (done + 1) read.head) (of_number files root done read.head) (next_is root done later len request files talk (closes files root (done + 1) read.head) read h refl) (record { more = part.rest; is = part.is });
+      },
+    )

@@ -56,9 +56,8 @@ fn go_on(error: ServeError) -> Result<(), Stop>
     ensures { result ≡ stop_of error }
 {
     match error {
-        ServeError::PortFault
-        | ServeError::TreeFault
-        | ServeError::Shrunk { size: _, got: _ } => Ok(()),
+        ServeError::PortFault | ServeError::TreeFault | ServeError::Shrunk { size: _, got: _ } =>
+            Ok(()),
         ServeError::NoMemory => Err(Stop::NoMemory),
     }
 }

@@ -19,7 +19,7 @@ returns-then-not-branch-clause-heard g c =
     let ended : c.in_ok-hear-in-More.field-0 ≡ false = c.if-not-branch.true in
     let unfinished : IsUnfinished c.loop.unread = subst IsUnfinished c.as_slice.ensures (rw c.in-More.is at c.in_ok-read_request.ensures) in
     let later : Hears false c.loop.unread c.hear.new.unread (g.P.Port.talks c.loop.port) (g.P.Port.talks c.hear.new.port) =
-        subst (λ b. Hears b c.loop.unread c.hear.new.unread (g.P.Port.talks c.loop.port) (g.P.Port.talks c.hear.new.port)) ended c.in_ok-hear-in-More.ensures.heard in
+    subst (λ b. Hears b c.loop.unread c.hear.new.unread (g.P.Port.talks c.loop.port) (g.P.Port.talks c.hear.new.port)) ended c.in_ok-hear-in-More.ensures.heard in
     next_on End c.args.unread.now c.hear.new.unread (g.P.Port.talks c.args.port.now) (g.P.Port.talks c.hear.new.port)
     (hears_on false c.args.unread.now c.loop.unread c.hear.new.unread (g.P.Port.talks c.args.port.now) (g.P.Port.talks c.loop.port) (g.P.Port.talks c.hear.new.port) c.loop.invariant.heard later)
     (subst IsUnfinished (sym (c.in_ok-hear-in-More.ensures.same ended)) unfinished)
