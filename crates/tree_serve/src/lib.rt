@@ -6,8 +6,11 @@
 //! byte of the file in memory (`plan`). `serve_one` serves one connection: where port and tree tell, what was sent is
 //! what is to be sent for all that was received, of so many responses, and the peer has ended or the last one closes
 //! (`served`); an error leaves a part of that from its beginning on (`cut`, and `cuts_are_fronts`, a law), and comes only for
-//! its cause (`frame`). `serve` serves so many connections one after another (`served`): faults of a connection are passed
-//! over, and only as many connections were cut short as counts of faults rose.
+//! its cause (`frame`). `serve` serves so many connections one after another (`served`): an error of a connection, of the
+//! tree or of a file ends that connection alone, and no more connections were cut short than counts of faults rose; it stops
+//! before only where the port couldn't listen or accept, whose count `lost` rose then, or for want of memory (`frame`). By the
+//! form of the code, and no clause: a connection is closed behind its last response and behind each error, and at most 64 KiB
+//! of a file are in memory. Only tested: that the definitions say what the RFCs and this profile do.
 #![tactic(auto)]
 
 pub use answer::Answer;

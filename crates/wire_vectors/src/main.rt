@@ -18,6 +18,7 @@ mod links;
 mod messages;
 mod methods;
 mod page;
+mod served;
 mod streams;
 mod trees;
 
@@ -76,6 +77,7 @@ fn answered(alloc: Global, page: &mut Page, steps: &[Step]) -> Result<(), Refuse
         "reader" => messages::answer_steps(alloc, page, steps),
         "link" => links::answer(alloc, page, steps),
         "files" => trees::answer(alloc, page, steps),
+        "server" => served::answer(alloc, page, arguments, steps),
         _ => methods::answer(alloc, page, name, arguments, steps),
     }
 }
