@@ -1,11 +1,11 @@
 -- What is heard, one receive after another.
-use Rattle.std.proofs.Common.{◌≡◌, ◌≢◌, ℕ, ◌<◌, ◌≤◌, Bool, true, false, arith, ap, sym, subst, ◌∙◌, refl, List, [], ◌++◌, length, take, length-take, append_assoc, append-nil, Option}
+use Rattle.std.proofs.Common.{◌≡◌, ◌≢◌, ℕ, ◌<◌, ◌≤◌, Bool, true, false, arith, ap, sym, ◌∙◌, List, [], ◌++◌, length, take, length-take, append_assoc, append-nil, Option}
 use Rattle.std.specs.Prelude.{option_map}
 use Rattle.acq_net.specs.Talk.{Talk, adds, receives}
 use Rattle.acq_net.specs.Talks.{ReceivesPartOfLatest, on_first}
 use Rattle.tree_serve.specs.Hearing.{Hears, HearsNext, IsNextOf, goes_on_behind, heard}
 use Rattle.tree_serve.specs.declared.hearing.Next.{Next}
-use Rattle.tree_serve.proofs.Saying.{added_on, adds_twice, nothing_added, received_on, received_some, same_said, two_said}
+use Rattle.tree_serve.proofs.Saying.{adds_twice, nothing_added, received_on, received_some, same_said, two_said}
 
 pub hears_nothing : (unread : List ℕ) (before after : Option (List Talk)) → after ≡ before → Hears true unread unread before after
 hears_nothing unread before after is = record { bytes = []; grows = sym (append-nil unread); talks = nothing_added before after is }

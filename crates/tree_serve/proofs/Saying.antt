@@ -1,5 +1,5 @@
 -- What is said on the latest connection, one thing after another.
-use Rattle.std.proofs.Common.{◌≡◌, ℕ, ◌<◌, Bool, true, false, arith, ap, sym, ◌∙◌, refl, List, [], ◌∷◌, ◌++◌, length, drop, append_assoc, append-nil, Option, Some, None, Result, Ok, Err}
+use Rattle.std.proofs.Common.{◌≡◌, ℕ, ◌<◌, Bool, true, false, arith, ap, sym, ◌∙◌, refl, List, [], ◌∷◌, ◌++◌, length, append_assoc, append-nil, Option, Some, None, Result, Ok, Err}
 use Rattle.std.specs.Prelude.{◌||◌, is_err, option_map, OnErr, OnOk}
 use Rattle.acq_net.specs.Talk.{Talk, adds, receives, sends}
 use Rattle.acq_net.specs.Talks.{ReceivesPartOfLatest, SendsPartOfLatest, on_first}

@@ -1,5 +1,5 @@
 -- Pieces of a file that are sent one after another.
-use Rattle.std.proofs.Common.{◌≡◌, ℕ, ◌+◌, ◌-◌, ◌<◌, ◌≤◌, arith, ap, sym, subst, ◌∙◌, refl, List, [], ◌∷◌, ◌++◌, length, length-drop, take, drop, Option, Some, None, IfSome, Result, Ok, Err}
+use Rattle.std.proofs.Common.{◌≡◌, ℕ, ◌+◌, ◌-◌, ◌<◌, ◌≤◌, arith, ap, sym, subst, ◌∙◌, refl, List, ◌++◌, length, length-drop, take, drop, Option, Some, None, IfSome, Result, Ok, Err}
 use Rattle.std.specs.Prelude.{option_map, OnErr, OnOk}
 use Rattle.std.proofs.lemmas.List.{drop-drop, drop-take, take-append-drop, take-take}
 use Rattle.acq_outside.specs.Tree.{TreeFiles}

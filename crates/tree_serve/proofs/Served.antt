@@ -1,5 +1,5 @@
 -- One connection after another.
-use Rattle.std.proofs.Common.{◌≡◌, ℕ, suc, ◌+◌, ◌≤◌, ◌⊎◌, inl, inr, arith, ap, sym, subst, ◌∙◌, refl, List, [], ◌∷◌, ◌++◌, length, drop, Option, Some, None, IfSome, Result, Ok, Err}
+use Rattle.std.proofs.Common.{◌≡◌, ℕ, ◌+◌, ◌≤◌, ◌⊎◌, inl, inr, arith, ap, sym, subst, ◌∙◌, refl, List, [], ◌∷◌, ◌++◌, drop, Option, Some, None, IfSome, Result, Err}
 use Rattle.std.specs.Prelude.{option_map, OnOk}
 use Rattle.acq_outside.specs.Count.{Rose}
 use Rattle.acq_outside.specs.Tree.{TreeFiles}
@@ -7,7 +7,7 @@ use Rattle.acq_outside.specs.declared.tree.Tree.{Ghosts as TreeGhosts}
 use Rattle.acq_net.specs.declared.port.Port.{Ghosts as PortGhosts}
 use Rattle.acq_net.specs.Talk.{Talk, silent}
 use Rattle.acq_net.specs.Talks.{accepts}
-use Rattle.tree_serve.specs.Connections.{AllServed, HasServedNext, IsServedOrCut, IsServedSome, ServesAll, ServesNext}
+use Rattle.tree_serve.specs.Connections.{HasServedNext, IsServedOrCut, ServesAll, ServesNext}
 use Rattle.tree_serve.specs.Frame.{Serves, stop_of}
 use Rattle.tree_serve.specs.declared.error.ServeError.{ServeError}
 use Rattle.tree_serve.specs.declared.error.ServeError.TheVariants.{PortFault, TreeFault, Shrunk, NoMemory}

@@ -1,13 +1,13 @@
 -- There is one answer to a stream, and what is cut of it is its front.
-use Rattle.std.proofs.Common.{◌≡◌, ℕ, ◌+◌, ◌⊎◌, inl, inr, ⊎_elim, Bool, true, false, arith, ap, sym, subst, ◌∙◌, refl, List, [], ◌∷◌, ◌++◌, length, append_assoc, append-nil}
+use Rattle.std.proofs.Common.{◌≡◌, ℕ, ◌+◌, ⊎_elim, Bool, true, false, arith, ap, sym, subst, ◌∙◌, refl, List, [], ◌∷◌, ◌++◌, length, append_assoc, append-nil}
 use Rattle.httparse.specs.Grammar.{RequestHead}
 use Rattle.http_wire.specs.Forms.{Whole}
 use Rattle.acq_outside.specs.Tree.{TreeFiles}
-use Rattle.http_requests.specs.Heads.{request_form, IsBad, IsUnfinished}
+use Rattle.http_requests.specs.Heads.{request_form}
 use Rattle.http_requests.proofs.Parsed.{head_stays, not_both, one_head}
 use Rattle.tree_serve.specs.Answers.{closes}
 use Rattle.tree_serve.specs.Streams.{Answered, Begins, Nothing, Refusal, Response, CutResponses, Ends, IsFrontOf, IsNext, Responses, one_if}
-use Rattle.tree_serve.specs.Texts.{refusal, response_to}
+use Rattle.tree_serve.specs.Texts.{response_to}
 
 -- ---- requests that were answered
 

@@ -1,18 +1,17 @@
 -- What comes of one request after another, where tree and port tell.
-use Rattle.std.proofs.Common.{◌≡◌, ℕ, ◌+◌, ◌⊎◌, inl, inr, Bool, true, false, not, arith, ap, sym, subst, ◌∙◌, refl, List, [], ◌∷◌, ◌++◌, length, drop, append-nil, length-append, Option, Some, None, IfSome}
+use Rattle.std.proofs.Common.{◌≡◌, ℕ, ◌+◌, inl, inr, Bool, true, false, not, arith, ap, sym, subst, ◌∙◌, refl, List, [], ◌∷◌, ◌++◌, length, drop, append-nil, length-append, Option, Some, None, IfSome}
 use Rattle.std.specs.Prelude.{◌||◌, option_map}
 use Rattle.httparse.specs.Grammar.{RequestHead}
-use Rattle.http_wire.specs.Forms.{Whole}
 use Rattle.acq_outside.specs.Tree.{TreeFiles}
-use Rattle.acq_net.specs.Talk.{Talk, adds, receives, sends, silent}
+use Rattle.acq_net.specs.Talk.{Talk, adds, receives, sends}
 use Rattle.acq_net.specs.Talks.{ReceivesPartOfLatest, SendsPartOfLatest, on_first}
 use Rattle.http_requests.specs.Asked.{request_of}
 use Rattle.http_requests.specs.declared.request.Request.{Request}
-use Rattle.http_requests.specs.Heads.{request_form, IsBad, IsUnfinished}
+use Rattle.http_requests.specs.Heads.{IsBad, IsUnfinished}
 use Rattle.http_requests.specs.Reading.{IsRequestRead}
 use Rattle.tree_serve.specs.Answers.{closes}
-use Rattle.tree_serve.specs.Streams.{Answered, Begins, Nothing, Refusal, Response, CutResponses, Ends, IsNext, Responses}
-use Rattle.tree_serve.specs.Hearing.{HearsNext, IsNextOf, goes_on_behind}
+use Rattle.tree_serve.specs.Streams.{Answered, Nothing, Refusal, Response, IsNext}
+use Rattle.tree_serve.specs.Hearing.{HearsNext, goes_on_behind}
 use Rattle.tree_serve.specs.declared.hearing.Next.{Next}
 use Rattle.tree_serve.specs.declared.hearing.Next.TheVariants as nexts
 use Rattle.tree_serve.specs.Talks.{Goes, IsCut, IsFresh, IsServed, WhereTold, others_of}

@@ -1,5 +1,5 @@
 -- What is heard on the latest connection behind the bytes that are unread.
-use Rattle.std.specs.Prelude.{◌≡◌, ℕ, ◌<◌, Bool, true, false, List, [], ◌++◌, length, Option, option_map}
+use Rattle.std.specs.Prelude.{◌≡◌, ℕ, Bool, true, false, List, [], ◌++◌, Option, option_map}
 use Rattle.acq_net.specs.Talk.{Talk, adds, receives}
 use Rattle.acq_net.specs.Talks.{on_first}
 use Rattle.http_requests.specs.Heads.{IsBad, IsUnfinished}

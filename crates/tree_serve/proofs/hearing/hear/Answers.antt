@@ -1,4 +1,4 @@
-use Rattle.std.proofs.Common.{◌≤◌, length, arith, length-append, length-take}
+use Rattle.std.proofs.Common.{◌≤◌, length, arith}
 use Rattle.acq_net.specs.Talks.{ReceivesPartOfLatest}
 use Rattle.tree_serve.proofs.Heard.{hears_part}
 use Rattle.tree_serve.proofs.Saying.{on_err}

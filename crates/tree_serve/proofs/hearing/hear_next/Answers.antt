@@ -1,4 +1,4 @@
-use Rattle.std.proofs.Common.{◌≡◌, ◌+◌, ◌<◌, ◌≤◌, true, false, arith, sym, subst, length}
+use Rattle.std.proofs.Common.{◌≡◌, true, false, arith, sym, subst}
 use Rattle.acq_net.specs.Talks.{ReceivesPartOfLatest}
 use Rattle.http_requests.specs.Heads.{IsUnfinished}
 use Rattle.http_requests.proofs.Parsed.{unfinished_short}

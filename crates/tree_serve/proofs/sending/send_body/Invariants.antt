@@ -1,4 +1,4 @@
-use Rattle.std.proofs.Common.{◌≡◌, ◌-◌, ◌<◌, ◌≤◌, IfSome, length, vec_len}
+use Rattle.std.proofs.Common.{◌≡◌, ◌-◌, ◌<◌, ◌≤◌, IfSome, vec_len}
 use Rattle.std.specs.Prelude.{option_map}
 use Rattle.acq_net.specs.Talk.{sends}
 use Rattle.acq_net.specs.Talks.{on_first}

@@ -1,4 +1,4 @@
-use Rattle.std.proofs.Common.{◌+◌, arith, subst}
+use Rattle.std.proofs.Common.{◌+◌, subst}
 use Rattle.acq_net.specs.Talks.{SendsPartOfLatest}
 use Rattle.tree_serve.proofs.Frames.{serves_by_shrunk}
 use Rattle.tree_serve.proofs.Sent.{read_part_in, untold}

@@ -1,4 +1,4 @@
-use Rattle.std.proofs.Common.{◌≡◌, ◌+◌, true, false, ap, sym, subst, ◌∙◌, IfSome, drop}
+use Rattle.std.proofs.Common.{◌≡◌, ◌+◌, sym, subst, IfSome}
 use Rattle.std.specs.Prelude.{not}
 use Rattle.httparse.specs.Grammar.{RequestHead}
 use Rattle.http_requests.specs.Asked.{request_of}
