@@ -18,6 +18,7 @@ mod links;
 mod messages;
 mod methods;
 mod page;
+mod served;
 mod serving;
 mod streams;
 mod trees;
@@ -80,6 +81,7 @@ fn answered(alloc: Global, page: &mut Page, steps: &[Step]) -> Result<(), Refuse
         "serve-file" | "serve-http" | "serve-link" => {
             serving::answer(alloc, page, name, arguments, steps)
         }
+        "server" => served::answer(alloc, page, arguments, steps),
         _ => methods::answer(alloc, page, name, arguments, steps),
     }
 }

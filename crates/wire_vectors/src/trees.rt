@@ -31,7 +31,7 @@ fn go_all(page: &mut Page, tree: &mut MemTree, steps: &[Step]) -> Result<(), Ref
 }
 
 /// The files that steps name.
-fn files_of(alloc: Global, steps: &[Step]) -> Result<Row<(Text, Bytes)>, Refused> {
+pub fn files_of(alloc: Global, steps: &[Step]) -> Result<Row<(Text, Bytes)>, Refused> {
     let mut files = Row::new(alloc);
     for step in steps {
         match (step.name.as_str(), step.arguments.as_slice()) {
