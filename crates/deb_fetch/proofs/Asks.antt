@@ -93,10 +93,8 @@ module _ (retries : ℕ) (w : Wanted) (name : List ℕ) (first before after : �
       subst (λ (p : Point). StandsAt retries w name first after now lives p) (sym (ap (λ (f : Ending → Walk). start retries (f (endings.Served (Staged sum)))) behind))
       (by (same_sum sum w.sum) refl)
     where
-      abbrev last : End
-      last = Ended (list_cause w (endings.Served (Staged sum)))
-
-      by : (b : Bool) → same_sum sum w.sum ≡ b → StandsAt retries w name first after now lives (start retries (on_some (if b then Some (Staged sum) else None) (λ body. Finish (Got body)) (Finish last)))
+      by : (b : Bool) → same_sum sum w.sum ≡ b
+          → StandsAt retries w name first after now lives (start retries (on_some (if b then Some (Staged sum) else None) (λ body. Finish (Got body)) (Finish (Ended (list_cause w (endings.Served (Staged sum)))))))
       by true same = (inl (record { lived = lived; other = λ none. none }), λ told. subst (λ (s : Sum). LastsAs name now s) (same_sum-true sum w.sum same) (lasts told))
       by false differs = (inl (record { lived = lived; other = λ none. none }), tt)
 
@@ -293,15 +291,26 @@ came_to retries deb world first last now p end is under =
     let route : IsHeardRoute retries (plain_walk (wanted deb)) under.told end = points_end_in_routes retries (plain_walk (wanted deb)) under.told end whole in
     record {
       ready = had deb.file.0 (wanted deb) now end at.1;
-      answer = λ told. by whole at.0 world (under.agrees told);
+      answer = λ told. by under.told whole at.0 world (under.agrees told);
       failed = λ method. ⊎_elim (λ lived. absurd (lived.other method)) (λ died. dead_cause retries deb first last end died) at.0;
       route = inr (route.trails, end, route.route, refl);
     }
   where
-    by : {told : List LaneAnswer} → run retries (start retries (plain_walk (wanted deb))) told ≡ Over end
+    by : (told : List LaneAnswer) → run retries (start retries (plain_walk (wanted deb))) told ≡ Over end
         → HasLived (LivesAlong retries (start retries (plain_walk (wanted deb))) told) end ⊎ HasDied retries (wanted deb) first last end
         → (world : Option MirrorMap) → IfSome world (λ entries. AgreesAlong entries [] retries (start retries (plain_walk (wanted deb))) told)
         → IfSome world (λ entries. (cause_of end ≡ cause_over entries None deb) ⊎ IsMethod (cause_of end))
-    by whole ends None along = tt
-    by {told} whole (inl lived) (Some entries) along = inl (obtained retries deb told end entries whole along lived.lived)
-    by whole (inr died) (Some entries) along = inr (failed_method retries first last deb (cause_of end) (dead_cause retries deb first last end died))
+    by told whole ends None along = tt
+    by told whole (inl lived) (Some entries) along = inl (obtained retries deb told end entries whole along lived.lived)
+    by told whole (inr died) (Some entries) along = inr (failed_method retries first last deb (cause_of end) (dead_cause retries deb first last end died))
+
+-- the same answer, of retries and a mirror that are the same
+pub asked_as : (retries other : ℕ) (world seen : Option MirrorMap) (name : List ℕ) (before after : ℕ) (now : List State) (p q : Point) → other ≡ retries → seen ≡ world → HasAsked other seen name before after now p q
+    → HasAsked retries world name before after now p q
+asked_as retries other world seen name before after now p q same mirror one =
+    subst (λ (m : Option MirrorMap). HasAsked retries m name before after now p q) mirror (subst (λ (n : ℕ). HasAsked n seen name before after now p q) same one)
+
+-- where nothing is asked, the asks are over
+pub over_where : (p : Point) → asked p ≡ None → (end : End) × (p ≡ Over end)
+over_where (Over end) none = (end, refl)
+over_where (At ask left faults next) none = absurd cc

@@ -60,7 +60,7 @@ take-more : (at n : ℕ) (text : List ℕ) → take (at + n) text ≡ take at te
 take-more at n text = sym (take-append-drop at (take (at + n) text)) ∙ (λ i. take-take at (at + n) text (omega arith) i ++ drop-take at n text i)
 
 front-more : (at n : ℕ) (text : List ℕ) → take (at + (n + 1)) text ≡ take at text ++ take (suc n) (drop at text)
-front-more at n text = take-more at (n + 1) text ∙ ap (λ (k : ℕ). take at text ++ take k (drop at text)) (omega arith)
+front-more at n text = let same : n + 1 ≡ suc n = omega arith in take-more at (n + 1) text ∙ ap (λ (k : ℕ). take at text ++ take k (drop at text)) same
 
 -- one line further on
 pub whole-more : (text : List ℕ) (at n : ℕ) → n ≡ position_or_len is_feed (drop at text) → n < length (drop at text) → IsWhole (take at text) → IsWhole (take (at + (n + 1)) text)
@@ -89,3 +89,16 @@ cut_at_end text at end =
       lines = sym (append-nil (text_lines text)) ∙ (λ i. text_lines (sym front i) ++ text_lines (sym rest i));
       ended = inl rest;
     }
+
+-- the same of what was cut before
+pub whole_on : (text rest : List ℕ) (at n : ℕ) → rest ≡ drop at text → n ≡ position_or_len is_feed rest → n ≤ length rest → (n ≡ length rest → ⊥) → IsWhole (take at text) → IsWhole (take (at + (n + 1)) text)
+whole_on text rest at n is place within other whole =
+    let length_is : length rest ≡ length (drop at text) = ap length is in
+    whole-more text at n (place ∙ ap (position_or_len is_feed) is) (omega (arith, within, other, length_is)) whole
+
+pub cut_on : (text rest front back : List ℕ) (at n : ℕ) → rest ≡ drop at text → n ≡ position_or_len is_feed rest → n ≤ length rest → (n ≡ length rest → ⊥) → IsWhole (take at text) → list_all is_blank (strip_carriage_return (take n rest)) ≡ true
+    → front ≡ take (at + (n + 1)) text → back ≡ drop (at + (n + 1)) text → IsCut text front back
+cut_on text rest front back at n is place within other whole blank front_is back_is =
+    let length_is : length rest ≡ length (drop at text) = ap length is in
+    let cut = cut_behind text at n (place ∙ ap (position_or_len is_feed) is) (omega (arith, within, other, length_is)) whole (ap (λ (l : List ℕ). list_all is_blank (strip_carriage_return (take n l))) (sym is) ∙ blank) in
+    subst (λ (f : List ℕ). IsCut text f back) (sym front_is) (subst (λ (b : List ℕ). IsCut text (take (at + (n + 1)) text) b) (sym back_is) cut)

@@ -2,13 +2,14 @@
 use Rattle.std.proofs.Common.{◌≡◌, ◌≢◌, ◌⊎◌, inl, inr, ⊎_elim, ℕ, zero, suc, ◌<◌, ◌||◌, not, Bool, true, false, List, [], ◌∷◌, ◌++◌, length, get_or, Option, Some, None, option_to_list, refl, sym, ap, ◌∙◌, All, Contains, arith}
 use Rattle.std.proofs.lemmas.Bool.{or_cases, or_parts, not-true, not-false, false≢true}
 use Rattle.std.proofs.lemmas.List.{append-nil}
-use Rattle.std.proofs.lemmas.List.Elements.{All-cons, All-nil}
+use Rattle.std.proofs.lemmas.List.Elements.{All-cons, All-nil, All-weaker}
 use Rattle.std.specs.List.{list_any}
 use Rattle.acq_base.proofs.SameSums.{same_sum-true, same_sum-refl}
 use Rattle.acq_base.specs.declared.sum.Sum.{Sum}
 use Rattle.release_file.specs.Release.{same_sum}
 use Rattle.deb_fetch.specs.Founds.{found_of, has_other_sum, joined, nothing, one_found}
-use Rattle.deb_fetch.specs.Stanzas.{Differ}
+use Rattle.deb_fetch.specs.Stanzas.{Differ, IsFileOf, IsNamedBy}
+use Rattle.deb_fetch.specs.declared.deb.Deb.{Deb}
 use Rattle.deb_fetch.specs.declared.found.Found.{Found}
 use Rattle.deb_fetch.specs.declared.stanza.Stanza.{Stanza}
 
@@ -118,3 +119,18 @@ several_named [] first is = absurd (let firsts = ap (λ (f : Found). f.first) is
 several_named (s ∷ more) first is =
     let there = one_other s.sum more (sym (ap (λ (f : Found). f.several) is)) in
     (there.stanza, s, (suc there.there.0, omega (arith, there.there.1), there.there.2), (0, omega arith, refl), there.other)
+
+-- the file of the first is the one that all name
+pub named_by : (stanzas : List Stanza) (found : Found) (first : Stanza) (deb : Deb) → found.first ≡ Some first → found.several ≡ false → found ≡ found_of stanzas → IsFileOf first deb → IsNamedBy stanzas deb
+named_by stanzas found first deb is single are file =
+    let named = same_named stanzas first ((λ i. record { first = sym is i; several = sym single i }) ∙ are) in
+    record {
+      first = first;
+      more = named.more;
+      are = named.are;
+      file = file;
+      sums = All-weaker (λ (s : Stanza). s.sum ≡ first.sum) (λ (s : Stanza). s.sum ≡ deb.sum) (λ s same. same ∙ sym file.sum) stanzas named.sums;
+    }
+
+pub differ_by : (stanzas : List Stanza) (found : Found) (first : Stanza) → found.first ≡ Some first → found.several ≡ true → found ≡ found_of stanzas → Differ stanzas
+differ_by stanzas found first is several are = several_named stanzas first ((λ i. record { first = sym is i; several = sym several i }) ∙ are)

@@ -1,16 +1,16 @@
 -- Calls on a folder into which a package file is fetched, over all that the folder has been.
-use Rattle.std.proofs.Common.{◌≡◌, ◌≢◌, inl, inr, refl, sym, ap, ◌∙◌, subst, ℕ, Bool, true, List, [], ◌∷◌, Option, Some, None, IsSomeAnd, option_map, Result, Ok, Err, OnOk, IsTrue}
+use Rattle.std.proofs.Common.{◌≡◌, ◌≢◌, inl, inr, refl, sym, ap, ◌∙◌, subst, ℕ, Bool, true, List, [], ◌∷◌, Option, Some, None, IsSomeAnd, option_map, Result, Ok, Err, OnOk, IfOk, IsTrue, ◌↔◌}
 use Rattle.acq_base.specs.Sum.{Fits}
 use Rattle.acq_base.specs.declared.sum.Sum.{Sum}
 use Rattle.acq_outside.specs.Disk.{Files}
 use Rattle.acq_outside.specs.Crash.{State, AllSound, Goes, IsShown, IsSound, IsTorn, Names, after, all_renamed, changed_file, file_at, names_of, reads}
 use Rattle.acq_outside.specs.States.{From, IsNow, IsTold, Since}
-use Rattle.acq_outside.proofs.Going.{goes, handed_on, onward, since_map}
+use Rattle.acq_outside.proofs.Going.{goes, no_time, onward, since_map}
 use Rattle.acq_outside.specs.declared.change.DiskCall.{DiskCall}
 use Rattle.acq_outside.specs.declared.change.DiskCall.TheVariants.{Rename, Sync, SyncNames}
 use Rattle.acq_outside.specs.declared.state.FileState.{FileState}
 use Rattle.journal_model.specs.Names.{partial}
-use Rattle.journal_model.specs.Rest.{file_named, file_now}
+use Rattle.journal_model.specs.Rest.{KeptAtRestSince, file_named, file_now}
 use Rattle.journal_model.proofs.Twice.{partial_other}
 use Rattle.job_fetch.specs.Fetched.{LastsAs, Staging}
 use Rattle.job_fetch.specs.Others.{AllChangeNameAlone, LeavesOthers, OthersLeftSince}
@@ -132,8 +132,29 @@ settled_still name mid new still steady = subst (λ (l : List State). IsNow IsSe
 pub fits_whole : (name : List ℕ) (sum : Sum) (tells : Bool) (files : Files) (now : List State) → IsShown tells files now → IsNow (IsSteady name) now → (IsTrue tells → IsSomeAnd (files name) (λ bytes. Fits bytes sum)) → IsNow (LeavesWhole name sum) now
 fits_whole name sum tells files [] shown steady fits = tt
 fits_whole name sum tells files (s ∷ past) shown steady fits =
-    steady_whole name sum s steady (subst (λ (f : Files). IsSomeAnd (f name) (λ bytes. Fits bytes sum)) shown.1 (fits (subst IsTrue (sym shown.0) tt)))
+    steady_whole name sum s steady (subst (λ (f : Files). IsSomeAnd (f name) (λ bytes. Fits bytes sum)) shown.1 (fits shown.0))
 
 pub ready_now : (name : List ℕ) (sum : Sum) (now : List State) → (IsTold now → LastsAs name now sum) → IsNow (IsReady name sum) now
 ready_now name sum [] lasts = tt
 ready_now name sum (s ∷ past) lasts = let file = lasts tt in record { bytes = file.bytes; file = file.file; sums = file.sums }
+
+-- nothing was done yet
+pub nothing_staged : (name : List ℕ) (now : List State) → Staging name now now
+nothing_staged name now = record {
+  moments = no_time now now (KeptAtRestSince now) refl;
+  others = λ other apart. refl;
+  only = no_time now now (OthersLeftSince (partial name) now) refl;
+}
+
+pub nothing_lands : (name : List ℕ) (sum : Sum) (old new : List State) → new ≡ old → Lands name sum old new
+nothing_lands name sum old new same = record {
+  moments = no_time old new (LandsWholeSince name sum old) same;
+  others = λ other differ aside. ap (λ (l : List State). file_now l other) same;
+}
+
+-- a file that is found to fit is whole in all that a crash leaves
+pub checked_whole : {E : Type 0} (name : List ℕ) (sum : Sum) (tells : Bool) (files : Files) (mid new : List State) (result : Result Bool E) → IsShown tells files mid → new ≡ mid → IsNow (IsSteady name) mid
+    → (IsTrue tells → IfOk result (λ fits. IsTrue fits ↔ IsSomeAnd (files name) (λ bytes. Fits bytes sum))) → IfOk result (λ fits. fits ≡ true → IsNow (LeavesWhole name sum) new)
+checked_whole name sum tells files mid new (Err e) shown still steady told = tt
+checked_whole name sum tells files mid new (Ok fits) shown still steady told = λ yes.
+    subst (λ (l : List State). IsNow (LeavesWhole name sum) l) (sym still) (fits_whole name sum tells files mid shown steady (λ tell. (told tell).0 yes))

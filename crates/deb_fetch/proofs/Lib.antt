@@ -4,8 +4,11 @@ mod Cuts
 mod Stanzaic
 mod Joins
 mod Fronts
+mod Steps
 mod Names
 -- the states of a folder into which a file is fetched, and the asks for it.
 mod States
 mod Landings
 mod Asks
+mod Jobs
+mod Ends

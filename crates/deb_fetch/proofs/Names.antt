@@ -1,15 +1,16 @@
 -- The name of a package file is that of a file that can be put into a folder.
-use Rattle.std.proofs.Common.{◌≡◌, ◌≢◌, ℕ, ◌-◌, ◌<◌, ◌≤◌, ◌||◌, ◌&&◌, ◌==◌, not, nat_le, Bool, true, false, List, [], ◌∷◌, length, drop, codes, bytes_eq, refl, sym, ap, ◌∙◌, subst, arith, zero, suc}
+use Rattle.std.proofs.Common.{◌≡◌, ◌≢◌, ℕ, ◌-◌, ◌<◌, ◌≤◌, ◌||◌, ◌&&◌, ◌==◌, not, nat_le, Bool, true, false, List, [], ◌∷◌, length, drop, codes, bytes_eq, refl, sym, ap, ◌∙◌, subst, arith, zero, suc, All, IsTrue}
 use Rattle.std.proofs.lemmas.Bool.{and_parts, or_parts, not-true, eqb-true, leb-true, false≢true}
 use Rattle.std.proofs.lemmas.Str.{IsUtf8-from_ascii}
 use Rattle.std.proofs.lemmas.Str.Ascii.{IsAscii-nil, IsAscii-cons}
+use Rattle.std.proofs.lemmas.List.Elements.{All-cons, All-nil}
 use Rattle.std.specs.List.{list_all, list_any}
 use Rattle.std.specs.Str.{IsAscii}
 use Rattle.acq_base.proofs.Texts.{bytes_eq-refl}
 use Rattle.acq_base.proofs.Uris.{alphanumeric_small}
 use Rattle.acq_base.specs.Uri.{is_alphanumeric}
 use Rattle.journal_model.specs.Names.{IsPutName, journal, lock}
-use Rattle.uri_names.specs.Folder.{is_below_character}
+use Rattle.uri_names.specs.Folder.{AreBelowCharacters, is_below_character}
 use Rattle.deb_fetch.specs.Filenames.{IsDebName, file_name_of, is_deb_path, leads_up, may_name_file}
 
 mark_small : (c : ℕ) (marks : List ℕ) → list_all (λ d. nat_le d 127) marks ≡ true → list_any (λ d. c == d) marks ≡ true → c < 128
@@ -90,3 +91,12 @@ put_name path is =
 
 pub deb_names_are_put_names : (name : List ℕ) → IsDebName name → IsPutName name
 deb_names_are_put_names name is = subst (λ (n : List ℕ). IsPutName n) (sym is.last) (put_name is.path is.allowed)
+
+all_below : (text : List ℕ) → list_all is_below_character text ≡ true → All (λ (c : ℕ). IsTrue (is_below_character c)) text
+all_below [] all = All-nil (λ (c : ℕ). IsTrue (is_below_character c))
+all_below (c ∷ text) all =
+    let parts = and_parts (is_below_character c) (list_all is_below_character text) all in
+    All-cons (λ (c : ℕ). IsTrue (is_below_character c)) c text parts.0 (all_below text parts.1)
+
+pub below_path : (bytes path : List ℕ) → bytes ≡ path → is_deb_path path ≡ true → AreBelowCharacters bytes
+below_path bytes path same is = subst (λ (l : List ℕ). AreBelowCharacters l) (sym same) (all_below path (allowed path is).characters)

@@ -26,14 +26,14 @@ numbered at (Continuation old text) = Continuation at text
 numbered at (Named old name text) = Named at name text
 numbered at (Unknown old) = Unknown at
 
+abbrev of_kind : ℕ → List ℕ → List ℕ → List ℕ → Bool → Bool → Bool → Bool → Bool → Line
+of_kind at more name text p q r s t = if p then Separator else (if q then Comment else (if r then Continuation at more else (if s then (if t then Named at name text else Unknown at) else Unknown at)))
+
 line_of-numbered : (comments : Bool) (a b : ℕ) (line : List ℕ) → line_of comments a line ≡ numbered a (line_of comments b line)
 unfolding line_of
 line_of-numbered comments a b line =
     by (trimmed_end (drop 1 line)) (before_first is_colon line) (trimmed (after_first is_colon line)) (list_all is_blank line) (comments && begins_with is_hash line) (begins_with is_blank line) (list_any is_colon line) (is_name (before_first is_colon line))
   where
-    abbrev of_kind : ℕ → List ℕ → List ℕ → List ℕ → Bool → Bool → Bool → Bool → Bool → Line
-    of_kind at more name text p q r s t = if p then Separator else (if q then Comment else (if r then Continuation at more else (if s then (if t then Named at name text else Unknown at) else Unknown at)))
-
     by : (more name text : List ℕ) (p q r s t : Bool) → of_kind a more name text p q r s t ≡ numbered a (of_kind b more name text p q r s t)
     by more name text true q r s t = refl
     by more name text false true r s t = refl
@@ -82,15 +82,15 @@ closed-alike before ps qs (f ∷ fs) (g ∷ gs) same fields = more_alike before 
 
 -- what is read of the same lines with other numbers, from states that are alike
 abbrev IsReadAlike : List Paragraph → List Line → List Line → Type 0
-IsReadAlike before as bs = (s t : State) → IsAlike before s t → plain (scan s as) ≡ behind before (plain (scan t bs))
+IsReadAlike before xs ys = (s t : State) → IsAlike before s t → plain (scan s xs) ≡ behind before (plain (scan t ys))
 
-continued-alike : (before ps qs : List Paragraph) (fs gs : List Field) (a b : ℕ) (text : List ℕ) (as bs : List Line) → unplaced ps ≡ before ++ unplaced qs → map unplaced_field fs ≡ map unplaced_field gs
-    → IsReadAlike before as bs → plain (scan (record { paragraphs = ps; fields = fs }) (Continuation a text ∷ as)) ≡ behind before (plain (scan (record { paragraphs = qs; fields = gs }) (Continuation b text ∷ bs)))
+continued-alike : (before ps qs : List Paragraph) (fs gs : List Field) (a b : ℕ) (text : List ℕ) (xs ys : List Line) → unplaced ps ≡ before ++ unplaced qs → map unplaced_field fs ≡ map unplaced_field gs
+    → IsReadAlike before xs ys → plain (scan (record { paragraphs = ps; fields = fs }) (Continuation a text ∷ xs)) ≡ behind before (plain (scan (record { paragraphs = qs; fields = gs }) (Continuation b text ∷ ys)))
 unfolding scan
-continued-alike before ps qs [] [] a b text as bs same fields rest = refl
-continued-alike before ps qs [] (g ∷ gs) a b text as bs same fields rest = absurd cc
-continued-alike before ps qs (f ∷ fs) [] a b text as bs same fields rest = absurd cc
-continued-alike before ps qs (f ∷ fs) (g ∷ gs) a b text as bs same fields rest =
+continued-alike before ps qs [] [] a b text xs ys same fields rest = refl
+continued-alike before ps qs [] (g ∷ gs) a b text xs ys same fields rest = absurd cc
+continued-alike before ps qs (f ∷ fs) [] a b text xs ys same fields rest = absurd cc
+continued-alike before ps qs (f ∷ fs) (g ∷ gs) a b text xs ys same fields rest =
     rest (record { paragraphs = ps; fields = add_line (f ∷ fs) text }) (record { paragraphs = qs; fields = add_line (g ∷ gs) text })
     (record { fields = add_line-plain (f ∷ fs) text ∙ ap (λ (l : List Field). add_line l text) fields ∙ sym (add_line-plain (g ∷ gs) text); paragraphs = same })
 
@@ -101,29 +101,29 @@ unless-alike before true false fault other r q same rest = absurd cc
 unless-alike before false true fault other r q same rest = absurd cc
 unless-alike before false false fault other r q same rest = rest
 
-named-alike : (before ps qs : List Paragraph) (fs gs : List Field) (a b : ℕ) (name text : List ℕ) (as bs : List Line) → unplaced ps ≡ before ++ unplaced qs → map unplaced_field fs ≡ map unplaced_field gs
-    → IsReadAlike before as bs → plain (scan (record { paragraphs = ps; fields = fs }) (Named a name text ∷ as)) ≡ behind before (plain (scan (record { paragraphs = qs; fields = gs }) (Named b name text ∷ bs)))
+named-alike : (before ps qs : List Paragraph) (fs gs : List Field) (a b : ℕ) (name text : List ℕ) (xs ys : List Line) → unplaced ps ≡ before ++ unplaced qs → map unplaced_field fs ≡ map unplaced_field gs
+    → IsReadAlike before xs ys → plain (scan (record { paragraphs = ps; fields = fs }) (Named a name text ∷ xs)) ≡ behind before (plain (scan (record { paragraphs = qs; fields = gs }) (Named b name text ∷ ys)))
 unfolding scan
-named-alike before ps qs fs gs a b name text as bs same fields rest =
+named-alike before ps qs fs gs a b name text xs ys same fields rest =
     let names : names_of fs ≡ names_of gs = sym (names_of-plain fs) ∙ ap names_of fields ∙ names_of-plain gs in
     let left : Field = record { name = name; lines = text ∷ []; at = a } in
     let right : Field = record { name = name; lines = text ∷ []; at = b } in
     let more : map unplaced_field (fs ++ left ∷ []) ≡ map unplaced_field (gs ++ right ∷ []) =
     map-append unplaced_field fs (left ∷ []) ∙ ap (λ (l : List Field). l ++ unplaced_field left ∷ []) fields ∙ sym (map-append unplaced_field gs (right ∷ [])) in
     unless-alike before (has_name (names_of fs) name) (has_name (names_of gs) name) (Twice a) (Twice b)
-    (scan (record { paragraphs = ps; fields = fs ++ left ∷ [] }) as) (scan (record { paragraphs = qs; fields = gs ++ right ∷ [] }) bs)
+    (scan (record { paragraphs = ps; fields = fs ++ left ∷ [] }) xs) (scan (record { paragraphs = qs; fields = gs ++ right ∷ [] }) ys)
     (ap (λ (l : List (List ℕ)). has_name l name) names)
     (rest (record { paragraphs = ps; fields = fs ++ left ∷ [] }) (record { paragraphs = qs; fields = gs ++ right ∷ [] }) (record { fields = more; paragraphs = same }))
 
-line-alike : (before : List Paragraph) (a : ℕ) (k : Line) (as bs : List Line) → IsReadAlike before as bs → IsReadAlike before (numbered a k ∷ as) (k ∷ bs)
+line-alike : (before : List Paragraph) (a : ℕ) (k : Line) (xs ys : List Line) → IsReadAlike before xs ys → IsReadAlike before (numbered a k ∷ xs) (k ∷ ys)
 unfolding scan
-line-alike before a Separator as bs rest s t same =
+line-alike before a Separator xs ys rest s t same =
     rest (record { paragraphs = closed s; fields = [] }) (record { paragraphs = closed t; fields = [] })
     (record { fields = refl; paragraphs = closed-alike before s.paragraphs t.paragraphs s.fields t.fields same.paragraphs same.fields })
-line-alike before a Comment as bs rest s t same = rest s t same
-line-alike before a (Continuation old text) as bs rest s t same = continued-alike before s.paragraphs t.paragraphs s.fields t.fields a old text as bs same.paragraphs same.fields rest
-line-alike before a (Named old name text) as bs rest s t same = named-alike before s.paragraphs t.paragraphs s.fields t.fields a old name text as bs same.paragraphs same.fields rest
-line-alike before a (Unknown old) as bs rest s t same = refl
+line-alike before a Comment xs ys rest s t same = rest s t same
+line-alike before a (Continuation old text) xs ys rest s t same = continued-alike before s.paragraphs t.paragraphs s.fields t.fields a old text xs ys same.paragraphs same.fields rest
+line-alike before a (Named old name text) xs ys rest s t same = named-alike before s.paragraphs t.paragraphs s.fields t.fields a old name text xs ys same.paragraphs same.fields rest
+line-alike before a (Unknown old) xs ys rest s t same = refl
 
 lines-alike : (before : List Paragraph) (lines : List (List ℕ)) (a b : ℕ) → IsReadAlike before (lines_from false a lines) (lines_from false b lines)
 unfolding scan

@@ -33,7 +33,7 @@ unfolding stanzas_of
 stanzas_of-plain base name version [] = refl
 stanzas_of-plain base name version (paragraph ∷ more) = λ i. cons_option (stanza_in-plain base name version paragraph.fields i) (stanzas_of-plain base name version more i)
 
-stanzas_of-append : (base : Uri) (name version : List ℕ) (a b : List Paragraph) → stanzas_of base name version (a ++ b) ≡ stanzas_of base name version a ++ stanzas_of base name version b
+pub stanzas_of-append : (base : Uri) (name version : List ℕ) (a b : List Paragraph) → stanzas_of base name version (a ++ b) ≡ stanzas_of base name version a ++ stanzas_of base name version b
 unfolding stanzas_of
 stanzas_of-append base name version a b = filter_map-append (λ (p : Paragraph). stanza_in base name version p.fields) a b
 

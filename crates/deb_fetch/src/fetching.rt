@@ -51,9 +51,11 @@ pub fn fetch_deb<D: Disk, M: Method>(
     if check_file(place, deb)? {
         return Ok(None);
     }
-    let end = obtain(alloc, place, deb, method, settings)?;
-    if end.is_none() {
-        land(place, deb)?;
+    match obtain(alloc, place, deb, method, settings)? {
+        Some(cause) => Ok(Some(cause)),
+        None => {
+            land(place, deb)?;
+            Ok(None)
+        }
     }
-    Ok(end)
 }
