@@ -1,8 +1,8 @@
 -- A list that is being read, front after front.
-use Rattle.std.proofs.Common.{◌≡◌, ℕ, List, [], ◌++◌, Option, Some, None, option_map, unwrap_or, refl, sym, ap, ◌∙◌, append_assoc}
+use Rattle.std.proofs.Common.{◌≡◌, ℕ, List, [], ◌++◌, Option, Some, None, IfSome, option_map, unwrap_or, refl, sym, ap, ◌∙◌, subst, append_assoc}
 use Rattle.std.proofs.lemmas.List.{append-nil}
 use Rattle.acq_base.specs.declared.uri.Uri.{Uri}
-use Rattle.deb_fetch.specs.Founds.{found_of, joined, nothing}
+use Rattle.deb_fetch.specs.Founds.{IsSoundFound, found_of, joined, nothing}
 use Rattle.deb_fetch.specs.Paragraphs.{IsCut, read_on}
 use Rattle.deb_fetch.specs.Stanzas.{stanzas_in, told}
 use Rattle.deb_fetch.specs.declared.found.Found.{Found}
@@ -69,3 +69,7 @@ pub all_read : (base : Uri) (name version list rest : List ℕ) (found : Found) 
 all_read base name version list rest found ends so_far =
     let whole : told base name version list ≡ Some (so_far.said ++ []) = so_far.rests ∙ ap (λ (l : List ℕ). before so_far.said (told base name version l)) ends ∙ ap (before so_far.said) (told-nothing base name version) in
     so_far.founds ∙ ap found_of (sym (append-nil so_far.said)) ∙ ap (λ (o : Option (List Stanza)). found_of (unwrap_or o [])) (sym whole)
+
+-- what a front says is sound
+pub more_sound : (said : Option Found) (more : Found) → said ≡ Some more → IfSome said IsSoundFound → IsSoundFound more
+more_sound said more is sound = subst (λ (o : Option Found). IfSome o IsSoundFound) is sound
