@@ -277,14 +277,14 @@ obtained retries deb told end entries is along lives =
     ∙ cause-by_sum (obtain entries None [] (wanted deb))
 
 -- what asks came to that are over
-pub record CameTo (retries : ℕ) (deb : Deb) (world : Option MirrorMap) (first last : ℕ) (now : List State) (end : End) : Type 0 where
-  pub ready : cause_of end ≡ None → IsTold now → LastsAs deb.file.0 now deb.sum
-  pub answer : IsTold now → IfSome world (λ entries. (cause_of end ≡ cause_over entries None deb) ⊎ IsMethod (cause_of end))
-  pub failed : IsMethod (cause_of end) → HasFailed retries first last deb (cause_of end)
-  pub route : IsEndOfRoute retries deb (cause_of end)
+pub record CameTo (retries : ℕ) (deb : Deb) (world : Option MirrorMap) (first last : ℕ) (now : List State) (cause : Option Cause) : Type 0 where
+  pub ready : cause ≡ None → IsTold now → LastsAs deb.file.0 now deb.sum
+  pub answer : IsTold now → IfSome world (λ entries. (cause ≡ cause_over entries None deb) ⊎ IsMethod cause)
+  pub failed : IsMethod cause → HasFailed retries first last deb cause
+  pub route : IsEndOfRoute retries deb cause
 
-pub came_to : (retries : ℕ) (deb : Deb) (world : Option MirrorMap) (first last : ℕ) (now : List State) (p : Point) (end : End) → p ≡ Over end → IsUnderWay retries (wanted deb) deb.file.0 world first last now p
-    → CameTo retries deb world first last now end
+came_to : (retries : ℕ) (deb : Deb) (world : Option MirrorMap) (first last : ℕ) (now : List State) (p : Point) (end : End) → p ≡ Over end → IsUnderWay retries (wanted deb) deb.file.0 world first last now p
+    → CameTo retries deb world first last now (cause_of end)
 came_to retries deb world first last now p end is under =
     let at = ends_at retries (wanted deb) deb.file.0 world first last now p end is under in
     let whole : run retries (start retries (plain_walk (wanted deb))) under.told ≡ Over end = sym under.heard ∙ is in
@@ -304,6 +304,11 @@ came_to retries deb world first last now p end is under =
     by told whole (inl lived) (Some entries) along = inl (obtained retries deb told end entries whole along lived.lived)
     by told whole (inr died) (Some entries) along = inr (failed_method retries first last deb (cause_of end) (dead_cause retries deb first last end died))
 
+pub cause_came : (retries : ℕ) (deb : Deb) (world : Option MirrorMap) (first last : ℕ) (now : List State) (p : Point) (end : End) (cause : Option Cause) → p ≡ Over end → cause ≡ cause_of end
+    → IsUnderWay retries (wanted deb) deb.file.0 world first last now p → CameTo retries deb world first last now cause
+cause_came retries deb world first last now p end cause is same under =
+    subst (λ (c : Option Cause). CameTo retries deb world first last now c) (sym same) (came_to retries deb world first last now p end is under)
+
 -- the same answer, of retries and a mirror that are the same
 pub asked_as : (retries other : ℕ) (world seen : Option MirrorMap) (name : List ℕ) (before after : ℕ) (now : List State) (p q : Point) → other ≡ retries → seen ≡ world → HasAsked other seen name before after now p q
     → HasAsked retries world name before after now p q
@@ -314,3 +319,9 @@ asked_as retries other world seen name before after now p q same mirror one =
 pub over_where : (p : Point) → asked p ≡ None → (end : End) × (p ≡ Over end)
 over_where (Over end) none = (end, refl)
 over_where (At ask left faults next) none = absurd cc
+
+-- where nothing was asked, all is as it was
+pub same_under : (retries : ℕ) (w : Wanted) (name : List ℕ) (world : Option MirrorMap) (first last later : ℕ) (now new : List State) (p q : Point) → later ≡ last → new ≡ now → q ≡ p → IsUnderWay retries w name world first last now p
+    → IsUnderWay retries w name world first later new q
+same_under retries w name world first last later now new p q counted still same under =
+    subst (λ (n : ℕ). IsUnderWay retries w name world first n new q) (sym counted) (subst (λ (l : List State). IsUnderWay retries w name world first last l q) (sym still) (subst (λ (r : Point). IsUnderWay retries w name world first last now r) (sym same) under))

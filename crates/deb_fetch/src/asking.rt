@@ -5,10 +5,12 @@ ghost use Rattle.acq_outside.specs.Fetches.{Fetches};
 ghost use Rattle.acq_outside.specs.States.{IsNow, IsTold};
 ghost use Rattle.acq_outside.specs.Stays.{StaysCounting};
 ghost use Rattle.item_graph.specs.Refinement.{asked, point_of, retries_of};
+ghost use Rattle.item_graph.specs.Single.{file_walk, single};
 ghost use Rattle.item_graph.specs.Sound.{IsSoundAt};
 ghost use Rattle.job_fetch.specs.Fetched.{Staging};
 ghost use Rattle.journal_model.specs.Names.{IsPutName};
-ghost use Rattle.deb_fetch.specs.Asking.{AsksWhole, HasAsked};
+ghost use Rattle.update_model.specs.Points.{start};
+ghost use Rattle.deb_fetch.specs.Asking.{AsksWhole, HasAsked, IsUnderWay};
 ghost use Rattle.deb_fetch.specs.Causes as causes;
 ghost use Rattle.deb_fetch.specs.Filenames.{IsDebName};
 ghost use Rattle.deb_fetch.specs.Landing.{IsReady, IsSettled, Lands};
@@ -48,9 +50,35 @@ pub fn obtain<D: Disk, M: Method>(
     let uri = deb.uri.copy(alloc)?;
     let path = deb.path.copy(alloc)?;
     let mut item = Item::for_file(alloc, uri, path, deb.sum, settings)?;
+    ask_all(alloc, place, deb, method, settings, &mut item)?;
+    Ok(cause_of(item.end()))
+}
+
+/// Asks as long as anything is asked.
+fn ask_all<D: Disk, M: Method>(
+    alloc: Global,
+    place: &mut D,
+    deb: &Deb,
+    method: &mut M,
+    settings: &Settings,
+    item: &mut Item,
+) -> Result<(), OutError>
+    requires named { IsDebName deb.now.file.0 }
+    requires sound { IsSoundAt (point_of item.old) }
+    requires begins { point_of item.old ≡ start settings.now.retries (file_walk deb.now.uri deb.now.path deb.now.sum) }
+    requires retries { retries_of item.old ≡ settings.now.retries }
+
+    ensures frame { StaysCounting OutError.Fault D.Disk place.old place.new result }
+    ensures method { Fetches M.Method method.old method.new }
+    ensures staging { Staging deb.now.file.0 (D.trace place.old) (D.trace place.new) }
+
+    ensures none { OnOk result (asked (point_of item.new) ≡ None) }
+    ensures under { OnOk result (IsUnderWay settings.now.retries (single deb.now.uri deb.now.path deb.now.sum) deb.now.file.0
+        (M.world method.old) (M.faults method.old) (M.faults method.new) (D.trace place.new) (point_of item.new)) }
+{
     'asks: loop {
-        if !ask_once(alloc, place, &deb.file, method, &mut item)? {
-            return Ok(cause_of(item.end()));
+        if !ask_once(alloc, place, &deb.file, method, item)? {
+            return Ok(());
         }
     }
 }

@@ -6,7 +6,7 @@ use Rattle.item_graph.specs.Single.{single}
 use Rattle.item_graph.specs.Sound.{IsSoundAt}
 use Rattle.job_fetch.specs.Fetched.{Staging}
 use Rattle.deb_fetch.specs.Asking.{IsUnderWay, asks_left}
-use Rattle.deb_fetch.proofs.asking.obtain.Given as goal
+use Rattle.deb_fetch.proofs.asking.ask_all.Given as goal
 
 abbrev pub invariant-asks : goal.invariant-asks
 invariant-asks g l = record {
