@@ -1,10 +1,13 @@
 -- What a fetch answers, by what was there and what asks came to.
 use Rattle.std.proofs.Common.{◌≡◌, ◌⊎◌, ◌↔◌, inl, inr, refl, sym, ap, ◌∙◌, subst, Bool, true, false, if◌then◌else◌, ℕ, List, [], ◌∷◌, Option, Some, None, IfSome, IsSomeAnd, IsTrue}
-use Rattle.std.proofs.lemmas.Bool.{false_from_ne_true}
+use Rattle.std.proofs.lemmas.Bool.{false≢true, false_from_ne_true}
 use Rattle.acq_base.proofs.SameSums.{same_sum-true, same_sum-refl}
 use Rattle.acq_base.specs.Mirror.{MirrorMap}
 use Rattle.acq_base.specs.Sum.{Fits, sum_of}
 use Rattle.acq_base.specs.declared.sum.Sum.{Sum}
+use Rattle.acq_outside.specs.Crash.{State, IsShown}
+use Rattle.acq_outside.specs.Disk.{Files}
+use Rattle.acq_outside.specs.States.{IsTold}
 use Rattle.item_graph.specs.Single.{single}
 use Rattle.release_file.specs.Release.{same_sum}
 use Rattle.update_model.specs.Obtained.{first_fitting, got_or, list_cause, obtain, patched, reached_files, resumed, stands_or}
@@ -47,3 +50,13 @@ pub asked_over : (world : Option MirrorMap) (there : Option (List ℕ)) (deb : D
 asked_over None there deb end none answer = tt
 asked_over (Some entries) there deb end none (inl is) = inl (is ∙ not_over entries there deb none)
 asked_over (Some entries) there deb end none (inr method) = inr method
+
+-- a disk that tells its files tells its states
+pub tells_states : (tells : Bool) (files : Files) (now : List State) → IsShown tells files now → tells ≡ true → IsTold now
+tells_states tells files [] shown told = false≢true (sym shown ∙ told)
+tells_states tells files (s ∷ past) shown told = tt
+
+-- what was there doesn't fit where it was found not to
+pub found_other : (fits : Bool) (was there : Option (List ℕ)) (deb : Deb) → fits ≡ false → IsTrue fits ↔ IsSomeAnd was (λ bytes. Fits bytes deb.sum) → was ≡ there → IsSomeAnd there (λ bytes. Fits bytes deb.sum) → ⊥
+found_other fits was there deb differs iff same whole =
+    false≢true (sym differs ∙ iff.1 (subst (λ (o : Option (List ℕ)). IsSomeAnd o (λ bytes. Fits bytes deb.sum)) (sym same) whole))

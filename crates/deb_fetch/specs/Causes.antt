@@ -1,5 +1,5 @@
 -- What the fetch of a package file comes to.
-use Rattle.std.specs.Prelude.{◌≡◌, ◌⊎◌, ℕ, ◌+◌, ◌-◌, ◌^◌, ◌≤◌, List, [], Option, Some, None}
+use Rattle.std.specs.Prelude.{◌≡◌, ◌⊎◌, ℕ, ◌+◌, ◌-◌, ◌^◌, ◌≤◌, List, [], Option, Some, None, IfSome}
 use Rattle.acq_base.specs.Mirror.{MirrorMap}
 use Rattle.item_graph.specs.Single.{single, file_walk}
 use Rattle.update_model.specs.Obtained.{obtain}
@@ -40,6 +40,10 @@ pub record HasFailed (retries before after : ℕ) (deb : Deb) (end : Option Caus
 abbrev pub IsMethod : Option Cause → Type 0
 IsMethod (Some (Method path lane first last)) = Unit {0}
 IsMethod other = ⊥
+
+-- beside the file that is there, the answer is the mirror's, where one is told, or the method
+abbrev pub IsAnswerOf : Option MirrorMap → Option (List ℕ) → Deb → Option Cause → Type 0
+IsAnswerOf world there deb end = IfSome world (λ entries. (end ≡ cause_over entries there deb) ⊎ IsMethod end)
 
 -- the file was there, or this is how a route of asks for it ended
 abbrev pub IsEndOfRoute : ℕ → Deb → Option Cause → Type 0

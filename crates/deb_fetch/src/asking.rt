@@ -1,5 +1,5 @@
 //! A package file, asked for until it came or there is a cause why it doesn't. It may take memory.
-ghost use Rattle.std.specs.Prelude.{◌≡◌, ◌⊎◌, false, true, None, IfOk, IfSome, OnOk, IsTrue};
+ghost use Rattle.std.specs.Prelude.{◌≡◌, false, true, None, IfOk, OnOk};
 ghost use Rattle.acq_base.specs.Uri.{IsSound};
 ghost use Rattle.acq_outside.specs.Fetches.{Fetches};
 ghost use Rattle.acq_outside.specs.States.{IsNow, IsTold};
@@ -41,8 +41,7 @@ pub fn obtain<D: Disk, M: Method>(
     ensures lands { Lands deb.now.file.0 deb.now.sum (D.trace place.old) (D.trace place.new) }
     ensures ready { IfOk result (λ end. end ≡ None → IsNow (IsReady deb.now.file.0 deb.now.sum) (D.trace place.new)) }
 
-    ensures answer { IsTold (D.trace place.new) → IfSome (M.world method.old) (λ world.
-        IfOk result (λ end. (end ≡ causes.cause_over world None deb.now) ⊎ causes.IsMethod end)) }
+    ensures answer { IsTold (D.trace place.new) → IfOk result (causes.IsAnswerOf (M.world method.old) None deb.now) }
     ensures failed { IfOk result (λ end. causes.IsMethod end
         → causes.HasFailed settings.now.retries (M.faults method.old) (M.faults method.new) deb.now end) }
     ensures route { IfOk result (causes.IsEndOfRoute settings.now.retries deb.now) }

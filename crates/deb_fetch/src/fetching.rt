@@ -1,5 +1,5 @@
 //! A package file, fetched into a folder. It may take memory.
-ghost use Rattle.std.specs.Prelude.{◌≡◌, ◌⊎◌, None, IfOk, IfSome, IsTrue};
+ghost use Rattle.std.specs.Prelude.{◌≡◌, None, IfOk, IsTrue};
 ghost use Rattle.acq_base.specs.Uri.{IsSound};
 ghost use Rattle.acq_outside.specs.Fetches.{Fetches};
 ghost use Rattle.acq_outside.specs.States.{IsNow, Since};
@@ -41,8 +41,8 @@ pub fn fetch_deb<D: Disk, M: Method>(
     ensures others { KeepsOthers deb.now.file.0 (D.trace place.old) (D.trace place.new) }
     ensures whole { IfOk result (λ end. end ≡ None → IsNow (LeavesWhole deb.now.file.0 deb.now.sum) (D.trace place.new)) }
 
-    ensures answer { IsTrue (D.tells place.old) → IfSome (M.world method.old) (λ world.
-        IfOk result (λ end. (end ≡ causes.cause_over world (D.files place.old deb.now.file.0) deb.now) ⊎ causes.IsMethod end)) }
+    ensures answer { IsTrue (D.tells place.old)
+        → IfOk result (causes.IsAnswerOf (M.world method.old) (D.files place.old deb.now.file.0) deb.now) }
     ensures failed { IfOk result (λ end. causes.IsMethod end
         → causes.HasFailed settings.now.retries (M.faults method.old) (M.faults method.new) deb.now end) }
     ensures route { IfOk result (causes.IsEndOfRoute settings.now.retries deb.now) }
