@@ -1,5 +1,5 @@
 -- The asks for a package file, one after another.
-use Rattle.std.proofs.Common.{◌≡◌, ◌⊎◌, inl, inr, ⊎_elim, refl, sym, ap, ◌∙◌, subst, arith, ℕ, zero, suc, ◌+◌, ◌-◌, ◌<◌, ◌≤◌, Bool, true, false, if◌then◌else◌, List, [], ◌∷◌, ◌++◌, length, Option, Some, None, IfSome}
+use Rattle.std.proofs.Common.{◌≡◌, ◌⊎◌, inl, inr, ⊎_elim, refl, sym, ap, ◌∙◌, subst, arith, ℕ, zero, suc, ◌+◌, ◌-◌, ◌<◌, ◌≤◌, Bool, true, false, if◌then◌else◌, List, [], ◌∷◌, ◌++◌, Option, Some, None, IfSome}
 use Rattle.acq_base.proofs.SameSums.{same_sum-true}
 use Rattle.acq_base.specs.Mirror.{MirrorMap, answer_at}
 use Rattle.acq_base.specs.declared.fetch.NotServed.TheVariants.{Moved, Absent, TooBig, Garbled, Fault}
@@ -11,16 +11,15 @@ use Rattle.acq_outside.specs.States.{IsTold}
 use Rattle.item_graph.specs.Histories.{AgreesAlong, AgreesAt, LivesAlong, LivesAt}
 use Rattle.item_graph.specs.Laws.{IsHeardRoute}
 use Rattle.item_graph.specs.Refinement.{asked}
-use Rattle.item_graph.specs.Single.{single, file_walk}
+use Rattle.item_graph.specs.Single.{single}
 use Rattle.item_graph.proofs.Theorems.{points_end_in_routes}
 use Rattle.job_fetch.specs.Fetched.{IsCounted, IsStagedBody, LastsAs}
 use Rattle.release_file.specs.Release.{same_sum}
-use Rattle.update_model.specs.Files.{served}
 use Rattle.update_model.specs.Laws.{by_sum}
 use Rattle.update_model.specs.Obtained.{list_cause, obtain}
 use Rattle.update_model.specs.Points.{Point, Over, At, start, point_after, run, lead}
-use Rattle.update_model.specs.Reach.{Way, On, Stop, may_move, moved, way}
-use Rattle.update_model.specs.Trails.{LaneAnswer, IsFaultOr, Leads, answered, answers_or, less}
+use Rattle.update_model.specs.Reach.{On, Stop, may_move, moved}
+use Rattle.update_model.specs.Trails.{LaneAnswer, IsFaultOr, answered, answers_or}
 use Rattle.update_model.specs.Walks.{Walk, Finish, fitting_body, got_else, on_some, plain_walk}
 use Rattle.update_model.proofs.Theorems.{lists_end_as_obtained}
 use Rattle.update_model.specs.declared.ask.Ask.{Ask}
@@ -101,27 +100,32 @@ module _ (retries : ℕ) (w : Wanted) (name : List ℕ) (first before after : �
   dies : (ask : Ask) (left lane : ℕ) (from upto : ℕ) (next : Ending → Walk) → Behind w next → lane ≡ 0 → before ≤ after → AsksOn retries w first before ask 0 next → (from ≡ before) × (upto ≡ after) × Rose before after
       → StandsAt retries w name first after now lives (start retries (next (endings.Dead lane from upto)))
   dies ask left lane from upto next behind is grew on counted =
-      subst (λ (p : Point). StandsAt retries w name first after now lives p) (sym (ap (λ (f : Ending → Walk). start retries (f (endings.Dead lane from upto))) behind))
-      (inr (record {
-        from = from;
-        upto = upto;
-        is = ap (λ (l : ℕ). Ended (Method w.path l from upto)) is;
-        rose = rose_out retries first before after on.rose grew counted.2;
-        begins = omega (arith, on.grew, counted.0);
-        upward = omega (arith, grew, counted.0, counted.1);
-        ends = omega (arith, counted.1);
-      }), tt)
+      subst (λ (p : Point). StandsAt retries w name first after now lives p) (sym (ap (λ (f : Ending → Walk). start retries (f (endings.Dead lane from upto))) behind)) (
+        inr (record {
+          from = from;
+          upto = upto;
+          is = ap (λ (l : ℕ). Ended (Method w.path l from upto)) is;
+          rose = rose_out retries first before after on.rose grew counted.2;
+          begins = omega (arith, on.grew, counted.0);
+          upward = omega (arith, grew, counted.0, counted.1);
+          ends = omega (arith, counted.1);
+        }),
+        tt,
+      )
 
   goes_on : (ask : Ask) (faults : ℕ) (next : Ending → Walk) (to : Uri) (left : ℕ) → AsksOn retries w first before ask faults next → after ≡ before → lives
       → StandsAt retries w name first after now lives (At (record ask { uri = to }) left retries next)
-  goes_on ask faults next to left on same lived = (lived, record {
-    whole = on.whole;
-    staged = on.staged;
-    within = omega arith;
-    grew = omega (arith, on.grew, same);
-    rose = none_rose retries first before after on.grew same;
-    behind = on.behind;
-  })
+  goes_on ask faults next to left on same lived = (
+    lived,
+    record {
+      whole = on.whole;
+      staged = on.staged;
+      within = omega arith;
+      grew = omega (arith, on.grew, same);
+      rose = none_rose retries first before after on.grew same;
+      behind = on.behind;
+    },
+  )
 
   moves : (ask : Ask) (faults : ℕ) (next : Ending → Walk) (left : ℕ) (to : Uri) → AsksOn retries w first before ask faults next → after ≡ before → lives
       → StandsAt retries w name first after now lives (lead retries ask left next (moved left ask.uri to))
@@ -142,14 +146,17 @@ module _ (retries : ℕ) (w : Wanted) (name : List ℕ) (first before after : �
   answered_at ask left faults next (Not TooBig) grew on counted staged lived = stops endings.TooBig next on.behind refl (λ none. none) (lived (lives_at ask left faults next (Not TooBig) tt))
   answered_at ask left faults next (Not (Garbled at)) grew on counted staged lived = stops (endings.Garbled at) next on.behind refl (λ none. none) (lived (lives_at ask left faults next (Not (Garbled at)) tt))
   answered_at ask left zero next (Not (Fault from upto)) grew on counted staged lived = dies ask left 0 from upto next on.behind refl grew on counted
-  answered_at ask left (suc faults) next (Not (Fault from upto)) grew on counted staged lived = (lived tt, record {
-    whole = on.whole;
-    staged = on.staged;
-    within = omega (arith, on.within);
-    grew = omega (arith, on.grew, grew);
-    rose = rose_again retries faults first before after on.within on.rose grew counted.2;
-    behind = on.behind;
-  })
+  answered_at ask left (suc faults) next (Not (Fault from upto)) grew on counted staged lived = (
+    lived tt,
+    record {
+      whole = on.whole;
+      staged = on.staged;
+      within = omega (arith, on.within);
+      grew = omega (arith, on.grew, grew);
+      rose = rose_again retries faults first before after on.within on.rose grew counted.2;
+      behind = on.behind;
+    },
+  )
 
 -- ---- the asks
 

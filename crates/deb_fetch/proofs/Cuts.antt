@@ -1,11 +1,11 @@
 -- A text is cut between two lines.
-use Rattle.std.proofs.Common.{◌≡◌, ◌⊎◌, inl, inr, ℕ, zero, suc, ◌+◌, ◌<◌, ◌≤◌, ◌==◌, Bool, true, false, cond, not, List, [], ◌∷◌, ◌++◌, length, take, drop, refl, sym, ap, ◌∙◌, subst, append_assoc, arith}
-use Rattle.std.proofs.lemmas.List.{append-nil, take-append-drop, take-take, drop-take, drop_all, take_all, length-drop}
+use Rattle.std.proofs.Common.{◌≡◌, inl, inr, ℕ, suc, ◌+◌, ◌<◌, ◌≤◌, ◌==◌, Bool, true, false, cond, not, List, [], ◌∷◌, ◌++◌, length, take, drop, refl, sym, ap, ◌∙◌, subst, append_assoc, arith}
+use Rattle.std.proofs.lemmas.List.{append-nil, take-append-drop, take-take, drop-take, drop_all, take_all}
 use Rattle.std.specs.List.{list_all, onto_first, position_or_len, slice_split}
 use Rattle.std.specs.Str.Lines.{lines as text_lines, lines_of_parts, strip_carriage_return}
 use Rattle.acq_base.proofs.Lists.{split_cons}
 use Rattle.acq_base.specs.Words.{is_blank}
-use Rattle.deb_fetch.specs.Paragraphs.{EndInBlanks, IsCut}
+use Rattle.deb_fetch.specs.Paragraphs.{IsCut}
 
 abbrev is_feed : ℕ → Bool
 is_feed c = c == 10

@@ -10,7 +10,7 @@ use Rattle.acq_outside.specs.Disk.{Files}
 use Rattle.acq_outside.specs.States.{IsTold}
 use Rattle.item_graph.specs.Single.{single}
 use Rattle.release_file.specs.Release.{same_sum}
-use Rattle.update_model.specs.Obtained.{first_fitting, got_or, list_cause, obtain, patched, reached_files, resumed, stands_or}
+use Rattle.update_model.specs.Obtained.{first_fitting, got_or, list_cause, patched, reached_files, resumed, stands_or}
 use Rattle.update_model.specs.Reach.{reach}
 use Rattle.update_model.specs.declared.cause.Cause.{Cause}
 use Rattle.update_model.specs.declared.end.End.{End}

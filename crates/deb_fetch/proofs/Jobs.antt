@@ -1,14 +1,12 @@
 -- One ask for a package file as a job.
-use Rattle.std.proofs.Common.{◌≡◌, ◌⊎◌, inl, refl, sym, ap, ◌∙◌, subst, arith, ℕ, ◌≤◌, Bool, true, List, [], length, Option, Some, None, IfSome}
+use Rattle.std.proofs.Common.{◌≡◌, refl, sym, ap, ◌∙◌, subst, ℕ, true, List, [], Option, Some, None, IfSome}
 use Rattle.acq_base.specs.Mirror.{MirrorMap, answer_at}
 use Rattle.acq_base.specs.declared.fetch.Answer.{Answer}
 use Rattle.acq_base.specs.declared.fetch.Answer.TheVariants as answers
 use Rattle.acq_base.specs.declared.fetch.Job.{Job}
-use Rattle.acq_base.specs.declared.fetch.NotServed.{NotServed}
 use Rattle.acq_base.specs.declared.uri.Uri.{Uri}
 use Rattle.acq_outside.specs.Crash.{State}
 use Rattle.acq_outside.specs.States.{IsTold}
-use Rattle.acq_outside.specs.Word.{CanBegin}
 use Rattle.item_graph.specs.Refinement.{asked}
 use Rattle.job_fetch.specs.Fetched.{IsAnswer, IsCounted, IsKnown, IsStagedBody, ask_of}
 use Rattle.journal_model.specs.Rest.{part_bytes}
@@ -16,7 +14,6 @@ use Rattle.update_model.specs.Points.{Point, Over, At, point_after}
 use Rattle.update_model.specs.Trails.{IsFaultOr, answered}
 use Rattle.update_model.specs.Walks.{Walk}
 use Rattle.update_model.specs.declared.ask.Ask.{Ask}
-use Rattle.update_model.specs.declared.ask.Body.{Body}
 use Rattle.update_model.specs.declared.ask.Closed.{Closed}
 use Rattle.update_model.specs.declared.ask.Closed.TheVariants.{Served, Not}
 use Rattle.update_model.specs.declared.ask.Ending.{Ending}

@@ -1,5 +1,5 @@
 -- What stanzas come to is what their parts come to.
-use Rattle.std.proofs.Common.{◌≡◌, ◌≢◌, ◌⊎◌, inl, inr, ⊎_elim, ℕ, zero, suc, ◌<◌, ◌||◌, not, Bool, true, false, List, [], ◌∷◌, ◌++◌, length, get_or, Option, Some, None, option_to_list, refl, sym, ap, ◌∙◌, All, Contains, arith}
+use Rattle.std.proofs.Common.{◌≡◌, ◌≢◌, ⊎_elim, suc, ◌||◌, not, Bool, true, false, List, [], ◌∷◌, ◌++◌, Option, Some, None, option_to_list, refl, sym, ap, ◌∙◌, All, Contains, arith}
 use Rattle.std.proofs.lemmas.Bool.{or_cases, or_parts, not-true, not-false, false≢true}
 use Rattle.std.proofs.lemmas.List.{append-nil}
 use Rattle.std.proofs.lemmas.List.Elements.{All-cons, All-nil, All-weaker}
@@ -7,7 +7,7 @@ use Rattle.std.specs.List.{list_any}
 use Rattle.acq_base.proofs.SameSums.{same_sum-true, same_sum-refl}
 use Rattle.acq_base.specs.declared.sum.Sum.{Sum}
 use Rattle.release_file.specs.Release.{same_sum}
-use Rattle.deb_fetch.specs.Founds.{found_of, has_other_sum, joined, nothing, one_found}
+use Rattle.deb_fetch.specs.Founds.{found_of, joined, one_found}
 use Rattle.deb_fetch.specs.Stanzas.{Differ, IsFileOf, IsNamedBy}
 use Rattle.deb_fetch.specs.declared.deb.Deb.{Deb}
 use Rattle.deb_fetch.specs.declared.found.Found.{Found}

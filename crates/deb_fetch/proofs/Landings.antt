@@ -3,8 +3,8 @@ use Rattle.std.proofs.Common.{◌≡◌, ◌≢◌, inl, inr, refl, sym, ap, ◌
 use Rattle.acq_base.specs.Sum.{Fits}
 use Rattle.acq_base.specs.declared.sum.Sum.{Sum}
 use Rattle.acq_outside.specs.Disk.{Files}
-use Rattle.acq_outside.specs.Crash.{State, AllSound, Goes, IsShown, IsSound, IsTorn, Names, after, all_renamed, changed_file, file_at, names_of, reads}
-use Rattle.acq_outside.specs.States.{From, IsNow, IsTold, Since}
+use Rattle.acq_outside.specs.Crash.{State, AllSound, Goes, IsShown, IsSound, IsTorn, after, all_renamed, changed_file, file_at, names_of}
+use Rattle.acq_outside.specs.States.{From, IsNow, IsTold}
 use Rattle.acq_outside.proofs.Going.{goes, no_time, onward, since_map}
 use Rattle.acq_outside.specs.declared.change.DiskCall.{DiskCall}
 use Rattle.acq_outside.specs.declared.change.DiskCall.TheVariants.{Rename, Sync, SyncNames}
@@ -14,7 +14,7 @@ use Rattle.journal_model.specs.Rest.{KeptAtRestSince, file_named, file_now}
 use Rattle.journal_model.proofs.Twice.{partial_other}
 use Rattle.job_fetch.specs.Fetched.{LastsAs, Staging}
 use Rattle.job_fetch.specs.Others.{AllChangeNameAlone, LeavesOthers, OthersLeftSince}
-use Rattle.deb_fetch.specs.Landing.{HasLanded, IsAsOfOrWhole, IsReady, IsSettled, IsSteady, KeepsOthers, Lands, LandsWhole, LandsWholeSince, LeavesWhole, MayLand}
+use Rattle.deb_fetch.specs.Landing.{HasLanded, IsReady, IsSettled, IsSteady, KeepsOthers, Lands, LandsWhole, LandsWholeSince, LeavesWhole, MayLand}
 use Rattle.deb_fetch.proofs.States.{lands_by_steps, names_land, names_ready, names_whole, rename_landed, rename_lands, rename_others, steady_whole, sync_lands, sync_others, sync_steady, torn_lands}
 
 -- one after another

@@ -1,20 +1,20 @@
 -- What is read doesn't rest on the numbers of lines, and what stands behind a separator is read by itself.
-use Rattle.std.proofs.Common.{◌≡◌, ◌⊎◌, ⊎_elim, ℕ, ◌+◌, ◌&&◌, drop, Bool, true, false, if◌then◌else◌, List, [], ◌∷◌, ◌++◌, map, Option, Some, None, option_map, Result, Ok, Err, refl, sym, ap, ◌∙◌, append_assoc}
+use Rattle.std.proofs.Common.{◌≡◌, ⊎_elim, ℕ, ◌+◌, ◌&&◌, drop, Bool, true, false, if◌then◌else◌, List, [], ◌∷◌, ◌++◌, map, Option, Some, None, option_map, Result, refl, sym, ap, ◌∙◌, append_assoc}
 use Rattle.std.proofs.lemmas.List.{append-nil, map-append}
 use Rattle.std.specs.List.{list_all, list_any, before_first, after_first}
 use Rattle.std.specs.Result.{result_ok}
 use Rattle.std.specs.Str.Lines.{lines as text_lines}
 use Rattle.acq_base.specs.Words.{is_blank, trimmed, trimmed_end}
-use Rattle.deb822_text.specs.Control.{Line, Separator, Comment, Continuation, Named, Unknown, is_colon, is_empty, is_hash, begins_with, is_name, has_name, line_of, lines_from, lines_of, reading_of, paragraphs_of}
+use Rattle.deb822_text.specs.Control.{Line, Separator, Comment, Continuation, Named, Unknown, is_colon, is_hash, begins_with, is_name, has_name, line_of, lines_from, lines_of, reading_of, paragraphs_of}
 use Rattle.deb822_text.specs.Names.{names_of}
 use Rattle.deb822_text.specs.Scan.{State, start, add_line, closed, fault_at, step, unless, scan}
 use Rattle.deb822_text.specs.Written.{unplaced, unplaced_field, unplaced_paragraph}
 use Rattle.deb822_text.specs.declared.error.TextError.{TextError}
-use Rattle.deb822_text.specs.declared.error.TextError.TheVariants.{BadField, Twice, Loose}
+use Rattle.deb822_text.specs.declared.error.TextError.TheVariants.{Twice}
 use Rattle.deb822_text.specs.declared.paragraph.Field.{Field}
 use Rattle.deb822_text.specs.declared.paragraph.Paragraph.{Paragraph}
 use Rattle.deb822_text.proofs.Groups.{scan-start}
-use Rattle.deb_fetch.specs.Paragraphs.{EndInBlanks, IsCut, ReadsByParagraphs, read_on, read_plainly}
+use Rattle.deb_fetch.specs.Paragraphs.{EndInBlanks, ReadsByParagraphs, read_on, read_plainly}
 
 -- ---- lines
 

@@ -1,16 +1,16 @@
 -- What paragraphs say of a package doesn't rest on the numbers of lines, and a list says what its paragraphs say.
-use Rattle.std.proofs.Common.{◌≡◌, ℕ, Bool, true, false, cond, if◌then◌else◌, List, [], ◌∷◌, ◌++◌, map, codes, Option, Some, None, option_map, Result, refl, sym, ap, ◌∙◌}
+use Rattle.std.proofs.Common.{◌≡◌, ℕ, Bool, true, false, cond, List, [], ◌∷◌, ◌++◌, map, codes, Option, Some, None, option_map, refl, sym, ap, ◌∙◌}
 use Rattle.std.proofs.lemmas.List.Elements.{filter_map-append}
-use Rattle.std.specs.List.{cons_option, filter_map, find}
+use Rattle.std.specs.List.{cons_option}
 use Rattle.std.specs.Result.{result_ok}
 use Rattle.std.specs.Str.{str_eq_ignore_ascii_case}
 use Rattle.acq_base.specs.declared.uri.Uri.{Uri}
 use Rattle.deb822_text.specs.Control.{field_named, paragraphs_of}
-use Rattle.deb822_text.specs.Written.{unplaced, unplaced_field, unplaced_paragraph}
+use Rattle.deb822_text.specs.Written.{unplaced, unplaced_field}
 use Rattle.deb822_text.specs.declared.paragraph.Field.{Field}
 use Rattle.deb822_text.specs.declared.paragraph.Paragraph.{Paragraph}
 use Rattle.deb_fetch.specs.Paragraphs.{IsCut, read_on, read_plainly}
-use Rattle.deb_fetch.specs.Stanzas.{line_in, line_named, is_line, path_of, stanza_in, stanza_of, stanzas_of, sum_of_lines, told}
+use Rattle.deb_fetch.specs.Stanzas.{line_in, line_named, stanza_in, stanzas_of, told}
 use Rattle.deb_fetch.specs.declared.stanza.Stanza.{Stanza}
 use Rattle.deb_fetch.proofs.Readings.{read-nothing, reads_by_paragraphs}
 

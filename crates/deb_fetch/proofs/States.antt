@@ -1,5 +1,5 @@
 -- One call on a folder into which a package file is fetched, from one state of it to the next.
-use Rattle.std.proofs.Common.{◌≡◌, ◌≢◌, ◌⊎◌, inl, inr, ⊎_elim, refl, sym, ap, ◌∙◌, subst, arith, ℕ, ◌<◌, List, [], ◌∷◌, ◌++◌, length, Option, Some, None, IsSomeAnd, option_map}
+use Rattle.std.proofs.Common.{◌≡◌, ◌≢◌, ◌⊎◌, inl, inr, ⊎_elim, refl, sym, ap, ◌∙◌, subst, ℕ, ◌<◌, List, [], ◌∷◌, ◌++◌, length, Option, Some, None, IsSomeAnd, option_map}
 use Rattle.std.proofs.lemmas.List.{get_or-set_same}
 use Rattle.std.proofs.lemmas.Option.{same_Some}
 use Rattle.acq_base.specs.Sum.{Fits}
@@ -9,7 +9,6 @@ use Rattle.acq_outside.specs.Crash.{State, IsOutcome, IsSubsequence, none, left_
 use Rattle.acq_outside.proofs.Crashes.{file_back, leaves_as_done, names_back, names_last, none_of_none}
 use Rattle.acq_outside.proofs.Outcomes.{only_synced}
 use Rattle.acq_outside.proofs.Traces.{all_push, apart_now}
-use Rattle.acq_outside.specs.declared.change.DiskCall.{DiskCall}
 use Rattle.acq_outside.specs.declared.change.DiskCall.TheVariants.{Rename, Sync, SyncNames}
 use Rattle.acq_outside.specs.declared.state.FileState.{FileState}
 use Rattle.acq_outside.specs.declared.state.NameChange.{NameChange}
@@ -17,7 +16,7 @@ use Rattle.acq_outside.specs.declared.state.NameChange.TheVariants.{Moved}
 use Rattle.journal_model.specs.Names.{partial}
 use Rattle.journal_model.specs.Rest.{file_named}
 use Rattle.journal_model.proofs.Aside.{call_changes, other_file, reads_named}
-use Rattle.journal_model.proofs.Twice.{partial_other, with_other, with_same}
+use Rattle.journal_model.proofs.Twice.{with_other, with_same}
 use Rattle.deb_fetch.specs.Landing.{HasLanded, HasWhole, IsAsOfOrWhole, IsReady, IsSteady, LandsWhole, LeavesWhole, MayLand}
 
 -- ---- images one after another

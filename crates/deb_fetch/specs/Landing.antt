@@ -1,5 +1,5 @@
 -- What a crash leaves of a folder into which a package file is fetched.
-use Rattle.std.specs.Prelude.{◌≡◌, ◌≢◌, ◌⊎◌, ℕ, List, [], Option, Some, IsSomeAnd}
+use Rattle.std.specs.Prelude.{◌≡◌, ◌≢◌, ◌⊎◌, ℕ, List, [], Some, IsSomeAnd}
 use Rattle.acq_base.specs.Sum.{Fits}
 use Rattle.acq_base.specs.declared.sum.Sum.{Sum}
 use Rattle.acq_outside.specs.Crash.{State, IsImage, synced}

@@ -85,7 +85,14 @@ fn find_in_source<D: Disk>(
     ensures told { IsTrue (D.tells disk.old) → IfOk result (λ found. found ≡ found_of (spec.targets_stanzas (D.files disk.old) name.now version.now source.now.base source.now.targets)) }
     ensures sound { IfOk result IsSoundFound }
 {
-    find_in_targets(alloc, disk, &source.base, source.targets.as_slice(), name, version)
+    find_in_targets(
+        alloc,
+        disk,
+        &source.base,
+        source.targets.as_slice(),
+        name,
+        version,
+    )
 }
 
 fn find_in_targets<D: Disk>(

@@ -68,7 +68,10 @@ fn path_of(paragraph: &Paragraph) -> Option<&Text>
 fn sum_of(paragraph: &Paragraph) -> Option<Sum>
     ensures { result ≡ spec.sum_of_lines (spec.line_named paragraph.now.fields (codes "SHA256")) (spec.line_named paragraph.now.fields (codes "Size")) }
 {
-    match (line_named(paragraph, b"SHA256"), line_named(paragraph, b"Size")) {
+    match (
+        line_named(paragraph, b"SHA256"),
+        line_named(paragraph, b"Size"),
+    ) {
         (Some(hash), Some(size)) => read_sum(hash.as_bytes(), size.as_bytes()).ok(),
         _ => None,
     }

@@ -1,4 +1,4 @@
-use Rattle.std.proofs.Common.{◌≡◌, ◌∙◌, rules, arith}
+use Rattle.std.proofs.Common.{◌∙◌, rules, arith}
 use Rattle.acq_outside.proofs.Framed.{stayed_on_counting}
 use Rattle.item_graph.specs.Refinement.{point_of, retries_of}
 use Rattle.item_graph.specs.Single.{single}

@@ -1,4 +1,3 @@
-use Rattle.std.proofs.Common.{sym, ap, ◌∙◌, option_copied}
 use Rattle.item_graph.specs.Refinement.{point_of, retries_of}
 use Rattle.deb_fetch.proofs.Jobs.{has_asked}
 use Rattle.deb_fetch.proofs.asking.ask_once.Goals as goal

@@ -1,4 +1,4 @@
-use Rattle.std.proofs.Common.{◌≡◌, ◌≤◌, ◌∙◌, ap, length, arith}
+use Rattle.std.proofs.Common.{◌≡◌, ◌≤◌, ap, length, arith}
 use Rattle.acq_base.specs.Uri.{uri_text}
 use Rattle.deb_fetch.proofs.Names.{below_path}
 use Rattle.deb_fetch.proofs.finding.file_of.Goals as goal

@@ -1,4 +1,4 @@
-use Rattle.std.proofs.Common.{◌∙◌, ap, subst, sym, IsTrue}
+use Rattle.std.proofs.Common.{◌∙◌, ap}
 use Rattle.acq_base.specs.declared.plan.Target.{Target}
 use Rattle.acq_outside.proofs.Framed.{read_on_counting}
 use Rattle.acq_outside.specs.Disk.{Files}

@@ -1,4 +1,4 @@
-use Rattle.std.proofs.Common.{◌≡◌, ◌+◌, ◌<◌, ◌≤◌, ◌∙◌, length, drop, sym, ap, arith}
+use Rattle.std.proofs.Common.{◌≡◌, ◌∙◌, length, drop, sym, ap, arith}
 use Rattle.std.proofs.lemmas.List.{length-drop}
 use Rattle.deb_fetch.proofs.Cuts.{cut_on, whole_on}
 use Rattle.deb_fetch.proofs.paragraphs.first_paragraph.Goals as goal
