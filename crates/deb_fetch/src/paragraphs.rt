@@ -6,6 +6,7 @@ ghost use Rattle.acq_base.specs.Words.{is_blank as blank};
 ghost use Rattle.deb_fetch.specs.Paragraphs.{IsCut};
 
 use acq_base::is_blank;
+use memchr::memchr;
 
 /// A text that isn't empty, cut behind the first line that separates paragraphs, or at its end.
 pub fn first_paragraph(text: &[u8]) -> (&[u8], &[u8])
@@ -33,11 +34,10 @@ fn line_feed(text: &[u8]) -> usize
     ensures place { result ≡ position_or_len (λ c. c == 10) text.now }
     ensures within { result ≤ length text.now }
 {
-    let mut at = 0;
-    while at < text.len() && text[at] != b'\n' {
-        at += 1;
+    match memchr(b'\n', text) {
+        Some(at) => at,
+        None => text.len(),
     }
-    at
 }
 
 /// Whether a line has nothing but blanks before its end. It stands before a line feed.
