@@ -1,9 +1,11 @@
 -- Where the asks for a package file stand.
-use Rattle.std.specs.Prelude.{◌≡◌, ◌⊎◌, ℕ, zero, suc, ◌+◌, ◌-◌, ◌≤◌, true, List, [], Option, IfSome}
+use Rattle.std.specs.Prelude.{◌≡◌, ◌⊎◌, ℕ, zero, suc, ◌+◌, ◌-◌, ◌≤◌, true, List, [], Option, None, IfSome}
 use Rattle.acq_base.specs.Mirror.{MirrorMap, answer_at}
 use Rattle.acq_outside.specs.Crash.{State}
 use Rattle.acq_outside.specs.States.{IsTold}
 use Rattle.item_graph.specs.Histories.{AgreesAlong, LivesAlong}
+use Rattle.item_graph.specs.Refinement.{asked}
+use Rattle.item_graph.specs.Single.{single}
 use Rattle.job_fetch.specs.Fetched.{IsCounted, IsStagedBody, LastsAs}
 use Rattle.job_fetch.specs.Others.{AllChangeNameAlone}
 use Rattle.journal_model.specs.Names.{partial}
@@ -19,6 +21,7 @@ use Rattle.update_model.specs.declared.end.End.{End}
 use Rattle.update_model.specs.declared.end.End.TheVariants.{Got, Stands, Ended}
 use Rattle.update_model.specs.declared.wanted.Wanted.{Wanted}
 use Rattle.deb_fetch.specs.Causes.{IsMethod, RoseBy, cause_of}
+use Rattle.deb_fetch.specs.declared.deb.Deb.{Deb}
 
 -- no change of another name than the file's on its way is pending
 abbrev pub ChangesPartAlone : List ℕ → State → Type 0
@@ -42,6 +45,13 @@ pub record HasAsked (retries : ℕ) (world : Option MirrorMap) (name : List ℕ)
   pub counted : IsCounted before after closed
   pub staged : IsStagedBody name now closed
   pub answer : IsTold now → IfSome world (λ entries. IsFaultOr closed (answered [] ask (answer_at entries ask.uri)))
+
+-- nothing was asked, and all is as it was
+pub record HasAskedNothing (before after : ℕ) (old now : List State) (p q : Point) : Type 0 where
+  pub none : asked p ≡ None
+  pub same : q ≡ p
+  pub still : now ≡ old
+  pub quiet : after ≡ before
 
 -- the plain asks go on: so many faults may still come at this place
 pub record AsksOn (retries : ℕ) (w : Wanted) (first last : ℕ) (ask : Ask) (faults : ℕ) (next : Ending → Walk) : Type 0 where
@@ -79,11 +89,16 @@ StandsAt retries w name first last now lives (At ask left faults next) = lives �
 
 -- Asks for the file have been answered so since the method's count of faults was the first: they lead to the point, and where
 -- disk and method tell, each answer but a fault is the mirror's.
-pub record IsUnderWay (retries : ℕ) (w : Wanted) (name : List ℕ) (world : Option MirrorMap) (first last : ℕ) (now : List State) (p : Point) : Type 0 where
+pub record IsUnderWay (retries : ℕ) (w : Wanted) (name : List ℕ) (world : Option MirrorMap)
+    (first last : ℕ) (now : List State) (p : Point) : Type 0 where
   pub told : List LaneAnswer
   pub heard : p ≡ run retries (start retries (plain_walk w)) told
   pub agrees : IsTold now → IfSome world (λ entries. AgreesAlong entries [] retries (start retries (plain_walk w)) told)
   pub stands : StandsAt retries w name first last now (LivesAlong retries (start retries (plain_walk w)) told) p
+
+-- and of a package file
+abbrev pub IsUnderWayTo : Deb → ℕ → Option MirrorMap → ℕ → ℕ → List State → Point → Type 0
+IsUnderWayTo deb retries world first last now p = IsUnderWay retries (single deb.uri deb.path deb.sum) deb.file.0 world first last now p
 
 -- how many asks may come behind so many moves
 abbrev pub asks_behind : ℕ → ℕ → ℕ

@@ -22,7 +22,8 @@ leads_up path = list_any is_dot_dot (slice_split is_slash path)
 -- 1 to 1,024 letters, digits and `._-+~:/`, without a segment `..`, the last segment a file's
 unfoldable pub is_deb_path : List ℕ → Bool
 is_deb_path path =
-    nat_le 1 (length path) && nat_le (length path) 1024 && list_all is_below_character path && not (leads_up path) && may_name_file (file_name_of path)
+    nat_le 1 (length path) && nat_le (length path) 1024 && list_all is_below_character path && not (leads_up path)
+    && may_name_file (file_name_of path)
 
 -- the name of a package file: the last segment of such a path
 pub record IsDebName (name : List ℕ) : Type 0 where

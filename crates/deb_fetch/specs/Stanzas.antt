@@ -59,7 +59,8 @@ stanza_of base (Some path) (Some sum) = Some (record { base = base; path = path;
 unfoldable pub stanza_in : Uri → List ℕ → List ℕ → List Field → Option Stanza
 stanza_in base name version fields =
     if is_line (line_named fields (codes "Package")) name && is_line (line_named fields (codes "Version")) version
-    then stanza_of base (path_of (line_named fields (codes "Filename"))) (sum_of_lines (line_named fields (codes "SHA256")) (line_named fields (codes "Size")))
+    then stanza_of base (path_of (line_named fields (codes "Filename")))
+    (sum_of_lines (line_named fields (codes "SHA256")) (line_named fields (codes "Size")))
     else None
 
 -- ---- lists

@@ -5,12 +5,12 @@ ghost use Rattle.acq_outside.specs.Fetches.{Fetches};
 ghost use Rattle.acq_outside.specs.States.{IsNow, IsTold};
 ghost use Rattle.acq_outside.specs.Stays.{StaysCounting};
 ghost use Rattle.item_graph.specs.Refinement.{asked, point_of, retries_of};
-ghost use Rattle.item_graph.specs.Single.{file_walk, single};
+ghost use Rattle.item_graph.specs.Single.{file_walk};
 ghost use Rattle.item_graph.specs.Sound.{IsSoundAt};
 ghost use Rattle.job_fetch.specs.Fetched.{Staging};
 ghost use Rattle.journal_model.specs.Names.{IsPutName};
 ghost use Rattle.update_model.specs.Points.{start};
-ghost use Rattle.deb_fetch.specs.Asking.{AsksWhole, HasAsked, IsUnderWay};
+ghost use Rattle.deb_fetch.specs.Asking.{AsksWhole, HasAsked, HasAskedNothing, IsUnderWayTo};
 ghost use Rattle.deb_fetch.specs.Causes as causes;
 ghost use Rattle.deb_fetch.specs.Filenames.{IsDebName};
 ghost use Rattle.deb_fetch.specs.Landing.{IsReady, IsSettled, Lands};
@@ -72,8 +72,8 @@ fn ask_all<D: Disk, M: Method>(
     ensures staging { Staging deb.now.file.0 (D.trace place.old) (D.trace place.new) }
 
     ensures none { OnOk result (asked (point_of item.new) ≡ None) }
-    ensures under { OnOk result (IsUnderWay settings.now.retries (single deb.now.uri deb.now.path deb.now.sum) deb.now.file.0
-        (M.world method.old) (M.faults method.old) (M.faults method.new) (D.trace place.new) (point_of item.new)) }
+    ensures under { OnOk result (IsUnderWayTo deb.now settings.now.retries (M.world method.old)
+        (M.faults method.old) (M.faults method.new) (D.trace place.new) (point_of item.new)) }
 {
     'asks: loop {
         if !ask_once(alloc, place, &deb.file, method, item)? {
@@ -100,9 +100,9 @@ fn ask_once<D: Disk, M: Method>(
 
     ensures sound { OnOk result (IsSoundAt (point_of item.new)) }
     ensures retries { OnOk result (retries_of item.new ≡ retries_of item.old) }
-    ensures none { IfOk result (λ more. more ≡ false → (asked (point_of item.old) ≡ None) × (point_of item.new ≡ point_of item.old)
-        × (D.trace place.new ≡ D.trace place.old) × (M.faults method.new ≡ M.faults method.old)) }
-    ensures more { IfOk result (λ more. more ≡ true → HasAsked (retries_of item.old) (M.world method.old) file.now.0
+    ensures none { IfOk result (λ more. more ≡ false → HasAskedNothing (M.faults method.old) (M.faults method.new)
+        (D.trace place.old) (D.trace place.new) (point_of item.old) (point_of item.new)) }
+    ensures more { IfOk result (λ b. b ≡ true → HasAsked (retries_of item.old) (M.world method.old) file.now.0
         (M.faults method.old) (M.faults method.new) (D.trace place.new) (point_of item.old) (point_of item.new)) }
 {
     let job = match item.ask() {

@@ -1,5 +1,5 @@
 //! A package file, fetched into a folder. It may take memory.
-ghost use Rattle.std.specs.Prelude.{◌≡◌, None, IfOk, IsTrue};
+ghost use Rattle.std.specs.Prelude.{◌≡◌, ◌⊎◌, None, IfErr, IfOk, IsTrue};
 ghost use Rattle.acq_base.specs.Uri.{IsSound};
 ghost use Rattle.acq_outside.specs.Fetches.{Fetches};
 ghost use Rattle.acq_outside.specs.States.{IsNow, Since};
@@ -45,6 +45,7 @@ pub fn fetch_deb<D: Disk, M: Method>(
         → IfOk result (causes.IsAnswerOf (M.world method.old) (D.files place.old deb.now.file.0) deb.now) }
     ensures failed { IfOk result (λ end. causes.IsMethod end
         → causes.HasFailed settings.now.retries (M.faults method.old) (M.faults method.new) deb.now end) }
+    ensures only { IfErr result (λ error. (error ≡ DebError.DiskFault) ⊎ (error ≡ DebError.NoMemory)) }
     ensures route { IfOk result (causes.IsEndOfRoute settings.now.retries deb.now) }
 {
     settle_names(place, deb)?;

@@ -61,7 +61,8 @@ fn find_in_plan<D: Disk>(
 ) -> Result<Found, OutError>
     requires { All IsPlanned sources.now }
     ensures frame { ReadsCounting OutError.Fault D.Disk disk.old disk.new result }
-    ensures told { IsTrue (D.tells disk.old) → IfOk result (λ found. found ≡ found_of (spec.sources_stanzas (D.files disk.old) name.now version.now sources.now)) }
+    ensures told { IsTrue (D.tells disk.old)
+        → IfOk result (λ found. found ≡ found_of (spec.sources_stanzas (D.files disk.old) name.now version.now sources.now)) }
     ensures sound { IfOk result IsSoundFound }
 {
     let mut found = Found::nothing();
@@ -82,7 +83,8 @@ fn find_in_source<D: Disk>(
 ) -> Result<Found, OutError>
     requires { IsPlanned source.now }
     ensures frame { ReadsCounting OutError.Fault D.Disk disk.old disk.new result }
-    ensures told { IsTrue (D.tells disk.old) → IfOk result (λ found. found ≡ found_of (spec.targets_stanzas (D.files disk.old) name.now version.now source.now.base source.now.targets)) }
+    ensures told { IsTrue (D.tells disk.old)
+        → IfOk result (λ found. found ≡ found_of (spec.targets_stanzas (D.files disk.old) name.now version.now source.now.base source.now.targets)) }
     ensures sound { IfOk result IsSoundFound }
 {
     find_in_targets(
@@ -106,7 +108,8 @@ fn find_in_targets<D: Disk>(
     requires base { IsSound base.now }
     requires names { All (λ target. IsName target.name.0) targets.now }
     ensures frame { ReadsCounting OutError.Fault D.Disk disk.old disk.new result }
-    ensures told { IsTrue (D.tells disk.old) → IfOk result (λ found. found ≡ found_of (spec.targets_stanzas (D.files disk.old) name.now version.now base.now targets.now)) }
+    ensures told { IsTrue (D.tells disk.old)
+        → IfOk result (λ found. found ≡ found_of (spec.targets_stanzas (D.files disk.old) name.now version.now base.now targets.now)) }
     ensures sound { IfOk result IsSoundFound }
 {
     let mut found = Found::nothing();
@@ -129,7 +132,8 @@ fn find_in_target<D: Disk>(
     requires base { IsSound base.now }
     requires name { IsName target.now.name.0 }
     ensures frame { ReadsCounting OutError.Fault D.Disk disk.old disk.new result }
-    ensures told { IsTrue (D.tells disk.old) → IfOk result (λ found. found ≡ found_of (spec.target_stanzas (D.files disk.old) name.now version.now base.now target.now)) }
+    ensures told { IsTrue (D.tells disk.old)
+        → IfOk result (λ found. found ≡ found_of (spec.target_stanzas (D.files disk.old) name.now version.now base.now target.now)) }
     ensures sound { IfOk result IsSoundFound }
 {
     if !lists_packages(&target.kind) {

@@ -66,7 +66,7 @@ fn path_of(paragraph: &Paragraph) -> Option<&Text>
 
 /// The sum of the file.
 fn sum_of(paragraph: &Paragraph) -> Option<Sum>
-    ensures { result ≡ spec.sum_of_lines (spec.line_named paragraph.now.fields (codes "SHA256")) (spec.line_named paragraph.now.fields (codes "Size")) }
+    ensures { let fields = paragraph.now.fields in result ≡ spec.sum_of_lines (spec.line_named fields (codes "SHA256")) (spec.line_named fields (codes "Size")) }
 {
     match (
         line_named(paragraph, b"SHA256"),

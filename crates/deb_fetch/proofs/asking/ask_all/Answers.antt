@@ -53,4 +53,4 @@ returns-then-not-branch-clause-staging g c = staging_more _ _ _ _ c.asks.invaria
 pub returns-then-not-branch-clause-under : goal.returns-then-not-branch-clause-under
 returns-then-not-branch-clause-under g c =
     let none = c.in_ok-ask_once.ensures.none c.if-not-branch.true in
-    same_under _ _ _ _ _ _ _ _ _ _ _ none.3 none.2 none.1 c.asks.invariant.under
+    same_under _ _ _ _ _ _ _ _ _ _ _ none.quiet none.still none.same c.asks.invariant.under
