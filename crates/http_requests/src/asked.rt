@@ -98,8 +98,8 @@ pub fn asked(
     spans: &[HeaderSpan],
 ) -> Result<Request, NoMemory>
     requires { IsRequestWithin text.now spans.now head }
-    ensures { IfOk result (λ request. request ≡ spec.request_by (span_bytes text.now head.method) (span_bytes text.now head.path)
-        head.version (map (header_bytes text.now) (take head.headers spans.now))) }
+    ensures { IfOk result (λ request. request ≡ spec.request_by
+        (span_bytes text.now head.method) (span_bytes text.now head.path) head.version (map (header_bytes text.now) (take head.headers spans.now))) }
 {
     let (front, _) = spans.split_at(head.headers);
     let fields = Fields {

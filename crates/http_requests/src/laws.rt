@@ -5,10 +5,12 @@ ghost use Rattle.httparse.specs.Grammar.{RequestHead};
 ghost use Rattle.http_wire.specs.Forms.{Whole};
 ghost use Rattle.http_requests.specs.Heads.{IsBad, IsUnfinished, request_form};
 
-/// A text has one reading: it begins with one head, or else with none; and one that is unfinished isn't bad.
+/// A text has at most one reading: it begins with one head at most; where it begins with one it is neither unfinished nor
+/// bad; and one that is unfinished isn't bad.
 #[tactic(auto, using(crate::proofs::Parsed::one_head, crate::proofs::Parsed::not_both))]
 pub fn one_request()
-    ensures head { (text : List ℕ) (h k : RequestHead) (r q : List ℕ) → Whole request_form text h r → Whole request_form text k q → (h ≡ k) × (r ≡ q) }
+    ensures head { (text : List ℕ) (h k : RequestHead) (r q : List ℕ)
+        → Whole request_form text h r → Whole request_form text k q → (h ≡ k) × (r ≡ q) }
     ensures unfinished { (text : List ℕ) (h : RequestHead) (rest : List ℕ) → Whole request_form text h rest → ¬ (IsUnfinished text) }
     ensures bad { (text : List ℕ) (h : RequestHead) (rest : List ℕ) → Whole request_form text h rest → ¬ (IsBad text) }
     ensures apart { (text : List ℕ) → IsUnfinished text → ¬ (IsBad text) }
@@ -17,5 +19,6 @@ pub fn one_request()
 /// A whole head stays whole, whatever follows it.
 #[tactic(auto, using(crate::proofs::Parsed::head_stays))]
 pub fn requests_stay()
-    ensures { (text more : List ℕ) (h : RequestHead) (rest : List ℕ) → Whole request_form text h rest → Whole request_form (text ++ more) h (rest ++ more) }
+    ensures { (text more : List ℕ) (h : RequestHead) (rest : List ℕ)
+        → Whole request_form text h rest → Whole request_form (text ++ more) h (rest ++ more) }
 {}

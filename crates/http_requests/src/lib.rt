@@ -1,10 +1,12 @@
-//! What a server reads of the bytes that a peer sent: the head of one request, and what it asks for (RFC 9110, RFC 9112).
+//! What a server reads of the bytes that a peer sent: the head of one request, and what it asks for (RFC 9110, RFC
+//! 9112).
 //!
-//! Nothing here opens a connection or knows a file. `read_request` says of a text whether it begins with a whole head, within
-//! 65,536 bytes and 128 fields, whether none can come, or whether one may still come, exactly as `specs/` has it of all its
-//! bytes; and of a whole head what it asks for. That is its method, the path of its target, in either form, the byte from
-//! which a part is asked for, whether it is proper, which is that it has no body and names one host, and whether no further
-//! request follows it. A text of which a part lies within the target is judged by its length alone. A text has one reading
+//! Nothing here opens a connection or knows a file. `read_request` says of a text whether it begins with a whole head,
+//! within 65,536 bytes and 128 fields, whether none can come, or whether one may still come, exactly as `specs/` has
+//! it of all its bytes; and of a whole head what it asks for. That is its method, the path of its target, in either
+//! form, the byte from which a part is asked for, whether it is proper, which is that it has no body and names one
+//! host, and whether no further request follows it. Of a text that has one space and no line feed behind its empty
+//! lines, so that it may end within the target, nothing is judged but its length. A text has at most one reading
 //! (`one_request`, a law), and a whole head stays whatever follows it (`requests_stay`, a law). Only tested: that the
 //! definitions say what the RFCs and this profile do.
 #![tactic(auto)]

@@ -19,6 +19,7 @@ pub struct Request {
     /// No body follows it, and it names one host, which a request of version 1.0 may leave out (RFC 9112, sections 3.2 and
     /// 6.3).
     pub proper: bool,
+    /// What is to be done; names of methods are told apart by case (RFC 9110, section 9.1).
     pub method: Method,
     /// The path of its target, in the origin form or the absolute form (RFC 9112, section 3.2).
     pub path: Text,

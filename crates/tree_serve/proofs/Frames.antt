@@ -1,5 +1,5 @@
 -- The frame over calls one after another.
-use Rattle.std.proofs.Common.{◌≡◌, ◌≢◌, ◌∙◌, ◌≤◌, ℕ, None, ap, sym, subst, refl, arith, Result, Ok, Err, Option}
+use Rattle.std.proofs.Common.{◌≡◌, ◌≢◌, ◌∙◌, ◌≤◌, ℕ, None, ap, sym, subst, refl, arith, Result, Ok, Err, Option, ◌<◌}
 use Rattle.acq_outside.specs.Frame.{CountsOnly, LooksBy, LooksCountingBy}
 use Rattle.acq_outside.specs.declared.fault.OutError.{OutError}
 use Rattle.acq_outside.specs.declared.fault.OutError.TheVariants as outs
@@ -110,11 +110,11 @@ serves_by_fault {P} {T} {A} {B} {E} {p} {t} {a} {x} {y} {e} looked = record {
 }
 
 -- it gave nothing of a file that should have gone on
-pub serves_by_shrunk : {P T A B E : Type 0} {p : PortGhosts P} {t : TreeGhosts T} {a : P} {x y : T} {v : B} (size got : ℕ) → t.files x ≡ None → LooksBy {T = B} {E = E} t.faults t.files x y (Ok v) → Serves {A = A} p t a a x y (Err (Shrunk size got))
-serves_by_shrunk {P} {T} {A} {B} {E} {p} {t} {a} {x} {y} {v} size got untold looked = record {
+pub serves_by_shrunk : {P T A B E : Type 0} {p : PortGhosts P} {t : TreeGhosts T} {a : P} {x y : T} {v : B} (size got : ℕ) → t.files x ≡ None → got < size → LooksBy {T = B} {E = E} t.faults t.files x y (Ok v) → Serves {A = A} p t a a x y (Err (Shrunk size got))
+serves_by_shrunk {P} {T} {A} {B} {E} {p} {t} {a} {x} {y} {v} size got untold fewer looked = record {
   port_is = unused_err p a (Shrunk size got) (λ e. let x : ⊥ = cc in x);
   tree_is = record { counts = record { count = looked.count; fault = λ is. absurd cc; quiet = tt; dry = λ other. looked.quiet }; same = looked.same };
-  shrunk = untold;
+  shrunk = record { 0 = untold; 1 = fewer };
 }
 
 -- it gave what was asked

@@ -67,7 +67,7 @@ next_failed {P} {T} {A} p t root a b c x y e r is accepted quiet others now cut 
     by : (e : ServeError) → Serves {A = A} p t b c x y (Err e) → OnOk (stop_of e) (HasServedNext p t root a c x y)
     by PortFault now = cut_short (inl (subst (λ n. Rose n (p.faults c)) quiet (now.port_is.fault refl)))
     by TreeFault now = cut_short (inr (now.tree_is.fault refl))
-    by (Shrunk size got) now = next_untold (t.files x) (p.talks a) root (p.faults a) (t.faults x) (p.talks c) (p.faults c) (t.faults y) now.shrunk
+    by (Shrunk size got) now = next_untold (t.files x) (p.talks a) root (p.faults a) (t.faults x) (p.talks c) (p.faults c) (t.faults y) now.shrunk.0
     by NoMemory now = tt
 
 -- ---- all of them

@@ -1,5 +1,5 @@
 -- The frame of a call over a port and a tree: how their counts go whatever it answers, and what it leaves as it was.
-use Rattle.std.specs.Prelude.{◌≡◌, ◌≤◌, Option, None, Result, Ok, Err, IfErr}
+use Rattle.std.specs.Prelude.{◌≡◌, ◌≤◌, ◌<◌, Option, None, Result, Ok, Err, IfErr}
 use Rattle.acq_outside.specs.Frame.{CountsOnly}
 use Rattle.acq_outside.specs.declared.fault.OutError.{OutError}
 use Rattle.acq_outside.specs.declared.fault.OutError.TheVariants as outs
@@ -14,11 +14,11 @@ abbrev pub serve_error_of : OutError → ServeError
 serve_error_of outs.Fault = TreeFault
 serve_error_of outs.NoMemory = NoMemory
 
--- a file ended before its size only where the tree doesn't tell its files
+-- a file ended before its size only where the tree doesn't tell its files; and it is told that it gave fewer bytes
 abbrev pub IsUntoldIfShrunk : {F : Type 0} → Option F → ServeError → Type 0
 IsUntoldIfShrunk files PortFault = Unit {0}
 IsUntoldIfShrunk files TreeFault = Unit {0}
-IsUntoldIfShrunk files (Shrunk size got) = files ≡ None
+IsUntoldIfShrunk files (Shrunk size got) = (files ≡ None) × (got < size)
 IsUntoldIfShrunk files NoMemory = Unit {0}
 
 -- no error of a tree

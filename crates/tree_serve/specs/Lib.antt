@@ -1,4 +1,5 @@
--- Public clauses cite all but Hearing, Sending and Turns, which serve the crate's own functions alone.
+-- Hearing, Sending and Turns serve the crate's own functions alone, as Goes of Talks and HasServedNext of Connections do;
+-- public clauses cite all others.
 pub mod Answers
 pub mod Texts
 pub mod Streams

@@ -36,7 +36,8 @@ fn file_answer<T: Tree>(tree: &mut T, path: &Text, request: &Request) -> Result<
     ensures frame { LooksBy T.faults T.files tree.old tree.new result }
     ensures sound { IfOk result spec.IsSound }
     ensures of { IfSome (T.files tree.old) (λ files. IfOk result (spec.IsOf (content_at files path.now))) }
-    ensures told { IfSome (T.files tree.old) (λ files. IfOk result (spec.IsFileAnswer (spec.size_at files path.now) request.now.path request.now.from)) }
+    ensures told { IfSome (T.files tree.old) (λ files.
+        IfOk result (spec.IsFileAnswer (spec.size_at files path.now) request.now.path request.now.from)) }
 {
     if !is_below(request.path.as_bytes()) {
         return Ok(Answer::NotFound);

@@ -4,7 +4,7 @@ ghost use Rattle.std.specs.Prelude.{◌≡◌, ℕ, Bool, List};
 ghost use Rattle.acq_outside.specs.Tree.{TreeFiles};
 ghost use Rattle.tree_serve.specs.Streams.{CutResponses, IsFrontOf, Responses};
 
-/// There is one answer to the bytes of a connection: what is sent, by how many responses, and whether the last closes.
+/// There is at most one answer to the bytes of a connection: what is sent, by how many responses, and whether the last closes.
 #[tactic(auto, using(crate::proofs::Streams::one_answer))]
 pub fn one_answer()
     ensures { (files : TreeFiles) (root bytes a b : List ℕ) (m n : ℕ) (p q : Bool)

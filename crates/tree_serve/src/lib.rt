@@ -1,16 +1,19 @@
 //! A server of a tree of files over HTTP/1.1 (RFC 9110, RFC 9112).
 //!
-//! What is sent for the bytes that a connection brings is defined once, on all of them together (`specs/`): the requests at
-//! their front are answered one after another, each by one of six answers, until one closes the connection or no whole
-//! request is left. There is at most one such text (`one_answer`, a law). `plan` says which response a request gets, without a
-//! byte of the file in memory (`plan`). `serve_one` serves one connection: where port and tree tell, what was sent is
-//! what is to be sent for all that was received, of so many responses, and the peer has ended or the last one closes
-//! (`served`); an error leaves a part of that from its beginning on (`cut`, and `cuts_are_fronts`, a law), and comes only for
-//! its cause (`frame`). `serve` serves so many connections one after another (`served`): an error of a connection, of the
-//! tree or of a file ends that connection alone, and no more connections were cut short than counts of faults rose; it stops
-//! before only where the port couldn't listen or accept, whose count `lost` rose then, or for want of memory (`frame`). By the
-//! form of the code, and no clause: a connection is closed behind its last response and behind each error, and at most 64 KiB
-//! of a file are in memory. Only tested: that the definitions say what the RFCs and this profile do.
+//! What is sent for the bytes that a connection brings is defined once, on all of them together (`specs/`): the
+//! requests at their front are answered one after another, each by one of six answers, until one closes the connection
+//! or no whole request is left. There is at most one such text (`one_answer`, a law). `plan` says which response a
+//! request gets, without a byte of the file in memory (`plan`). `serve_one` serves one connection: where port and tree
+//! tell, what was sent is what is to be sent for all that was received, of so many responses, and the peer has ended
+//! or the last one closes (`served`); an error leaves a part of that from its beginning on (`cut`, and
+//! `cuts_are_fronts`, a law), and comes only for its cause (`frame`). `serve` listens where it is told to (`at`) and
+//! serves so many connections one after another, where port and tree tell (`served`): an error of a connection, of the
+//! tree or of a file ends that connection alone, and no more connections were cut short than the counts of faults rose
+//! by; it stops before only where the port couldn't listen or accept, whose count `lost` rose then, or for want of
+//! memory (`frame`). By the form of the code, and no clause: a connection is closed behind its last response and
+//! behind each error; an answer goes out before more is received; `plan` reads no byte of a file; and in memory are at
+//! most 64 KiB of a file, and of what is unread a head's 64 KiB and one piece more. Only tested: that the definitions
+//! say what the RFCs and this profile do.
 #![tactic(auto)]
 
 pub use answer::Answer;

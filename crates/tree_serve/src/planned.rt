@@ -5,6 +5,7 @@ use acq_base::{Bytes, Text};
 /// All that is to be sent of a response: its head, and bytes of a file.
 #[derive(Debug, Drop)]
 pub struct Planned {
+    /// The status line and the fields, with the empty line behind them.
     pub head: Bytes,
     /// The path of the file.
     pub path: Text,

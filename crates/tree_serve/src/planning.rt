@@ -15,6 +15,8 @@ use std::alloc::Global;
 
 /// The response of this number on its connection, counted from 1, to a request over the files below `root`. No byte of a file
 /// is read. The 10,000th closes the connection.
+///
+/// `Fault` only where the tree's count of faults rose, `NoMemory` where memory runs out.
 #[tactic(auto, using(crate::proofs::Plans::planned_in, crate::proofs::Plans::within_in))]
 pub fn plan<T: Tree>(
     alloc: Global,

@@ -1,5 +1,5 @@
 //! Serves one connection after another.
-ghost use Rattle.std.specs.Prelude.{◌≡◌, OnOk};
+ghost use Rattle.std.specs.Prelude.{◌≡◌, OnOk, Some};
 ghost use Rattle.tree_serve.specs.Connections.{HasServedAll, HasServedNext};
 ghost use Rattle.tree_serve.specs.Frame.{Stops, stop_of};
 
@@ -12,6 +12,8 @@ use std::alloc::Global;
 
 /// Serves so many connections of the port of this number one after another, from the files below `root`, and ends. A fault of
 /// a connection or of the tree, and a file that became shorter, end that connection alone.
+///
+/// `Port` where the port can't listen or accept, which its count `lost` tells; `NoMemory` where memory runs out.
 pub fn serve<P: Port, T: Tree>(
     alloc: Global,
     port: &mut P,
@@ -21,6 +23,7 @@ pub fn serve<P: Port, T: Tree>(
     connections: u64,
 ) -> Result<(), Stop>
     ensures frame { Stops P.Port T.Tree port.old port.new tree.old tree.new result }
+    ensures at { OnOk result (P.at port.new ≡ Some number) }
     ensures served { OnOk result (HasServedAll P.Port T.Tree root.now connections port.old port.new tree.old tree.new) }
 {
     if port.listen(number).is_err() {
@@ -40,6 +43,7 @@ fn serve_next<P: Port, T: Tree>(
     root: &Text,
 ) -> Result<(), Stop>
     ensures frame { Stops P.Port T.Tree port.old port.new tree.old tree.new result }
+    ensures at { P.at port.new ≡ P.at port.old }
     ensures served { OnOk result (HasServedNext P.Port T.Tree root.now port.old port.new tree.old tree.new) }
 {
     if port.accept().is_err() {

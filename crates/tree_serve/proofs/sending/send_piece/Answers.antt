@@ -1,4 +1,4 @@
-use Rattle.std.proofs.Common.{◌+◌, subst}
+use Rattle.std.proofs.Common.{◌+◌, arith, subst}
 use Rattle.acq_net.specs.Talks.{SendsPartOfLatest}
 use Rattle.tree_serve.proofs.Frames.{serves_by_shrunk}
 use Rattle.tree_serve.proofs.Sent.{read_part_in, untold}
@@ -7,7 +7,8 @@ use Rattle.tree_serve.proofs.sending.send_piece.Goals as goal
 pub returns-then-n-eq0-clause-frame : goal.returns-then-n-eq0-clause-frame
 returns-then-n-eq0-clause-frame g c =
     serves_by_shrunk (c.args.at + c.args.left) c.args.at
-    (untold (g.T.Tree.files c.args.tree.now) c.args.path.now c.args.at c.in-Ok.n c.args.left c.read_some.new.room c.requires.some c.if-n-eq0.true c.requires.within c.in-Ok.ensures.told) c.in-Ok.ensures.frame
+    (untold (g.T.Tree.files c.args.tree.now) c.args.path.now c.args.at c.in-Ok.n c.args.left c.read_some.new.room c.requires.some c.if-n-eq0.true c.requires.within c.in-Ok.ensures.told)
+    (let left = c.requires.some in omega (arith, left)) c.in-Ok.ensures.frame
 
 pub returns-in_err-send-clause-part : goal.returns-in_err-send-clause-part
 returns-in_err-send-clause-part g c =
