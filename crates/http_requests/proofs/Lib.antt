@@ -1,0 +1,4 @@
+pub mod EmptyLines
+pub mod Lines
+pub mod Parsed
+pub mod Asking

@@ -1,0 +1,9 @@
+pub mod Sizes
+pub mod Plans
+pub mod Saying
+pub mod Sent
+pub mod Streams
+pub mod Turns
+pub mod Served
+pub mod Heard
+pub mod Frames

@@ -1,0 +1,12 @@
+-- The segments that `split` gives.
+use Rattle.std.proofs.Common.{rules, tests}
+use Rattle.std.proofs.lemmas.Iterator.Search.{all_from_yields_List}
+use Rattle.std.proofs.lemmas.Iterator.Splits.{YieldsList-from_slice_split}
+use Rattle.tree_serve.specs.Answers.{is_name, is_slash}
+use Rattle.tree_serve.proofs.paths.are_names.Goals as goal
+
+pub returns : goal.returns
+returns c =
+    all_from_yields_List is_name _ _ _ c.all.ensures.ran
+    (YieldsList-from_slice_split _ is_slash c.args.names.now c.split.ensures.rest c.split.ensures.done c.split.ensures.closure (λ x r q k. search (rules, tests)))
+    (λ x b q k. search (rules, tests))
