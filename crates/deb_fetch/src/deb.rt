@@ -1,0 +1,14 @@
+//! The file of a package. It touches nothing.
+
+use acq_base::{ListName, Sum, Text, Uri};
+
+/// The file of a version of a package, as installed lists name it.
+#[derive(Debug, PartialEq, Drop)]
+pub struct Deb {
+    pub uri: Uri,
+    /// Where it is below the base of its source, as the list has it.
+    pub path: Text,
+    /// The last segment of the path, under which it is fetched.
+    pub file: ListName,
+    pub sum: Sum,
+}
