@@ -12,8 +12,8 @@
 //! them (`moments`), and at the end these are as they were (`others`). Where disk and method tell, the answer is none
 //! where the file was there and fits, or the mirror leads to it within its size, and else the cause that this shows; or it
 //! is the method (`answer`), which is told only where its count of faults rose by one more than an ask may be repeated,
-//! with two counts of this call (`failed`). Whatever tells, the cause is how a route of plain asks ended (`route`). A fault
-//! of the folder comes only where its count rose (`frame`).
+//! with two counts of this call (`failed`). Whatever tells, the cause is how a route of plain asks ended (`route`). Its errors
+//! are a fault of the folder, which comes only where its count rose, and want of memory (`frame`, `only`).
 #![tactic(auto)]
 
 pub use deb::Deb;
