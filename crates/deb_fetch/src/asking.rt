@@ -1,5 +1,5 @@
 //! A package file, asked for until it came or there is a cause why it doesn't. It may take memory.
-ghost use Rattle.std.specs.Prelude.{◌≡◌, false, true, None, IfOk, OnOk};
+ghost use Rattle.std.specs.Prelude.{◌≡◌, false, true, None, IfOk, IsTrue, OnOk};
 ghost use Rattle.acq_base.specs.Uri.{IsSound};
 ghost use Rattle.acq_outside.specs.Fetches.{Fetches};
 ghost use Rattle.acq_outside.specs.States.{IsNow, IsTold};
@@ -39,6 +39,7 @@ pub fn obtain<D: Disk, M: Method>(
     ensures method { Fetches M.Method method.old method.new }
 
     ensures lands { Lands deb.now.file.0 deb.now.sum (D.trace place.old) (D.trace place.new) }
+    ensures kept { IsTrue (D.tells place.old) → D.files place.new deb.now.file.0 ≡ D.files place.old deb.now.file.0 }
     ensures ready { IfOk result (λ end. end ≡ None → IsNow (IsReady deb.now.file.0 deb.now.sum) (D.trace place.new)) }
 
     ensures answer { IsTold (D.trace place.new) → IfOk result (causes.IsAnswerOf (M.world method.old) None deb.now) }

@@ -1,5 +1,5 @@
 //! A package file, fetched into a folder. It may take memory.
-ghost use Rattle.std.specs.Prelude.{◌≡◌, ◌⊎◌, None, IfErr, IfOk, IsSomeAnd, IsTrue};
+ghost use Rattle.std.specs.Prelude.{◌≡◌, ◌⊎◌, None, IfErr, IfOk, IsSome, IsSomeAnd, IsTrue};
 ghost use Rattle.acq_base.specs.Sum.{Fits};
 ghost use Rattle.acq_base.specs.Uri.{IsSound};
 ghost use Rattle.acq_outside.specs.Fetches.{Fetches};
@@ -41,6 +41,9 @@ pub fn fetch_deb<D: Disk, M: Method>(
     ensures moments { Since (D.trace place.old) (D.trace place.new) (LandsWholeSince deb.now.file.0 deb.now.sum (D.trace place.old)) }
     ensures others { KeepsOthers deb.now.file.0 (D.trace place.old) (D.trace place.new) }
     ensures whole { IfOk result (λ end. end ≡ None → IsNow (LeavesWhole deb.now.file.0 deb.now.sum) (D.trace place.new)) }
+
+    ensures kept { IsTrue (D.tells place.old) → IfOk result (λ end. IsSome end
+        → D.files place.new deb.now.file.0 ≡ D.files place.old deb.now.file.0) }
 
     ensures unasked { IsTrue (D.tells place.old) → IsSomeAnd (D.files place.old deb.now.file.0) (λ bytes. Fits bytes deb.now.sum)
         → M.begins method.new ≡ M.begins method.old }
