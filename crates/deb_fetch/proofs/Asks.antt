@@ -68,6 +68,10 @@ rose_out retries first before after (inl low) grew (inl more) = inl (omega (arit
 rose_out retries first before after (inl low) grew (inr full) = inr full
 rose_out retries first before after (inr full) grew rose = inr (omega (arith, full, grew))
 
+rose_before : (retries first before from : ℕ) → RoseBy (retries - 0) first before → from ≡ before → RoseBy retries first from
+rose_before retries first before from (inl low) same = inl (omega (arith, low, same))
+rose_before retries first before from (inr full) same = inr (omega (arith, full, same))
+
 none_rose : (retries first before after : ℕ) → first ≤ before → after ≡ before → RoseBy (retries - retries) first after
 none_rose retries first before after grew same = inl (omega (arith, grew, same))
 
@@ -108,7 +112,8 @@ module _ (retries : ℕ) (w : Wanted) (name : List ℕ) (first before after : �
           rose = rose_out retries first before after on.rose grew counted.2;
           begins = omega (arith, on.grew, counted.0);
           upward = omega (arith, grew, counted.0, counted.1);
-          ends = omega (arith, counted.1);
+          others = rose_before retries first before from on.rose counted.0;
+          ends = counted.1;
         }),
         tt,
       )
@@ -267,7 +272,8 @@ dead_cause retries deb first last end died = record {
   last = died.upto;
   is = ap cause_of died.is;
   rose = died.rose;
-  from = died.begins;
+  begins = died.begins;
+  from = died.others;
   upward = died.upward;
   upto = died.ends;
 }

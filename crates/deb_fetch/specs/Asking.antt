@@ -69,8 +69,9 @@ pub record HasDied (retries : ℕ) (w : Wanted) (first last : ℕ) (end : End) :
   pub is : end ≡ Ended (Method w.path 0 from upto)
   pub rose : RoseBy (retries + 1) first last
   pub begins : first ≤ from
+  pub others : RoseBy retries first from
   pub upward : from ≤ upto
-  pub ends : upto ≤ last
+  pub ends : upto ≡ last
 
 -- a file that is had is the one on its way
 abbrev pub IsHad : List ℕ → Wanted → List State → End → Type 0
