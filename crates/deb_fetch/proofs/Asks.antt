@@ -1,5 +1,5 @@
 -- The asks for a package file, one after another.
-use Rattle.std.proofs.Common.{◌≡◌, ◌⊎◌, inl, inr, ⊎_elim, refl, sym, ap, ◌∙◌, subst, arith, ℕ, zero, suc, ◌+◌, ◌-◌, ◌<◌, ◌≤◌, Bool, true, false, if◌then◌else◌, List, [], ◌∷◌, ◌++◌, Option, Some, None, IfSome}
+use Rattle.std.proofs.Common.{◌≡◌, ◌⊎◌, inl, inr, ⊎_elim, refl, sym, ap, ◌∙◌, subst, arith, ℕ, zero, suc, ◌+◌, ◌*◌, ◌-◌, ◌<◌, ◌≤◌, Bool, true, false, if◌then◌else◌, List, [], ◌∷◌, ◌++◌, Option, Some, None, IfSome}
 use Rattle.acq_base.proofs.SameSums.{same_sum-true}
 use Rattle.acq_base.specs.Mirror.{MirrorMap, answer_at}
 use Rattle.acq_base.specs.declared.fetch.NotServed.TheVariants.{Moved, Absent, TooBig, Garbled, Fault}
@@ -34,7 +34,7 @@ use Rattle.update_model.specs.declared.cause.Cause.TheVariants.{Method}
 use Rattle.update_model.specs.declared.end.End.{End}
 use Rattle.update_model.specs.declared.end.End.TheVariants.{Got, Stands, Ended}
 use Rattle.update_model.specs.declared.wanted.Wanted.{Wanted}
-use Rattle.deb_fetch.specs.Asking.{AsksOn, AsksWhole, HasAsked, HasDied, HasLived, IsHad, IsUnderWay, StandsAt, asks_behind, asks_left}
+use Rattle.deb_fetch.specs.Asking.{AsksOn, AsksWhole, HasAsked, HasDied, HasLived, IsHad, IsUnderWay, StandsAt, asks_behind, asks_left, asks_next}
 use Rattle.deb_fetch.specs.Causes.{HasFailed, IsEndOfRoute, IsMethod, RoseBy, cause_of, cause_over}
 use Rattle.deb_fetch.specs.declared.deb.Deb.{Deb}
 
@@ -246,6 +246,21 @@ turn_smaller retries w name world first before after mid now p q under one =
     let there : asks_left retries p ≡ asks_left retries (At one.ask one.left one.faults one.next) = ap (asks_left retries) one.at in
     let stands = subst (λ (r : Point). StandsAt retries w name first before mid (LivesAlong retries (start retries (plain_walk w)) under.told) r) one.at under.stands in
     omega (arith, here, there, answer_smaller retries w one.ask one.left one.faults one.next one.closed stands.1.behind)
+
+-- ---- how many
+
+pub asks_in_all : (retries : ℕ) (w : Wanted) (p : Point) → p ≡ start retries (plain_walk w) → asks_left retries p ≡ 11 * (retries + 1)
+asks_in_all retries w p is =
+    let all : asks_left retries (start retries (plain_walk w)) ≡ 11 * (retries + 1) = omega arith in
+    ap (asks_left retries) is ∙ all
+
+pub one_next : (p : Point) → asks_next p ≤ 1
+one_next (Over end) = omega arith
+one_next (At ask left faults next) = omega arith
+
+pub next_left : (retries : ℕ) (p : Point) → asks_next p ≤ asks_left retries p
+next_left retries (Over end) = omega arith
+next_left retries (At ask left faults next) = omega arith
 
 -- ---- the end
 

@@ -101,6 +101,11 @@ pub record IsUnderWay (retries : ℕ) (w : Wanted) (name : List ℕ) (world : Op
 abbrev pub IsUnderWayTo : Deb → ℕ → Option MirrorMap → ℕ → ℕ → List State → Point → Type 0
 IsUnderWayTo deb retries world first last now p = IsUnderWay retries (single deb.uri deb.path deb.sum) deb.file.0 world first last now p
 
+-- whether there is an ask next: one, or none
+abbrev pub asks_next : Point → ℕ
+asks_next (Over end) = 0
+asks_next (At ask left faults next) = 1
+
 -- how many asks may come behind so many moves
 abbrev pub asks_behind : ℕ → ℕ → ℕ
 asks_behind retries zero = 0

@@ -1,5 +1,5 @@
 //! A package file, fetched into a folder. It may take memory.
-ghost use Rattle.std.specs.Prelude.{◌≡◌, ◌⊎◌, None, IfErr, IfOk, IsSome, IsSomeAnd, IsTrue};
+ghost use Rattle.std.specs.Prelude.{◌≡◌, ◌⊎◌, ◌≤◌, ◌+◌, ◌*◌, None, IfErr, IfOk, IsSome, IsSomeAnd, IsTrue};
 ghost use Rattle.acq_base.specs.Sum.{Fits};
 ghost use Rattle.acq_base.specs.Uri.{IsSound};
 ghost use Rattle.acq_outside.specs.Fetches.{Fetches};
@@ -47,6 +47,9 @@ pub fn fetch_deb<D: Disk, M: Method>(
 
     ensures unasked { IsTrue (D.tells place.old) → IsSomeAnd (D.files place.old deb.now.file.0) (λ bytes. Fits bytes deb.now.sum)
         → M.begins method.new ≡ M.begins method.old }
+
+    // One ask at the file's URI and at each of ten places that it moves to, and each again as often as settings say.
+    ensures begins { M.begins method.new ≤ M.begins method.old + 11 * (settings.now.retries + 1) }
 
     ensures answer { IsTrue (D.tells place.old)
         → IfOk result (causes.IsAnswerOf (M.world method.old) (D.files place.old deb.now.file.0) deb.now) }
