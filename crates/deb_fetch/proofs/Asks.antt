@@ -1,5 +1,5 @@
 -- The asks for a package file, one after another.
-use Rattle.std.proofs.Common.{◌≡◌, ◌⊎◌, inl, inr, ⊎_elim, refl, sym, ap, ◌∙◌, subst, arith, ℕ, zero, suc, ◌+◌, ◌-◌, ◌<◌, ◌≤◌, Bool, true, false, if◌then◌else◌, List, [], ◌∷◌, ◌++◌, Option, Some, None, IfSome}
+use Rattle.std.proofs.Common.{◌≡◌, ◌⊎◌, inl, inr, ⊎_elim, refl, sym, ap, ◌∙◌, subst, arith, ℕ, zero, suc, ◌+◌, ◌*◌, ◌-◌, ◌<◌, ◌≤◌, Bool, true, false, if◌then◌else◌, List, [], ◌∷◌, ◌++◌, Option, Some, None, IfSome}
 use Rattle.acq_base.proofs.SameSums.{same_sum-true}
 use Rattle.acq_base.specs.Mirror.{MirrorMap, answer_at}
 use Rattle.acq_base.specs.declared.fetch.NotServed.TheVariants.{Moved, Absent, TooBig, Garbled, Fault}
@@ -34,7 +34,7 @@ use Rattle.update_model.specs.declared.cause.Cause.TheVariants.{Method}
 use Rattle.update_model.specs.declared.end.End.{End}
 use Rattle.update_model.specs.declared.end.End.TheVariants.{Got, Stands, Ended}
 use Rattle.update_model.specs.declared.wanted.Wanted.{Wanted}
-use Rattle.deb_fetch.specs.Asking.{AsksOn, AsksWhole, HasAsked, HasDied, HasLived, IsHad, IsUnderWay, StandsAt, asks_behind, asks_left}
+use Rattle.deb_fetch.specs.Asking.{AsksOn, AsksWhole, HasAsked, HasDied, HasLived, IsHad, IsUnderWay, StandsAt, asks_behind, asks_left, asks_next}
 use Rattle.deb_fetch.specs.Causes.{HasFailed, IsEndOfRoute, IsMethod, RoseBy, cause_of, cause_over}
 use Rattle.deb_fetch.specs.declared.deb.Deb.{Deb}
 
@@ -67,6 +67,10 @@ rose_out : (retries first before after : ℕ) → RoseBy (retries - 0) first bef
 rose_out retries first before after (inl low) grew (inl more) = inl (omega (arith, low, more))
 rose_out retries first before after (inl low) grew (inr full) = inr full
 rose_out retries first before after (inr full) grew rose = inr (omega (arith, full, grew))
+
+rose_before : (retries first before from : ℕ) → RoseBy (retries - 0) first before → from ≡ before → RoseBy retries first from
+rose_before retries first before from (inl low) same = inl (omega (arith, low, same))
+rose_before retries first before from (inr full) same = inr (omega (arith, full, same))
 
 none_rose : (retries first before after : ℕ) → first ≤ before → after ≡ before → RoseBy (retries - retries) first after
 none_rose retries first before after grew same = inl (omega (arith, grew, same))
@@ -108,7 +112,8 @@ module _ (retries : ℕ) (w : Wanted) (name : List ℕ) (first before after : �
           rose = rose_out retries first before after on.rose grew counted.2;
           begins = omega (arith, on.grew, counted.0);
           upward = omega (arith, grew, counted.0, counted.1);
-          ends = omega (arith, counted.1);
+          others = rose_before retries first before from on.rose counted.0;
+          ends = counted.1;
         }),
         tt,
       )
@@ -242,6 +247,21 @@ turn_smaller retries w name world first before after mid now p q under one =
     let stands = subst (λ (r : Point). StandsAt retries w name first before mid (LivesAlong retries (start retries (plain_walk w)) under.told) r) one.at under.stands in
     omega (arith, here, there, answer_smaller retries w one.ask one.left one.faults one.next one.closed stands.1.behind)
 
+-- ---- how many
+
+pub asks_in_all : (retries : ℕ) (w : Wanted) (p : Point) → p ≡ start retries (plain_walk w) → asks_left retries p ≡ 11 * (retries + 1)
+asks_in_all retries w p is =
+    let all : asks_left retries (start retries (plain_walk w)) ≡ 11 * (retries + 1) = omega arith in
+    ap (asks_left retries) is ∙ all
+
+pub one_next : (p : Point) → asks_next p ≤ 1
+one_next (Over end) = omega arith
+one_next (At ask left faults next) = omega arith
+
+pub next_left : (retries : ℕ) (p : Point) → asks_next p ≤ asks_left retries p
+next_left retries (Over end) = omega arith
+next_left retries (At ask left faults next) = omega arith
+
 -- ---- the end
 
 cause-by_sum : (end : End) → cause_of (by_sum end) ≡ cause_of end
@@ -267,7 +287,8 @@ dead_cause retries deb first last end died = record {
   last = died.upto;
   is = ap cause_of died.is;
   rose = died.rose;
-  from = died.begins;
+  begins = died.begins;
+  from = died.others;
   upward = died.upward;
   upto = died.ends;
 }

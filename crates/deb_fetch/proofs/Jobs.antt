@@ -1,10 +1,11 @@
 -- One ask for a package file as a job.
-use Rattle.std.proofs.Common.{◌≡◌, refl, sym, ap, ◌∙◌, subst, ℕ, true, List, [], Option, Some, None, IfSome}
+use Rattle.std.proofs.Common.{◌≡◌, refl, sym, ap, ◌∙◌, subst, arith, ℕ, ◌+◌, ◌≤◌, true, List, [], Option, Some, None, IfSome}
 use Rattle.acq_base.specs.Mirror.{MirrorMap, answer_at}
 use Rattle.acq_base.specs.declared.fetch.Answer.{Answer}
 use Rattle.acq_base.specs.declared.fetch.Answer.TheVariants as answers
 use Rattle.acq_base.specs.declared.fetch.Job.{Job}
 use Rattle.acq_base.specs.declared.uri.Uri.{Uri}
+use Rattle.acq_outside.specs.Count.{one_more}
 use Rattle.acq_outside.specs.Crash.{State}
 use Rattle.acq_outside.specs.States.{IsTold}
 use Rattle.item_graph.specs.Refinement.{asked}
@@ -17,7 +18,7 @@ use Rattle.update_model.specs.declared.ask.Ask.{Ask}
 use Rattle.update_model.specs.declared.ask.Closed.{Closed}
 use Rattle.update_model.specs.declared.ask.Closed.TheVariants.{Served, Not}
 use Rattle.update_model.specs.declared.ask.Ending.{Ending}
-use Rattle.deb_fetch.specs.Asking.{AsksWhole, HasAsked}
+use Rattle.deb_fetch.specs.Asking.{AsksWhole, HasAsked, asks_next}
 
 -- what is asked at a point
 record IsAskAt (p : Point) (ask : Ask) : Type 0 where
@@ -29,6 +30,11 @@ record IsAskAt (p : Point) (ask : Ask) : Type 0 where
 ask_at : (p : Point) (ask : Ask) → Some ask ≡ asked p → IsAskAt p ask
 ask_at (Over end) ask is = absurd cc
 ask_at (At other left faults next) ask is = record { left = left; faults = faults; next = next; at = ap (λ (a : Ask). At a left faults next) (let same : other ≡ ask = cc in same) }
+
+-- a fetch that was begun is the one ask
+pub begun_once : (before after : ℕ) (p : Point) (ask : Ask) → Some ask ≡ asked p → after ≡ one_more before → after ≤ before + asks_next p
+begun_once before after (Over end) ask is more = absurd cc
+begun_once before after (At other left faults next) ask is more = omega (arith, more)
 
 whole_at : (p : Point) (ask : Ask) → Some ask ≡ asked p → AsksWhole p → (ask.from ≡ 0) × (ask.stage ≡ true)
 whole_at p ask is whole = let at = ask_at p ask is in subst (λ (q : Point). AsksWhole q) at.at whole

@@ -1,5 +1,6 @@
 -- Calls on a folder into which a package file is fetched, over all that the folder has been.
 use Rattle.std.proofs.Common.{◌≡◌, ◌≢◌, inl, inr, refl, sym, ap, ◌∙◌, subst, ℕ, Bool, true, List, [], ◌∷◌, Option, Some, None, IsSomeAnd, option_map, Result, Ok, Err, OnOk, IfOk, IsTrue, ◌↔◌}
+use Rattle.std.proofs.lemmas.Bool.{false≢true}
 use Rattle.acq_base.specs.Sum.{Fits}
 use Rattle.acq_base.specs.declared.sum.Sum.{Sum}
 use Rattle.acq_outside.specs.Disk.{Files}
@@ -11,6 +12,7 @@ use Rattle.acq_outside.specs.declared.change.DiskCall.TheVariants.{Rename, Sync,
 use Rattle.acq_outside.specs.declared.state.FileState.{FileState}
 use Rattle.journal_model.specs.Names.{partial}
 use Rattle.journal_model.specs.Rest.{KeptAtRestSince, file_named, file_now}
+use Rattle.journal_model.proofs.Aside.{reads_named}
 use Rattle.journal_model.proofs.Twice.{partial_other}
 use Rattle.job_fetch.specs.Fetched.{LastsAs, Staging}
 use Rattle.job_fetch.specs.Others.{AllChangeNameAlone, LeavesOthers, OthersLeftSince}
@@ -137,6 +139,16 @@ fits_whole name sum tells files (s ∷ past) shown steady fits =
 pub ready_now : (name : List ℕ) (sum : Sum) (now : List State) → (IsTold now → LastsAs name now sum) → IsNow (IsReady name sum) now
 ready_now name sum [] lasts = tt
 ready_now name sum (s ∷ past) lasts = let file = lasts tt in record { bytes = file.bytes; file = file.file; sums = file.sums }
+
+-- what reads give of the file stays, where the disk tells
+shown_same : (name : List ℕ) (told tells : Bool) (was now : Files) (old new : List State) → IsShown told was old → IsShown tells now new → told ≡ true → tells ≡ true → file_now new name ≡ file_now old name → now name ≡ was name
+shown_same name told tells was now [] new before after is still same = absurd (false≢true (sym before ∙ is))
+shown_same name told tells was now (s ∷ past) [] before after is still same = absurd (false≢true (sym after ∙ still))
+shown_same name told tells was now (s ∷ past) (t ∷ more) before after is still same =
+    ap (λ (f : Files). f name) after.1 ∙ reads_named t name ∙ ap (option_map (λ (f : FileState). f.seen)) same ∙ sym (reads_named s name) ∙ ap (λ (f : Files). f name) (sym before.1)
+
+pub staged_keeps : (name : List ℕ) (told tells : Bool) (was now : Files) (old new : List State) → IsShown told was old → IsShown tells now new → tells ≡ told → Staging name old new → told ≡ true → now name ≡ was name
+staged_keeps name told tells was now old new before after telling staging is = shown_same name told tells was now old new before after is (telling ∙ is) (staging.others name (partial_other name))
 
 -- nothing was done yet
 pub nothing_staged : (name : List ℕ) (now : List State) → Staging name now now

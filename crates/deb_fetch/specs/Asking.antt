@@ -69,8 +69,9 @@ pub record HasDied (retries : ℕ) (w : Wanted) (first last : ℕ) (end : End) :
   pub is : end ≡ Ended (Method w.path 0 from upto)
   pub rose : RoseBy (retries + 1) first last
   pub begins : first ≤ from
+  pub others : RoseBy retries first from
   pub upward : from ≤ upto
-  pub ends : upto ≤ last
+  pub ends : upto ≡ last
 
 -- a file that is had is the one on its way
 abbrev pub IsHad : List ℕ → Wanted → List State → End → Type 0
@@ -99,6 +100,11 @@ pub record IsUnderWay (retries : ℕ) (w : Wanted) (name : List ℕ) (world : Op
 -- and of a package file
 abbrev pub IsUnderWayTo : Deb → ℕ → Option MirrorMap → ℕ → ℕ → List State → Point → Type 0
 IsUnderWayTo deb retries world first last now p = IsUnderWay retries (single deb.uri deb.path deb.sum) deb.file.0 world first last now p
+
+-- whether there is an ask next: one, or none
+abbrev pub asks_next : Point → ℕ
+asks_next (Over end) = 0
+asks_next (At ask left faults next) = 1
 
 -- how many asks may come behind so many moves
 abbrev pub asks_behind : ℕ → ℕ → ℕ

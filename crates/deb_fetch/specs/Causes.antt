@@ -26,15 +26,17 @@ cause_over world there deb = cause_of (obtain world there [] (single deb.uri deb
 abbrev pub RoseBy : ℕ → ℕ → ℕ → Type 0
 RoseBy faults before after = (before + faults ≤ after) ⊎ (2 ^ 64 - 1 ≤ after)
 
--- the cause is a method that failed once more than an ask may be repeated: the first one, whose count rose by so many
+-- The cause is a method that failed once more than an ask may be repeated: the first one, whose count rose by so many. Its
+-- two counts are those around the last failure: before it all the others came, and behind it nothing is asked.
 pub record HasFailed (retries before after : ℕ) (deb : Deb) (end : Option Cause) : Type 0 where
   pub first : ℕ
   pub last : ℕ
   pub is : end ≡ Some (Method deb.path 0 first last)
   pub rose : RoseBy (retries + 1) before after
-  pub from : before ≤ first
+  pub begins : before ≤ first
+  pub from : RoseBy retries before first
   pub upward : first ≤ last
-  pub upto : last ≤ after
+  pub upto : last ≡ after
 
 -- the cause is a method
 abbrev pub IsMethod : Option Cause → Type 0

@@ -1,5 +1,5 @@
 //! A package file, asked for until it came or there is a cause why it doesn't. It may take memory.
-ghost use Rattle.std.specs.Prelude.{◌≡◌, false, true, None, IfOk, OnOk};
+ghost use Rattle.std.specs.Prelude.{◌≡◌, ◌≤◌, ◌+◌, ◌*◌, false, true, None, IfOk, IsTrue, OnOk};
 ghost use Rattle.acq_base.specs.Uri.{IsSound};
 ghost use Rattle.acq_outside.specs.Fetches.{Fetches};
 ghost use Rattle.acq_outside.specs.States.{IsNow, IsTold};
@@ -10,7 +10,7 @@ ghost use Rattle.item_graph.specs.Sound.{IsSoundAt};
 ghost use Rattle.job_fetch.specs.Fetched.{Staging};
 ghost use Rattle.journal_model.specs.Names.{IsPutName};
 ghost use Rattle.update_model.specs.Points.{start};
-ghost use Rattle.deb_fetch.specs.Asking.{AsksWhole, HasAsked, HasAskedNothing, IsUnderWayTo};
+ghost use Rattle.deb_fetch.specs.Asking.{AsksWhole, HasAsked, HasAskedNothing, IsUnderWayTo, asks_next};
 ghost use Rattle.deb_fetch.specs.Causes as causes;
 ghost use Rattle.deb_fetch.specs.Filenames.{IsDebName};
 ghost use Rattle.deb_fetch.specs.Landing.{IsReady, IsSettled, Lands};
@@ -39,12 +39,14 @@ pub fn obtain<D: Disk, M: Method>(
     ensures method { Fetches M.Method method.old method.new }
 
     ensures lands { Lands deb.now.file.0 deb.now.sum (D.trace place.old) (D.trace place.new) }
+    ensures kept { IsTrue (D.tells place.old) → D.files place.new deb.now.file.0 ≡ D.files place.old deb.now.file.0 }
     ensures ready { IfOk result (λ end. end ≡ None → IsNow (IsReady deb.now.file.0 deb.now.sum) (D.trace place.new)) }
 
     ensures answer { IsTold (D.trace place.new) → IfOk result (causes.IsAnswerOf (M.world method.old) None deb.now) }
     ensures failed { IfOk result (λ end. causes.IsMethod end
         → causes.HasFailed settings.now.retries (M.faults method.old) (M.faults method.new) deb.now end) }
     ensures route { IfOk result (causes.IsEndOfRoute settings.now.retries deb.now) }
+    ensures begins { M.begins method.new ≤ M.begins method.old + 11 * (settings.now.retries + 1) }
 {
     let uri = deb.uri.copy(alloc)?;
     let path = deb.path.copy(alloc)?;
@@ -71,6 +73,7 @@ fn ask_all<D: Disk, M: Method>(
     ensures method { Fetches M.Method method.old method.new }
     ensures staging { Staging deb.now.file.0 (D.trace place.old) (D.trace place.new) }
 
+    ensures begins { M.begins method.new ≤ M.begins method.old + 11 * (settings.now.retries + 1) }
     ensures none { OnOk result (asked (point_of item.new) ≡ None) }
     ensures under { OnOk result (IsUnderWayTo deb.now settings.now.retries (M.world method.old)
         (M.faults method.old) (M.faults method.new) (D.trace place.new) (point_of item.new)) }
@@ -97,6 +100,7 @@ fn ask_once<D: Disk, M: Method>(
     ensures frame { StaysCounting OutError.Fault D.Disk place.old place.new result }
     ensures method { Fetches M.Method method.old method.new }
     ensures staging { Staging file.now.0 (D.trace place.old) (D.trace place.new) }
+    ensures begins { M.begins method.new ≤ M.begins method.old + asks_next (point_of item.old) }
 
     ensures sound { OnOk result (IsSoundAt (point_of item.new)) }
     ensures retries { OnOk result (retries_of item.new ≡ retries_of item.old) }

@@ -1,5 +1,6 @@
 //! A package file, fetched into a folder. It may take memory.
-ghost use Rattle.std.specs.Prelude.{◌≡◌, ◌⊎◌, None, IfErr, IfOk, IsTrue};
+ghost use Rattle.std.specs.Prelude.{◌≡◌, ◌⊎◌, ◌≤◌, ◌+◌, ◌*◌, None, IfErr, IfOk, IsSome, IsSomeAnd, IsTrue};
+ghost use Rattle.acq_base.specs.Sum.{Fits};
 ghost use Rattle.acq_base.specs.Uri.{IsSound};
 ghost use Rattle.acq_outside.specs.Fetches.{Fetches};
 ghost use Rattle.acq_outside.specs.States.{IsNow, Since};
@@ -40,6 +41,15 @@ pub fn fetch_deb<D: Disk, M: Method>(
     ensures moments { Since (D.trace place.old) (D.trace place.new) (LandsWholeSince deb.now.file.0 deb.now.sum (D.trace place.old)) }
     ensures others { KeepsOthers deb.now.file.0 (D.trace place.old) (D.trace place.new) }
     ensures whole { IfOk result (λ end. end ≡ None → IsNow (LeavesWhole deb.now.file.0 deb.now.sum) (D.trace place.new)) }
+
+    ensures kept { IsTrue (D.tells place.old) → IfOk result (λ end. IsSome end
+        → D.files place.new deb.now.file.0 ≡ D.files place.old deb.now.file.0) }
+
+    ensures unasked { IsTrue (D.tells place.old) → IsSomeAnd (D.files place.old deb.now.file.0) (λ bytes. Fits bytes deb.now.sum)
+        → M.begins method.new ≡ M.begins method.old }
+
+    // One ask at the file's URI and at each of ten places that it moves to, and each again as often as settings say.
+    ensures begins { M.begins method.new ≤ M.begins method.old + 11 * (settings.now.retries + 1) }
 
     ensures answer { IsTrue (D.tells place.old)
         → IfOk result (causes.IsAnswerOf (M.world method.old) (D.files place.old deb.now.file.0) deb.now) }

@@ -26,6 +26,7 @@ pub fn check_file<D: Disk>(place: &mut D, deb: &Deb) -> Result<bool, Fault>
     requires named { IsDebName deb.now.file.0 }
     requires settled { IsNow spec.IsSettled (D.trace place.old) }
     ensures frame { Stays D.Disk place.old place.new result }
+    ensures same { D.files place.new ≡ D.files place.old }
     ensures lands { spec.Lands deb.now.file.0 deb.now.sum (D.trace place.old) (D.trace place.new) }
     ensures settled { OnOk result (IsNow spec.IsSettled (D.trace place.new)) }
     ensures told { IsTrue (D.tells place.old)

@@ -1,4 +1,4 @@
-use Rattle.std.proofs.Common.{◌≡◌}
+use Rattle.std.proofs.Common.{◌≡◌, ◌≤◌, ◌+◌, ◌*◌}
 use Rattle.acq_outside.specs.Fetches.{Fetches}
 use Rattle.acq_outside.specs.Stays.{HasStayed}
 use Rattle.item_graph.specs.Refinement.{point_of, retries_of}
@@ -15,6 +15,7 @@ invariant-asks g l = record {
   retries : retries_of l.item ≡ l.settings.retries;
   staging : Staging l.deb.file.0 (g.D.Disk.trace l.fn.place) (g.D.Disk.trace l.place);
   frame : HasStayed g.D.Disk l.fn.place l.place;
+  begins : g.M.Method.begins l.method + asks_left l.settings.retries (point_of l.item) ≤ g.M.Method.begins l.fn.method + 11 * (l.settings.retries + 1);
   method : Fetches g.M.Method l.fn.method l.method;
 }
 

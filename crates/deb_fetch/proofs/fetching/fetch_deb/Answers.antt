@@ -36,3 +36,24 @@ returns-in-Some-clause-answer g c = λ told.
 pub returns-in_ok-land-in-None-clause-moments : goal.returns-in_ok-land-in-None-clause-moments
 returns-in_ok-land-in-None-clause-moments g c =
     (lands-more _ _ _ _ _ c.settle_names.ensures.lands (lands-more _ _ _ _ _ c.check_file.ensures.lands (lands-more _ _ _ _ _ c.obtain.ensures.lands c.land.ensures.lands))).moments
+
+pub returns-in_err-cause-clause-unasked : goal.returns-in_err-cause-clause-unasked
+returns-in_err-cause-clause-unasked g c = λ told. λ fits. absurd (found_other c.in_ok-check_file.field-0 (g.D.Disk.files c.settle_names.new.place c.args.deb.now.file.0) (g.D.Disk.files c.args.place.now c.args.deb.now.file.0) c.args.deb.now c.if-branch.false
+    (c.in_ok-check_file.ensures.told (c.in_ok-settle_names.ensures.frame.telling ∙ told)) (ap (λ (f : Files). f c.args.deb.now.file.0) c.in_ok-settle_names.ensures.same) fits)
+
+pub returns-in_err-land-in-None-clause-unasked : goal.returns-in_err-land-in-None-clause-unasked
+returns-in_err-land-in-None-clause-unasked g c = λ told. λ fits. absurd (found_other c.in_ok-check_file.field-0 (g.D.Disk.files c.settle_names.new.place c.args.deb.now.file.0) (g.D.Disk.files c.args.place.now c.args.deb.now.file.0) c.args.deb.now c.if-branch.false
+    (c.in_ok-check_file.ensures.told (c.in_ok-settle_names.ensures.frame.telling ∙ told)) (ap (λ (f : Files). f c.args.deb.now.file.0) c.in_ok-settle_names.ensures.same) fits)
+
+pub returns-in-Some-clause-unasked : goal.returns-in-Some-clause-unasked
+returns-in-Some-clause-unasked g c = λ told. λ fits. absurd (found_other c.in_ok-check_file.field-0 (g.D.Disk.files c.settle_names.new.place c.args.deb.now.file.0) (g.D.Disk.files c.args.place.now c.args.deb.now.file.0) c.args.deb.now c.if-branch.false
+    (c.in_ok-check_file.ensures.told (c.in_ok-settle_names.ensures.frame.telling ∙ told)) (ap (λ (f : Files). f c.args.deb.now.file.0) c.in_ok-settle_names.ensures.same) fits)
+
+pub returns-in_ok-land-in-None-clause-unasked : goal.returns-in_ok-land-in-None-clause-unasked
+returns-in_ok-land-in-None-clause-unasked g c = λ told. λ fits. absurd (found_other c.in_ok-check_file.field-0 (g.D.Disk.files c.settle_names.new.place c.args.deb.now.file.0) (g.D.Disk.files c.args.place.now c.args.deb.now.file.0) c.args.deb.now c.if-branch.false
+    (c.in_ok-check_file.ensures.told (c.in_ok-settle_names.ensures.frame.telling ∙ told)) (ap (λ (f : Files). f c.args.deb.now.file.0) c.in_ok-settle_names.ensures.same) fits)
+
+pub returns-in-Some-clause-kept : goal.returns-in-Some-clause-kept
+returns-in-Some-clause-kept g c = λ told. λ some.
+    c.obtain.ensures.kept (c.check_file.ensures.frame.telling ∙ c.settle_names.ensures.frame.telling ∙ told)
+    ∙ ap (λ (f : Files). f c.args.deb.now.file.0) (c.check_file.ensures.same ∙ c.settle_names.ensures.same)
