@@ -1,12 +1,12 @@
 -- Messages answered, one after another.
-use Rattle.std.proofs.Common.{◌≡◌, refl, sym, ap, subst, ◌∙◌, ℕ, ◌+◌, ◌≤◌, Bool, true, false, List, [], ◌∷◌, ◌++◌, length, take, take-add, append_assoc, append-nil, Option, Some, None, option_map, Result, Ok, Err, OnOk, OnErr, arith}
+use Rattle.std.proofs.Common.{◌≡◌, inl, refl, sym, ap, subst, ◌∙◌, ℕ, ◌+◌, ◌≤◌, Bool, true, false, List, [], ◌∷◌, ◌++◌, length, take, take-add, append_assoc, append-nil, Option, Some, None, option_map, Result, Ok, Err, OnOk, OnErr, arith}
 use Rattle.std.proofs.lemmas.List.{take_at, drop_at, take_all}
 use Rattle.acq_base.specs.Mirror.{MirrorMap}
 use Rattle.acq_outside.specs.Disk.{Files}
 use Rattle.acq_outside.specs.Sink.{Wrote, WrotePart}
 use Rattle.method_messages.specs.declared.message.Message.{Message}
 use Rattle.method_server.specs.Asked.{is_request, wish_of}
-use Rattle.method_server.specs.Turns.{Moment, ChangesOnly, IsAnswered, IsTurn, Answers, Touches, TouchesFor, asked}
+use Rattle.method_server.specs.Turns.{Moment, ChangesOnly, IsAnswered, IsTurn, Answers, BeginsAtMostOne, Touches, TouchesFor, asked}
 use Rattle.method_server.specs.Taking.{Answered, AnswersFront, AnswersOrHalts, Halts}
 use Rattle.method_server.specs.declared.end.Stop.{Stop}
 use Rattle.method_server.specs.declared.wish.Wish.{Wish}
@@ -43,7 +43,7 @@ changes_none true name (Some all) = λ other apart. refl
 
 touches_none : (http : Bool) (messages : List Message) (moment : Moment) → Touches http messages moment moment
 touches_none http [] moment = refl
-touches_none http (message ∷ messages) moment = (omega arith, for_wish (asked http message))
+touches_none http (message ∷ messages) moment = (omega arith, inl refl, for_wish (asked http message))
   where
     for_wish : (wish : Option Wish) → TouchesFor http wish moment.files moment.files
     for_wish None = refl
@@ -178,8 +178,8 @@ one_halts world http message old new a b text asks answered part = record {
 
 -- where it can't be given
 pub one_stops : (world : Option MirrorMap) (http : Bool) (message : Message) (old new : Moment) (written : Option (List ℕ)) → is_request message ≡ true → old.count ≤ new.count
-    → TouchesFor http (wish_of http message) old.files new.files → Halts world http (message ∷ []) old new written written
-one_stops world http message old new written asks count touches = halts_first world http (message ∷ []) old new written (count, rw asks touches)
+    → BeginsAtMostOne old.begun new.begun → TouchesFor http (wish_of http message) old.files new.files → Halts world http (message ∷ []) old new written written
+one_stops world http message old new written asks count begins touches = halts_first world http (message ∷ []) old new written (count, begins, rw asks touches)
 
 -- the answer is written, or a part of it
 pub said_answer : {T : Type 0} (world : Option MirrorMap) (http : Bool) (message : Message) (old new : Moment) (a b : Option (List ℕ)) (text : List ℕ) (result : Result T Stop) → is_request message ≡ true

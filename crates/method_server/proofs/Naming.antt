@@ -77,7 +77,7 @@ touch_of_stays http message name old new unnamed false asks same = ap (file_at n
 
 pub begun_stays : (http : Bool) (old new : Moment) (messages : List Message) (name : List ℕ) → Touches http messages old new → NamedByNone name messages → file_at name new.files ≡ file_at name old.files
 begun_stays http old new [] name same unnamed = ap (λ (m : Moment). file_at name m.files) same
-begun_stays http old new (message ∷ messages) name touches unnamed = touch_of_stays http message name old.files new.files unnamed.0 (is_request message) refl touches.1
+begun_stays http old new (message ∷ messages) name touches unnamed = touch_of_stays http message name old.files new.files unnamed.0 (is_request message) refl touches.2
 
 -- ---- a file that was served
 
@@ -130,7 +130,7 @@ touch_apart (Some wish) old new same = same
 
 touches_apart : (messages : List Message) (old new : Moment) → Touches false messages old new → new.files ≡ old.files
 touches_apart [] old new same = ap (λ (m : Moment). m.files) same
-touches_apart (message ∷ messages) old new touches = touch_apart (asked false message) old.files new.files touches.1
+touches_apart (message ∷ messages) old new touches = touch_apart (asked false message) old.files new.files touches.2
 
 pub serves_apart : (world : Option MirrorMap) (http : Bool) (old new : Moment) (bytes text : List ℕ) → Serves world http old new bytes text → http ≡ false → new.files ≡ old.files
 serves_apart world http old new bytes text h over =

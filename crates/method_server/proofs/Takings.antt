@@ -13,7 +13,7 @@ use Rattle.method_messages.specs.Streams.{Unended, Reads, begun_at}
 use Rattle.method_server.specs.Answers.{capabilities, general_failure}
 use Rattle.method_server.specs.Turns.{Moment, Answers}
 use Rattle.method_server.specs.Input.{Input, Ended, Refused, IsRefusedBehind}
-use Rattle.method_server.specs.Serving.{EndsBy, IsRead, Scene, Served, Serves, last_text, most_input, text_so_far}
+use Rattle.method_server.specs.Serving.{EndsBy, IsRead, SaidBy, Scene, Served, Serves, last_text, most_input, text_so_far}
 use Rattle.method_server.specs.Taking.{Answered, ClosesBy, FailsBy, Halts, IsCut, SoFar, TakesBad, TakesBy, TakesFront, TakesPart, end_of_stop}
 use Rattle.method_server.specs.declared.end.ServeEnd.{ServeEnd}
 use Rattle.method_server.specs.declared.end.ServeEnd.TheVariants as ends
@@ -177,14 +177,15 @@ so_far_more world http old mid new reader later size n piece h long gave still k
 -- ---- how it ends
 
 ends_with : (world : Option MirrorMap) (http : Bool) (old new : Scene) (end : ServeEnd) (bytes text : List ℕ) → Gave old.left bytes new.left → Wrote old.written text new.written → length bytes ≤ most_input
-    → Serves world http old.at new.at bytes text → EndsBy world http old new bytes text end → Served world http old new end
-ends_with world http old new end bytes text read wrote few serves ended = record {
+    → (serves : Serves world http old.at new.at bytes text) → SaidBy serves.answers serves.later text end → EndsBy world http old new bytes text end → Served world http old new end
+ends_with world http old new end bytes text read wrote few serves said ended = record {
   bytes = bytes;
   text = text;
   read = read;
   wrote = wrote;
   few = few;
   serves = serves;
+  said = said;
   untouched = serves_apart world http old.at new.at bytes text serves;
   stays = serves_stays world http old.at new.at bytes text serves;
   begins = begins_text world http old.at new.at bytes text serves;
@@ -192,7 +193,7 @@ ends_with world http old new end bytes text read wrote few serves ended = record
 }
 
 -- all of the input's messages are answered
-serves_all : (world : Option MirrorMap) (http : Bool) (old new : Moment) (bytes text answers : List ℕ) (messages : List Message) (broken : Option ℕ) (n : ℕ) → Input bytes messages broken
+abbrev serves_all : (world : Option MirrorMap) (http : Bool) (old new : Moment) (bytes text answers : List ℕ) (messages : List Message) (broken : Option ℕ) (n : ℕ) → Input bytes messages broken
     → Answers world http old messages answers new → text ≡ take n ((capabilities ++ answers) ++ last_text broken) → Serves world http old new bytes text
 serves_all world http old new bytes text answers messages broken n input are front = record {
   handled = messages;
@@ -212,8 +213,8 @@ whole_front text last = sym (take_at text last (length text) refl)
 
 -- where nothing but the end is told
 pub ends_here : (world : Option MirrorMap) (http : Bool) (old mid new : Scene) (reader : Unended) (size : ℕ) (end : ServeEnd) → size ≤ most_input → (h : SoFar world http old mid reader size)
-    → new.left ≡ mid.left → new.at ≡ mid.at → new.written ≡ mid.written → EndsBy world http old new h.bytes (capabilities ++ h.text) end → Served world http old new end
-ends_here world http old mid new reader size end few h left same written ended =
+    → new.left ≡ mid.left → new.at ≡ mid.at → new.written ≡ mid.written → SaidBy h.text [] (capabilities ++ h.text) end → EndsBy world http old new h.bytes (capabilities ++ h.text) end → Served world http old new end
+ends_here world http old mid new reader size end few h left same written said ended =
     ends_with world http old new end h.bytes (capabilities ++ h.text)
     (subst (λ (l : Option (List ℕ)). Gave old.left h.bytes l) (sym left) h.read)
     (written ∙ h.wrote)
@@ -221,14 +222,14 @@ ends_here world http old mid new reader size end few h left same written ended =
     (serves_all world http old.at new.at h.bytes (capabilities ++ h.text) h.text h.messages (begun_at reader) (length (capabilities ++ h.text)) (Ended reader h.reads refl)
     (subst (λ (m : Moment). Answers world http old.at h.messages h.text m) (sym same) h.are)
     (whole_front (capabilities ++ h.text) (last_text (begun_at reader))))
-    ended
+    said ended
 
 pub input_failed : (world : Option MirrorMap) (http : Bool) (old mid new : Scene) (reader : Unended) (size : ℕ) → size ≤ most_input → SoFar world http old mid reader size
     → new.left ≡ mid.left → new.at ≡ mid.at → new.written ≡ mid.written → Served world http old new ends.Input
-input_failed world http old mid new reader size few h left same written = ends_here world http old mid new reader size ends.Input few h left same written tt
+input_failed world http old mid new reader size few h left same written = ends_here world http old mid new reader size ends.Input few h left same written (refl, refl) tt
 
 pub all_read : (world : Option MirrorMap) (http : Bool) (old new : Scene) (reader : Unended) (size : ℕ) → size ≡ most_input → SoFar world http old new reader size → Served world http old new ends.Full
-all_read world http old new reader size full h = ends_here world http old new new reader size ends.Full (omega (arith, full)) h refl refl refl (sym h.long ∙ full, h.still)
+all_read world http old new reader size full h = ends_here world http old new new reader size ends.Full (omega (arith, full)) h refl refl refl (refl, refl) (sym h.long ∙ full, h.still)
 
 -- where the last message is said, or can't be
 fails : (world : Option MirrorMap) (http : Bool) (old new : Scene) (bytes text : List ℕ) (messages : List Message) (written : Option (List ℕ)) (at : ℕ) (end : ServeEnd) → Gave old.left bytes new.left
@@ -240,16 +241,16 @@ fails world http old new bytes text messages written at ends.Broken read few inp
     (wrote_more old.written written new.written (capabilities ++ text) (general_failure at) wrote said) few
     (serves_all world http old.at new.at bytes ((capabilities ++ text) ++ general_failure at) text messages (Some at) (length ((capabilities ++ text) ++ general_failure at)) input are
     (sym (take_all (length ((capabilities ++ text) ++ general_failure at)) ((capabilities ++ text) ++ general_failure at) (omega arith))))
-    (at, record { messages = messages; input = input; answers = text; are = are; text_is = refl }, why)
+    tt (at, record { messages = messages; input = input; answers = text; are = are; text_is = refl }, why)
 fails world http old new bytes text messages written at ends.Output read few input are wrote why said =
     let (k, part) = part_more old.written written new.written (capabilities ++ text) (general_failure at) wrote said in
     ends_with world http old new ends.Output bytes (take k ((capabilities ++ text) ++ general_failure at)) read part few
     (serves_all world http old.at new.at bytes (take k ((capabilities ++ text) ++ general_failure at)) text messages (Some at) k input are refl)
-    tt
+    tt tt
 fails world http old new bytes text messages written at ends.Memory read few input are wrote why said =
     ends_with world http old new ends.Memory bytes (capabilities ++ text) read (said ∙ wrote) few
     (serves_all world http old.at new.at bytes (capabilities ++ text) text messages (Some at) (length (capabilities ++ text)) input are (whole_front (capabilities ++ text) (general_failure at)))
-    tt
+    (length (capabilities ++ text), sym (take_all (length (capabilities ++ text)) (capabilities ++ text) (omega arith))) tt
 fails world http old new bytes text messages written at ends.Whole read few input are wrote why said = absurd said
 fails world http old new bytes text messages written at ends.Files read few input are wrote why said = absurd said
 fails world http old new bytes text messages written at ends.Input read few input are wrote why said = absurd said
@@ -269,7 +270,7 @@ closed world http old mid new reader size end few h left rose spent same closes 
     by_rest : (rest : Option ℕ) → begun_at reader ≡ rest → ClosesBy rest mid.written new.written end → Served world http old new end
     by_rest None is (whole, written) =
         subst (λ (e : ServeEnd). Served world http old new e) (sym whole)
-        (ends_here world http old mid new reader size ends.Whole few h left same written
+        (ends_here world http old mid new reader size ends.Whole few h left same written (refl, refl)
         (record { messages = h.messages; input = Ended reader h.reads is; answers = h.text; are = are; text_is = sym (append-nil (capabilities ++ h.text)) }, read))
     by_rest (Some at) is said =
         fails world http old new h.bytes h.text h.messages mid.written at end (subst (λ (l : Option (List ℕ)). Gave old.left h.bytes l) (sym left) h.read)
@@ -293,6 +294,11 @@ refused world http old mid new reader size piece at written end few h gave k sai
 front_so_far : (answers : List ℕ) (later : List Message) (broken : Option ℕ) (n : ℕ) → (k : ℕ) × (take n (capabilities ++ answers) ≡ take k (text_so_far answers later broken))
 front_so_far answers [] broken n = (min n (length (capabilities ++ answers)), take_front (capabilities ++ answers) (last_text broken) n)
 front_so_far answers (message ∷ later) broken n = (n, refl)
+
+said_stop : (answers text : List ℕ) (later : List Message) (stop : Stop) (n : ℕ) → text ≡ take n (capabilities ++ answers) → SaidBy answers later text (end_of_stop stop)
+said_stop answers text later stops.Files n front = (n, front)
+said_stop answers text later stops.Memory n front = (n, front)
+said_stop answers text later stops.Output n front = tt
 
 any_stop : (world : Option MirrorMap) (http : Bool) (old new : Scene) (bytes text : List ℕ) (stop : Stop) → EndsBy world http old new bytes text (end_of_stop stop)
 any_stop world http old new bytes text stops.Files = tt
@@ -325,6 +331,7 @@ stopped world http old mid new reader size piece stop few h gave k =
       n = m;
       front = ap (take n) (append_assoc capabilities h.text k.halts.text) ∙ front;
     }
+    (said_stop (h.text ++ k.halts.text) (take n ((capabilities ++ h.text) ++ k.halts.text)) (k.halts.later ++ more) stop n (ap (take n) (append_assoc capabilities h.text k.halts.text)))
     (any_stop world http old new (h.bytes ++ piece) (take n ((capabilities ++ h.text) ++ k.halts.text)) stop)
   where
     regrouped : (w x y z : List Message) → (w ++ (x ++ y)) ++ z ≡ (w ++ x) ++ (y ++ z)
@@ -339,7 +346,7 @@ silent world http old new left same (n, part) =
     (omega arith)
     (serves_all world http old.at new.at [] (take n capabilities) [] [] None n (Ended (record { begins = 0; bytes = [] }) nothing_read refl) (refl, same)
     (ap (take n) (sym (append-nil capabilities) ∙ sym (append-nil (capabilities ++ [])))))
-    tt
+    tt tt
 
 -- a read that gave none left what was there
 pub gave_nothing : (before after : Option (List ℕ)) (bytes : List ℕ) → bytes ≡ [] → Gave before bytes after → after ≡ before

@@ -36,9 +36,10 @@ StaysUnnamed = (world : Option MirrorMap) (http : Bool) (old new : Moment) (mess
 
 -- and while an answer is under way too
 abbrev pub StaysUntouched : Type 0
-StaysUntouched = (http : Bool) (old new : Moment) (messages : List Message) (name : List ℕ) → Touches http messages old new → NamedByNone name messages → file_at name new.files ≡ file_at name old.files
+StaysUntouched = (http : Bool) (old new : Moment) (messages : List Message) (name : List ℕ) → Touches http messages old new → NamedByNone name messages
+    → file_at name new.files ≡ file_at name old.files
 
 -- a file that was served is there until a later request names it
 abbrev pub StaysServed : Type 0
-StaysServed = (world : Option MirrorMap) (wish : Wish) (old mid new : Moment) (said text bytes : List ℕ) (later : List Message) → (replied : IsReplied world true wish old said mid) → replied.reply ≡ Served bytes
-    → Answers world true mid later text new → NamedByNone wish.name later → Holds wish.name bytes new.files
+StaysServed = (world : Option MirrorMap) (wish : Wish) (old mid new : Moment) (said text bytes : List ℕ) (later : List Message)
+    → (replied : IsReplied world true wish old said mid) → replied.reply ≡ Served bytes → Answers world true mid later text new → NamedByNone wish.name later → Holds wish.name bytes new.files

@@ -95,6 +95,20 @@ EndsBy world http old new bytes text ends.Memory = Unit {0}
 EndsBy world http old new bytes text ends.Output = Unit {0}
 EndsBy world http old new bytes text ends.Input = Unit {0}
 
+-- all messages that were read are answered, and the answers are written
+abbrev pub AllSaid : List ℕ → List Message → List ℕ → Type 0
+AllSaid answers later text = (later ≡ []) × (text ≡ capabilities ++ answers)
+
+-- How much of the answers is written. Only where the input broke off, or the output failed, may anything stand behind them.
+abbrev pub SaidBy : List ℕ → List Message → List ℕ → ServeEnd → Type 0
+SaidBy answers later text ends.Whole = AllSaid answers later text
+SaidBy answers later text ends.Broken = Unit {0}
+SaidBy answers later text ends.Full = AllSaid answers later text
+SaidBy answers later text ends.Files = (n : ℕ) × (text ≡ take n (capabilities ++ answers))
+SaidBy answers later text ends.Memory = (n : ℕ) × (text ≡ take n (capabilities ++ answers))
+SaidBy answers later text ends.Output = Unit {0}
+SaidBy answers later text ends.Input = AllSaid answers later text
+
 pub record Served (world : Option MirrorMap) (http : Bool) (old new : Scene) (end : ServeEnd) : Type 0 where
   -- what was read, and what was written
   pub bytes : List ℕ
@@ -103,6 +117,7 @@ pub record Served (world : Option MirrorMap) (http : Bool) (old new : Scene) (en
   pub wrote : Wrote old.written text new.written
   pub few : length bytes ≤ most_input
   pub serves : Serves world http old.at new.at bytes text
+  pub said : SaidBy serves.answers serves.later text end
   -- over files none changes, and over http a file that no request names stays as it was
   pub untouched : http ≡ false → new.at.files ≡ old.at.files
   pub stays : (name : List ℕ) → NamedByNone name (serves.handled ++ serves.later) → file_at name new.at.files ≡ file_at name old.at.files

@@ -153,6 +153,7 @@ abbrev pub TakesCall : {M F S : Type 0} → methods.Ghosts M → put_files.Ghost
 TakesCall m f s http piece reader reader' method method' files files' out out' result =
     Takes (m.world method) http piece reader reader' (moment m f method files) (moment m f method' files') (s.written out) (s.written out') result
 
-abbrev pub TurnsCall : {I M F S : Type 0} → inlets.Ghosts I → methods.Ghosts M → put_files.Ghosts F → sinks.Ghosts S → Bool → ℕ → Unended → Unended → I → I → M → M → F → F → S → S → Result ℕ ServeEnd → Type 0
+abbrev pub TurnsCall : {I M F S : Type 0} → inlets.Ghosts I → methods.Ghosts M → put_files.Ghosts F → sinks.Ghosts S
+    → Bool → ℕ → Unended → Unended → I → I → M → M → F → F → S → S → Result ℕ ServeEnd → Type 0
 TurnsCall i m f s http room reader reader' input input' method method' files files' out out' result =
     Turns (m.world method) http room (scene i m f s input method files out) (scene i m f s input' method' files' out') reader reader' result

@@ -1,6 +1,6 @@
 -- The answers to messages, one after another: what is said to each, and what it does to the files, while the method's count
 -- of faults runs along.
-use Rattle.std.specs.Prelude.{◌≡◌, ◌≢◌, ℕ, ◌≤◌, Bool, true, false, if◌then◌else◌, List, [], ◌∷◌, ◌++◌, Option, Some, None, option_map, IsSomeAnd}
+use Rattle.std.specs.Prelude.{◌≡◌, ◌≢◌, ◌⊎◌, ℕ, ◌≤◌, Bool, true, false, if◌then◌else◌, List, [], ◌∷◌, ◌++◌, Option, Some, None, option_map, IsSomeAnd}
 use Rattle.acq_base.specs.Mirror.{MirrorMap}
 use Rattle.acq_base.specs.declared.fetch.Reply.{Reply}
 use Rattle.acq_base.specs.declared.fetch.Reply.TheVariants.{Served, Not, NoMemory}
@@ -82,10 +82,15 @@ TouchesFor http (Some wish) old new = ChangesOnly http wish.name old new
 abbrev pub asked : Bool → Message → Option Wish
 asked http message = if is_request message then wish_of http message else None
 
--- of these messages the first is under way: at most the file that it names has changed
+-- none was begun, or one
+abbrev pub BeginsAtMostOne : ℕ → ℕ → Type 0
+BeginsAtMostOne old new = (new ≡ old) ⊎ (new ≡ one_more old)
+
+-- of these messages the first is under way: at most one fetch was begun, and at most the file that it names has changed
 abbrev pub Touches : Bool → List Message → Moment → Moment → Type 0
 Touches http [] old new = new ≡ old
-Touches http (message ∷ messages) old new = (old.count ≤ new.count) × TouchesFor http (asked http message) old.files new.files
+Touches http (message ∷ messages) old new =
+    (old.count ≤ new.count) × BeginsAtMostOne old.begun new.begun × TouchesFor http (asked http message) old.files new.files
 
 -- ---- in the words of a call's objects
 

@@ -2,13 +2,14 @@
 
 ghost use Rattle.std.specs.Prelude.{◌≡◌, ◌∷◌, [], IfErr, IfOk, OnErr, OnOk};
 ghost use Rattle.acq_base.specs.Uri.{IsSound};
+ghost use Rattle.acq_outside.specs.Count.{one_more};
 ghost use Rattle.acq_outside.specs.Fetches.{Fetches};
 ghost use Rattle.acq_outside.specs.Frame.{CountsOnly};
 ghost use Rattle.acq_outside.specs.Sink.{Wrote, WrotePart};
 ghost use Rattle.method_server.specs.Asked.{is_request as asks, wish_of};
 ghost use Rattle.method_server.specs.Fetching.{fetched_text as text_of};
 ghost use Rattle.method_server.specs.Taking.{AnswersAllCall};
-ghost use Rattle.method_server.specs.Turns.{AnswersCall, ChangesOnly, RepliesCall, TouchesFor};
+ghost use Rattle.method_server.specs.Turns.{AnswersCall, BeginsAtMostOne, ChangesOnly, RepliesCall, TouchesFor};
 
 use crate::end::Stop;
 use crate::fetching::{Fetched, fetch};
@@ -96,6 +97,7 @@ fn find_answer<M: Method, F: Files>(
 ) -> Result<Text, OutError>
     ensures method { Fetches M.Method method.old method.new }
     ensures files { CountsOnly OutError.Fault (F.faults files.old) (F.faults files.new) result }
+    ensures begins { BeginsAtMostOne (M.begins method.old) (M.begins method.new) }
     ensures touches { TouchesFor http (wish_of http message.now) (F.files files.old) (F.files files.new) }
     ensures text { IfOk result (AnswersCall M.Method F.Files http message.now method.old method.new files.old files.new) }
 {
@@ -117,6 +119,7 @@ fn answer_wish<M: Method, F: Files>(
     requires whole { wish.now.job.from ≡ 0 }
     ensures method { Fetches M.Method method.old method.new }
     ensures files { CountsOnly OutError.Fault (F.faults files.old) (F.faults files.new) result }
+    ensures begins { M.begins method.new ≡ one_more (M.begins method.old) }
     ensures only { ChangesOnly http wish.now.name (F.files files.old) (F.files files.new) }
     ensures text { IfOk result (RepliesCall M.Method F.Files http wish.now method.old method.new files.old files.new) }
 {

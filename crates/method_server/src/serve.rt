@@ -24,7 +24,8 @@ const PIECE: usize = 8_192;
 /// Speaks APT's method interface: says what the method can do, and answers each request of the input, in order, by what
 /// the method replies to it. Over `http` the file goes where the request says, and else it stays where it lies.
 ///
-/// Nothing but these messages is ever written. The end tells whether all was read, or what broke it off.
+/// Where the stream breaks off a last message says so, and nothing else is ever written. The end tells whether all was
+/// read, or what broke it off.
 pub fn serve_method<I: Inlet, M: Method, F: Files, S: Sink>(
     alloc: Global,
     http: bool,
@@ -38,8 +39,8 @@ pub fn serve_method<I: Inlet, M: Method, F: Files, S: Sink>(
     ensures files { Blames ServeEnd.Files (F.faults files.old) (F.faults files.new) result }
     ensures output { Blames ServeEnd.Output (S.faults out.old) (S.faults out.new) result }
 
-    // What is written is a text of the messages read, whole or a front of it, and each end has its cause. At every moment the
-    // files are as the answers so far leave them.
+    // What is written is a text of the messages read, whole or a front of it, and each end has its cause. At the end the
+    // files are as the answers so far leave them, but for the file of a request that was under way.
     ensures serves { ServesCall I.Inlet M.Method F.Files S.Sink http
         input.old input.new method.old method.new files.old files.new out.old out.new result }
 {
