@@ -3,9 +3,12 @@ use Rattle.std.specs.Prelude.{◌≡◌, ◌⊎◌, ℕ, zero, suc, ◌+◌, ◌
 use Rattle.acq_base.specs.Mirror.{MirrorMap, answer_at}
 use Rattle.acq_outside.specs.Crash.{State}
 use Rattle.acq_outside.specs.States.{IsTold}
+use Rattle.acq_outside.specs.declared.disk.Disk as disks
+use Rattle.acq_outside.specs.declared.method.Method as methods
 use Rattle.item_graph.specs.Histories.{AgreesAlong, LivesAlong}
-use Rattle.item_graph.specs.Refinement.{asked}
+use Rattle.item_graph.specs.Refinement.{asked, point_of, retries_of}
 use Rattle.item_graph.specs.Single.{single}
+use Rattle.item_graph.specs.declared.item.Item.{Item}
 use Rattle.job_fetch.specs.Fetched.{IsCounted, IsStagedBody, LastsAs}
 use Rattle.job_fetch.specs.Others.{AllChangeNameAlone}
 use Rattle.journal_model.specs.Names.{partial}
@@ -46,12 +49,21 @@ pub record HasAsked (retries : ℕ) (world : Option MirrorMap) (name : List ℕ)
   pub staged : IsStagedBody name now closed
   pub answer : IsTold now → IfSome world (λ entries. IsFaultOr closed (answered [] ask (answer_at entries ask.uri)))
 
+-- an item was asked for so, by what the method tells before and after
+abbrev pub HasAskedFor : {M : Type 0} → methods.Ghosts M → List ℕ → M → M → List State → Item → Item → Type 0
+HasAskedFor m name asked answered now before after =
+    HasAsked (retries_of before) (m.world asked) name (m.faults asked) (m.faults answered) now (point_of before) (point_of after)
+
 -- nothing was asked, and all is as it was
 pub record HasAskedNothing (before after : ℕ) (old now : List State) (p q : Point) : Type 0 where
   pub none : asked p ≡ None
   pub same : q ≡ p
   pub still : now ≡ old
   pub quiet : after ≡ before
+
+abbrev pub HasAskedForNothing : {D M : Type 0} → disks.Ghosts D → methods.Ghosts M → D → D → M → M → Item → Item → Type 0
+HasAskedForNothing d m old new asked answered before after =
+    HasAskedNothing (m.faults asked) (m.faults answered) (d.trace old) (d.trace new) (point_of before) (point_of after)
 
 -- the plain asks go on: so many faults may still come at this place
 pub record AsksOn (retries : ℕ) (w : Wanted) (first last : ℕ) (ask : Ask) (faults : ℕ) (next : Ending → Walk) : Type 0 where

@@ -47,7 +47,7 @@ IsMethod other = ⊥
 abbrev pub IsAnswerOf : Option MirrorMap → Option (List ℕ) → Deb → Option Cause → Type 0
 IsAnswerOf world there deb end = IfSome world (λ entries. (end ≡ cause_over entries there deb) ⊎ IsMethod end)
 
--- the file was there, or this is how a route of asks for it ended
+-- no cause, or the one with which a route of asks for it ended
 abbrev pub IsEndOfRoute : ℕ → Deb → Option Cause → Type 0
 IsEndOfRoute retries deb cause =
     (cause ≡ None) ⊎ ((trails : List Trail) × (end : End) × IsRoute retries (file_walk deb.uri deb.path deb.sum) trails end × (cause ≡ cause_of end))

@@ -10,7 +10,7 @@ ghost use Rattle.item_graph.specs.Sound.{IsSoundAt};
 ghost use Rattle.job_fetch.specs.Fetched.{Staging};
 ghost use Rattle.journal_model.specs.Names.{IsPutName};
 ghost use Rattle.update_model.specs.Points.{start};
-ghost use Rattle.deb_fetch.specs.Asking.{AsksWhole, HasAsked, HasAskedNothing, IsUnderWayTo, asks_next};
+ghost use Rattle.deb_fetch.specs.Asking.{AsksWhole, HasAskedFor, HasAskedForNothing, IsUnderWayTo, asks_next};
 ghost use Rattle.deb_fetch.specs.Causes as causes;
 ghost use Rattle.deb_fetch.specs.Filenames.{IsDebName};
 ghost use Rattle.deb_fetch.specs.Landing.{IsReady, IsSettled, Lands};
@@ -104,10 +104,10 @@ fn ask_once<D: Disk, M: Method>(
 
     ensures sound { OnOk result (IsSoundAt (point_of item.new)) }
     ensures retries { OnOk result (retries_of item.new ≡ retries_of item.old) }
-    ensures none { IfOk result (λ more. more ≡ false → HasAskedNothing (M.faults method.old) (M.faults method.new)
-        (D.trace place.old) (D.trace place.new) (point_of item.old) (point_of item.new)) }
-    ensures more { IfOk result (λ b. b ≡ true → HasAsked (retries_of item.old) (M.world method.old) file.now.0
-        (M.faults method.old) (M.faults method.new) (D.trace place.new) (point_of item.old) (point_of item.new)) }
+    ensures none { IfOk result (λ more. more ≡ false
+        → HasAskedForNothing D.Disk M.Method place.old place.new method.old method.new item.old item.new) }
+    ensures more { IfOk result (λ b. b ≡ true
+        → HasAskedFor M.Method file.now.0 method.old method.new (D.trace place.new) item.old item.new) }
 {
     let job = match item.ask() {
         None => return Ok(false),

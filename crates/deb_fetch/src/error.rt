@@ -17,6 +17,7 @@ pub enum DebError {
     Several(Text),
     /// A disk failed.
     DiskFault,
+    /// Memory ran out, or the file's URI would be longer than a sound one.
     NoMemory,
 }
 

@@ -9,11 +9,15 @@
 //!
 //! `fetch_deb` leaves the file whole and lasting where it answers no cause (`whole`). At every moment a crash leaves the
 //! file as it might have left it before the call, or whole, and all others but the one on its way as it might have left
-//! them (`moments`), and at the end these are as they were (`others`). Where disk and method tell, the answer is none
-//! where the file was there and fits, or the mirror leads to it within its size, and else the cause that this shows; or it
-//! is the method (`answer`), which is told only where its count of faults rose by one more than an ask may be repeated,
-//! with two counts of this call (`failed`). Whatever tells, the cause is how a route of plain asks ended (`route`). Its errors
-//! are a fault of the folder, which comes only where its count rose, and want of memory (`frame`, `only`).
+//! them (`moments`), and at the end these are as they were (`others`). Where the disk tells, nothing is asked beside a file
+//! that is there and fits (`unasked`), and beside a cause the file is as it was (`kept`). No more fetches are begun than
+//! eleven places have, each with its repeats (`begins`).
+//!
+//! Where disk and method tell, the answer is none where the file was there and fits, or the mirror leads to it within its
+//! size, and else the cause that this shows; or it is the method (`answer`), which is told only where its count of faults
+//! rose by one more than an ask may be repeated, with its counts around the last failure (`failed`). Whatever tells, the
+//! cause is how a route of plain asks ended (`route`). Its errors are a fault of the folder, which comes only where its
+//! count rose, and want of memory (`frame`, `only`).
 #![tactic(auto)]
 
 pub use deb::Deb;

@@ -16,6 +16,7 @@ pub struct Stanza {
     pub base: Uri,
     /// Where the file is below it.
     pub path: Text,
+    /// Its size and SHA-256 hash.
     pub sum: Sum,
 }
 

@@ -64,7 +64,7 @@ fn send_body<P: Port, T: Tree>(
     ensures others { others_of (P.talks port.new) ≡ others_of (P.talks port.old) }
     ensures sent { IfSome (T.files tree.old) (λ files.
         OnOk result (P.talks port.new ≡ option_map
-            (on_first (sends (part_at files planned.now.path planned.now.at planned.now.left))) (P.talks port.old))) }
+        (on_first (sends (part_at files planned.now.path planned.now.at planned.now.left))) (P.talks port.old))) }
     ensures part { IfSome (T.files tree.old) (λ files.
         OnErr result (SendsPartOfLatest (part_at files planned.now.path planned.now.at planned.now.left) (P.talks port.old) (P.talks port.new))) }
 {
