@@ -2,5 +2,9 @@ mod Asking
 mod Damage
 mod Endings
 mod Lines
+mod Schemes
+mod Downloading
+mod Sides
+mod WithoutMemory
 mod Promised
 mod Served

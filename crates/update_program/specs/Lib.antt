@@ -7,3 +7,7 @@ pub mod Ending
 pub mod Headline
 -- What `generate` writes.
 pub mod Generated
+-- What is asked for beside updates.
+pub mod Sides
+-- What comes of a package file that is asked for.
+pub mod Downloads

@@ -8,13 +8,21 @@
 //! `run_promises`.
 #![tactic(auto)]
 
+pub use aside::Aside;
+pub use program::program_call;
 pub use ran::{Ran, Status};
 pub use top::update_call;
 
+mod aside;
+mod download;
+mod fetch;
 mod generate;
 mod holding;
+mod method;
 mod options;
+mod program;
 mod ran;
 mod run;
 mod say;
+mod serve;
 mod top;

@@ -57,7 +57,7 @@ pub fn run_options<E: Etc, D: Disk, M: Method, C: Clock, S: Sink>(
 }
 
 /// Writes the line of a configuration that is refused.
-fn refuse<S: Sink>(alloc: Global, refusal: ConfigurationError, out: &mut S) -> Ran
+pub fn refuse<S: Sink>(alloc: Global, refusal: ConfigurationError, out: &mut S) -> Ran
     ensures frame { BlamesOutput (S.faults out.old) (S.faults out.new) result.status.0 }
     ensures no_disk_fault { result.status.0 ≢ 102 }
     ensures not_held { result.status.0 ≢ 104 }
