@@ -16,7 +16,7 @@ use crate::say::{write_fault, write_fixed};
 use acq_base::{Row, Text};
 use acq_outside::{Disk, Etc, HoldError, Method, Sink};
 use commit_journal::{JournalError, open_journal};
-use configuration::{Configured, ConfigurationError, configure};
+use configuration::{ConfigurationError, Configured, configure};
 use deb_fetch::find_deb;
 use report_text::FaultLine;
 use std::alloc::Global;

@@ -1,4 +1,8 @@
-//! The top call: what the words of a command line ask for, from the configuration to the report.
+//! The top call: what the words of a command line ask for.
+//!
+//! `program_call` sees whether they ask for something beside updates: one package's file (`downloads`), apt's method
+//! interface (`speaks`) or a server of files (`serves`), each of which touches no object of another (`download_alone`,
+//! `method_alone`, `serve_alone`). All other words are those of `update_call`, each of whose clauses it has for them.
 //!
 //! `update_call` reads the words, then the configuration, takes the hold on the lists folder, reads the moment, runs the
 //! update and writes the report; the first refusal or fault ends it, by one line in place of the report. It touches nothing

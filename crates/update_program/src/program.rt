@@ -118,17 +118,17 @@ pub fn program_call<
         (IfNoUpdate (asked words.now) ((E.faults etc.new ≡ E.faults etc.old) × (C.given clock.new ≡ C.given clock.old))) }
     ensures unconfigured { Otherwise (side_asked words.now)
         (IfUpdate (asked words.now) (WhereRefused (E.files etc.old) result.status.0 (LeavesDiskAndClock D.Disk C.Clock disk.old disk.new
-            clock.old clock.new))) }
+        clock.old clock.new))) }
     ensures generated { Otherwise (side_asked words.now)
         (IfGenerate (asked words.now) (λ number. IsGenerated number (output S.Sink out.old) (output S.Sink out.new) result.status.0)) }
     ensures ended { Otherwise (side_asked words.now)
         (IfUpdate (asked words.now) (EndsUpdate (E.files etc.old) (C.last clock.new) (span D.Disk M.Method S.Sink disk.old disk.new methods.old
-            methods.new out.old out.new) result)) }
+        methods.new out.old out.new) result)) }
     // A stop leaves whole sets, a log shows its run, the lists are as it tells, and over a mirror each new set is the one that
     // its answers define, and so are lists and log, unless a fetch was given up; a source that it serves whole has its set.
     ensures headline { Otherwise (side_asked words.now)
         (IfUpdate (asked words.now) (Headline (E.files etc.old) (C.last clock.new) (span D.Disk M.Method S.Sink disk.old disk.new methods.old
-            methods.new out.old out.new) result)) }
+        methods.new out.old out.new) result)) }
 {
     let alloc = rt.alloc();
     if let Some(http) = asked_scheme(words) {
@@ -142,11 +142,15 @@ pub fn program_call<
         );
     }
     match read_side(alloc, words) {
-        Ok(Some(Side::Serve {
-            root,
-            port,
-            connections,
-        })) => serve_call(
+        Ok(
+            Some(
+                Side::Serve {
+                    root,
+                    port,
+                    connections,
+                },
+            ),
+        ) => serve_call(
             alloc,
             &root,
             port,
