@@ -6,29 +6,35 @@ ghost use Rattle.acq_real.specs.RealEtc as etc;
 ghost use Rattle.acquire.specs.Carried.{CarriesOut};
 
 use crate::exit_code;
-use crate::outside::open;
-use acq_outside::{Clock, Disk, Etc, Method, Sink};
-use acq_real::{RealClock, RealDisk, RealEtc, RealSink};
+use crate::outside::{open, open_aside};
+use crate::place::place_for;
+use acq_net::{Port, TcpPort};
+use acq_outside::{Clock, Disk, Etc, Files, Inlet, Method, Sink, Tree};
+use acq_real::{RealClock, RealDisk, RealEtc, RealFiles, RealSink, RealTree};
 use start_values::{Environment, Refused, begin_program, write_refusal};
 use std::fs::File;
+use std::net::{Net, TcpListener, TcpStream};
 use std::process::ExitCode;
 use std::rt;
 use std::sync::Wait;
 use std::thread::Threads;
-use update_program::{Status, update_call};
+use update_program::{Status, program_call};
 
-/// Reads the words and the folders that the environment names, and carries the words out over these folders and one method.
+/// Reads the words and the folders that the environment names, and carries the words out over these folders, one method and an
+/// input.
 /// It answers the status of that call, or of the refusal where words or a variable can't be read.
-pub fn carry_out<V, R, M>(
+pub fn carry_out<V, R, M, I>(
     rt: R,
     environment: &V,
     methods: &mut Vec<M>,
+    input: I,
     out: &mut RealSink<R>,
 ) -> ExitCode
 where
     V: Environment,
     R: rt::Files<File = File>
         + rt::Clock
+        + Net<Listener = TcpListener, Stream = TcpStream>
         + Print
         + AllocGlobal
         + Threads
@@ -37,9 +43,11 @@ where
         + Send
         + 'static,
     M: Method + Send + 'static,
+    I: Inlet,
     requires { vec_len methods.old ≡ 1 }
     ensures { CarriesOut ⟦<RealEtc<R> as Etc>⟧ ⟦<RealDisk<R> as Disk>⟧ M.Method ⟦<RealClock<R> as Clock>⟧ ⟦<RealSink<R> as Sink>⟧
-        etc.folder_of disk.folder_of (V.known environment.now) methods.old methods.new out.old out.new (exit_status result) }
+        I.Inlet ⟦<RealFiles<R> as Files>⟧ ⟦<TcpPort<R> as Port>⟧ ⟦<RealTree<R> as Tree>⟧
+        etc.folder_of disk.folder_of (V.known environment.now) methods.old methods.new input out.old out.new (exit_status result) }
 {
     let start = match begin_program(rt.alloc(), environment, out) {
         Ok(start) => start,
@@ -48,7 +56,14 @@ where
     let Ok(mut outside) = open(rt, &start) else {
         return exit_code(Status(write_refusal(Refused::NoMemory, out)));
     };
-    let ran = update_call(
+    let place = match place_for(rt.alloc(), environment, start.words.as_slice()) {
+        Ok(place) => place,
+        Err(refused) => return exit_code(Status(write_refusal(refused, out))),
+    };
+    let Ok(mut aside) = open_aside(rt, input, place.as_str()) else {
+        return exit_code(Status(write_refusal(Refused::NoMemory, out)));
+    };
+    let ran = program_call(
         &rt,
         start.words.as_slice(),
         &mut outside.etc,
@@ -56,6 +71,7 @@ where
         methods,
         &mut outside.clock,
         out,
+        &mut aside,
     );
     exit_code(ran.status)
 }

@@ -1,19 +1,19 @@
 //! The program `acquire`: fetches the package lists that a configuration names and keeps each source's set of them
 //! consistent.
 //!
-//! It reads its words and three variables of the environment, makes the real objects, and leaves the rest to
-//! `update_call`, whose status it ends with.
+//! It reads its words and the variables of its environment, makes the real objects, and leaves the rest to
+//! `program_call`, whose status it ends with.
 //!
 //! `main` takes the descriptors of standard input, output and error where it was started without them, makes one method,
-//! and then makes one call of `carry_out` over the system's environment. Proved of that call, over any environment: either what can't be read
-//! is told, or it ends as one call of `update_call` may, with the words behind the program's own name, over the folders that the
+//! and then makes one call of `carry_out` over the system's environment and standard input. Proved of that call, over any environment: either what can't be read
+//! is told, or it ends as one call of `program_call` may, with the words behind the program's own name, over the folders that the
 //! environment names and that method, and the exit code is its status (`CarriesOut`).
 #![tactic(auto)]
 
 ghost use Rattle.std.specs.Prelude.{◌≡◌};
 ghost use Rattle.std.specs.Process.{exit_status};
 
-use acq_real::RealSink;
+use acq_real::{RealInlet, RealSink};
 use carrying::carry_out;
 use outside::one_method;
 use standard::hold_standard;
@@ -23,6 +23,7 @@ use update_program::Status;
 
 mod carrying;
 mod outside;
+mod place;
 mod standard;
 
 fn main(rt: HostRuntime) -> ExitCode {
@@ -31,7 +32,8 @@ fn main(rt: HostRuntime) -> ExitCode {
     let Ok(mut methods) = one_method(rt.alloc(), rt) else {
         return exit_code(Status(write_refusal(Refused::NoMemory, &mut out)));
     };
-    carry_out(rt, &RealEnvironment::new(rt), &mut methods, &mut out)
+    let input = RealInlet::new(rt.stdin());
+    carry_out(rt, &RealEnvironment::new(rt), &mut methods, input, &mut out)
 }
 
 /// The code with which the program ends.

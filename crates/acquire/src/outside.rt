@@ -4,19 +4,24 @@ ghost use Rattle.acq_real.specs.RealDisk as disk;
 ghost use Rattle.acq_real.specs.RealEtc as etc;
 
 use acq_base::NoMemory;
-use acq_net::TcpLink;
-use acq_real::{RealClock, RealDisk, RealEtc, RealTree};
+use acq_net::{TcpLink, TcpPort};
+use acq_outside::Inlet;
+use acq_real::{RealClock, RealDisk, RealEtc, RealFiles, RealTree};
 use both_method::BothMethod;
 use file_method::FileMethod;
 use http_method::HttpMethod;
 use start_values::Start;
 use std::alloc::Global;
 use std::fs::File;
-use std::net::{Net, TcpStream};
+use std::net::{Net, TcpListener, TcpStream};
 use std::rt::{Clock, Files};
+use update_program::Aside;
 
 /// The method of the program: files of the system for `file` URIs, peers over TCP for `http` URIs.
 pub type RealMethod<R> = BothMethod<FileMethod<RealTree<R>>, HttpMethod<TcpLink<R>>>;
+
+/// What the commands beside updates work on, over this input.
+pub type RealAside<R, I> = Aside<I, RealFiles<R>, TcpPort<R>, RealTree<R>, RealDisk<R>>;
 
 /// The folders and the clock of a run.
 #[derive(Drop)]
@@ -42,6 +47,27 @@ where
         lists: open_lists(alloc, rt, start)?,
         clock: RealClock::new(rt),
     })
+}
+
+/// What stands beside: an input, files and a port of the system, and the folder of this path. It touches none of them.
+pub fn open_aside<R, I>(rt: R, input: I, place: &str) -> Result<RealAside<R, I>, NoMemory>
+where
+    R: Files<File = File> + Net<Listener = TcpListener, Stream = TcpStream> + AllocGlobal + Copy,
+    I: Inlet,
+    ensures input { IfOk result (λ aside. aside.input ≡ input) }
+    ensures place { IfOk result (λ aside. disk.folder_of aside.place ≡ place.now) }
+{
+    let alloc = rt.alloc();
+    match RealDisk::new(alloc, rt, place) {
+        Ok(folder) => Ok(Aside {
+            input,
+            files: RealFiles::new(rt),
+            port: TcpPort::new(rt),
+            tree: RealTree::new(rt),
+            place: folder,
+        }),
+        Err(_) => Err(NoMemory),
+    }
 }
 
 fn open_etc<R>(alloc: Global, rt: R, start: &Start) -> Result<RealEtc<R>, NoMemory>

@@ -1,0 +1,45 @@
+//! The folder for package files.
+ghost use Rattle.std.specs.Prelude.{◌≡◌, codes, map, string_bytes, IfErr, IfOk, IfSome};
+ghost use Rattle.acquire.specs.Carried.{IsPlace, is_package};
+ghost use Rattle.start_values.specs.Start.{IsFolderRefusal};
+
+use start_values::{Environment, Refused, read_place};
+use std::alloc::Global;
+
+/// The path of the folder that the environment names for package files. Where the variable names none, only a command that puts a
+/// file there is refused.
+pub fn place_for<V: Environment>(
+    alloc: Global,
+    environment: &V,
+    words: &[String],
+) -> Result<String, Refused>
+    ensures place { IfSome (V.known environment.now) (λ known. IfOk result (λ place. IsPlace known (map string_bytes words.now) (string_bytes place))) }
+    ensures refused { IfSome (V.known environment.now) (λ known. IfErr result (IsFolderRefusal (known.value (codes "ACQUIRE_PLACE")))) }
+{
+    if asks_for_package(words) {
+        return read_place(alloc, environment);
+    }
+    match read_place(alloc, environment) {
+        Ok(place) => Ok(place),
+        Err(_) => usual(alloc),
+    }
+}
+
+fn usual(alloc: Global) -> Result<String, Refused>
+    ensures { IfErr result (λ refused. refused ≡ Refused.NoMemory) }
+{
+    match String::from_str(alloc, ".") {
+        Ok(place) => Ok(place),
+        Err(_) => Err(Refused::NoMemory),
+    }
+}
+
+/// Whether the first word is that of the command which puts a file there.
+fn asks_for_package(words: &[String]) -> bool
+    ensures { result ≡ is_package (map string_bytes words.now) }
+{
+    match words {
+        [command, ..] => command.as_str() == "download",
+        [] => false,
+    }
+}
