@@ -1,5 +1,5 @@
 -- What the program does with what it was started with.
-use Rattle.std.specs.Prelude.{◌≡◌, ◌⊎◌, ℕ, Bool, false, bytes_eq, codes, List, [], ◌∷◌, drop, map, Option, IfNone, IfSome, String, string_bytes}
+use Rattle.std.specs.Prelude.{◌≡◌, ◌⊎◌, ℕ, Bool, true, false, bytes_eq, codes, List, [], ◌∷◌, drop, map, Option, IfNone, IfSome, String, string_bytes}
 use Rattle.std.specs.Global.{Global, Vec}
 use Rattle.acq_net.specs.declared.port.Port.{Ghosts as Ports}
 use Rattle.acq_outside.specs.declared.clock.Clock.{Ghosts as Clocks}
@@ -13,6 +13,7 @@ use Rattle.acq_outside.specs.declared.tree.Tree.{Ghosts as Trees}
 use Rattle.start_values.specs.Environment.{Known}
 use Rattle.start_values.specs.Start.{IsFolderRefusal, NamesFolders, etc_of, lists_of, place_of}
 use Rattle.start_values.specs.declared.refused.Refused.{Refused}
+use Rattle.start_values.specs.declared.refused.Refused.TheVariants.{Environment}
 use Rattle.start_values.specs.Telling.{IsRefusalWritten, WritesRefusal}
 use Rattle.update_program.specs.Asked.{IfGenerate, IfUpdate, asked}
 use Rattle.update_program.specs.Downloads.{DownloadsByFirst}
@@ -32,15 +33,19 @@ is_package (command ∷ words) = bytes_eq command (codes "download")
 abbrev pub IsPlace : Known → List (List ℕ) → List ℕ → Type 0
 IsPlace known words place = (is_package words ≡ false) ⊎ (place ≡ place_of known)
 
--- the environment names no folder for package files, or memory ran out, and that was told
+-- why there is none: the words put a file there, and the environment names no folder for it; or memory ran out
+abbrev pub IsPlaceRefusal : Known → List (List ℕ) → Refused → Type 0
+IsPlaceRefusal known words refused = IsFolderRefusal (known.value (codes "ACQUIRE_PLACE")) refused × (refused ≡ Environment → is_package words ≡ true)
+
+-- and that was told
 abbrev pub RefusesPlace : Option Known → ℕ → ℕ → Option (List ℕ) → Option (List ℕ) → ℕ → Type 0
 RefusesPlace told faults_before faults_after before after status =
-    (refused : Refused) × IfSome told (λ known. IsFolderRefusal (known.value (codes "ACQUIRE_PLACE")) refused)
+    (refused : Refused) × IfSome told (λ known. IsPlaceRefusal known (drop 1 known.words) refused)
     × WritesRefusal faults_before faults_after before after refused status
 
 -- One call of the top call over these methods and this input: its words are those behind the program's own name, its folders are
 -- those that the environment names, whose variables are unset or paths, and the status is the call's; and how the call ends by
--- its words, with its headline. The causes of statuses of an update are not among it.
+-- its words, with its headline. The causes of statuses of an update or a download are not among it, nor what stays as it was.
 pub record CallsProgram {E D M C S I F P T : Type 0} (e : Etcs E) (d : Disks D) (m : Methods M) (c : Clocks C) (s : Sinks S) (i : Inlets I) (f : PutFiles F) (p : Ports P) (t : Trees T)
     (etc_folder : E → List ℕ) (folder : D → List ℕ) (told : Option Known) (methods methods' : Vec M) (input : I) (out out' : S) (status : ℕ) : Type 0 where
   pub words : List (String Global)
@@ -67,7 +72,7 @@ pub record CallsProgram {E D M C S I F P T : Type 0} (e : Etcs E) (d : Disks D) 
   pub port' : P
   pub tree : T
   pub tree' : T
-  pub serves : IfServe (side_asked words) (λ root connections. ServesPort p t s root connections port port' tree tree' out out' ran.status.0)
+  pub serves : IfServe (side_asked words) (λ root number connections. ServesPort p t s root number connections port port' tree tree' out out' ran.status.0)
   pub place : D
   pub place' : D
   pub place_is : IfSome told (λ known. IsPlace known (map string_bytes words) (folder place))

@@ -1,7 +1,6 @@
 //! The folder for package files.
-ghost use Rattle.std.specs.Prelude.{◌≡◌, codes, map, string_bytes, IfErr, IfOk, IfSome};
-ghost use Rattle.acquire.specs.Carried.{IsPlace, is_package};
-ghost use Rattle.start_values.specs.Start.{IsFolderRefusal};
+ghost use Rattle.std.specs.Prelude.{◌≡◌, map, string_bytes, IfErr, IfOk, IfSome};
+ghost use Rattle.acquire.specs.Carried.{IsPlace, IsPlaceRefusal, is_package};
 
 use start_values::{Environment, Refused, read_place};
 use std::alloc::Global;
@@ -14,7 +13,7 @@ pub fn place_for<V: Environment>(
     words: &[String],
 ) -> Result<String, Refused>
     ensures place { IfSome (V.known environment.now) (λ known. IfOk result (λ place. IsPlace known (map string_bytes words.now) (string_bytes place))) }
-    ensures refused { IfSome (V.known environment.now) (λ known. IfErr result (IsFolderRefusal (known.value (codes "ACQUIRE_PLACE")))) }
+    ensures refused { IfSome (V.known environment.now) (λ known. IfErr result (IsPlaceRefusal known (map string_bytes words.now))) }
 {
     if asks_for_package(words) {
         return read_place(alloc, environment);

@@ -1,7 +1,7 @@
 //! What a program is given when it starts: its words, its folders and its lanes, and what is told where these can't be read.
 //!
 //! The variables are `ACQUIRE_ETC`, the configuration folder; `ACQUIRE_LISTS`, the lists folder; `ACQUIRE_LANES`, how
-//! many workers may fetch; and `ACQUIRE_PLACE`, the folder for package files, which the program doesn't read yet.
+//! many workers may fetch; and `ACQUIRE_PLACE`, the folder for package files.
 //!
 //! `read_start` gives the words behind the program's own name, the two folders and the lanes that an environment's
 //! variables say (`words`, `etc`, `lists`, `lanes`; each word is UTF-8, `text`, and each folder's variable unset or a

@@ -1,5 +1,5 @@
 -- What a package file that is asked for rests on.
-use Rattle.std.proofs.Common.{◌≡◌, ◌∙◌, ℕ, List, [], ◌∷◌, ◌++◌, Option, Some, Ok, Err, inl, inr, refl}
+use Rattle.std.proofs.Common.{◌≡◌, ◌∙◌, ℕ, List, [], Option, Ok, Err, inl, inr, refl}
 use Rattle.acq_outside.specs.Etc.{EtcFiles}
 use Rattle.acq_outside.specs.Crash.{State}
 use Rattle.acq_outside.specs.States.{From, Since}
@@ -12,8 +12,7 @@ use Rattle.configuration.specs.declared.error.ConfigurationError.{ConfigurationE
 use Rattle.configuration.specs.declared.error.ConfigurationError.TheVariants.{Fault, NoMemory}
 use Rattle.report_text.specs.Refused.{line_of}
 use Rattle.update_program.proofs.Endings.{given}
-use Rattle.update_program.specs.Asked.{GivesConfiguration}
-use Rattle.update_program.specs.Downloads.{Downloads, FetchesNothing, IsUnconfigured, LooksIntoLists}
+use Rattle.update_program.specs.Downloads.{Downloads, IsUnconfigured, LooksIntoLists}
 use Rattle.update_program.specs.Objects.{Output}
 use Rattle.update_program.specs.Said.{WritesFault}
 

@@ -2,9 +2,8 @@
 use Rattle.std.proofs.Common.{◌≡◌, ℕ, Bool, true, false, List, [], ◌∷◌, Option, Some, None, refl}
 use Rattle.std.specs.Prelude.{bytes_eq, codes, if◌then◌else◌, option_and_then, option_map}
 use Rattle.std.specs.List.{before_first, after_first}
-use Rattle.command_words.specs.Side.{download_in, download_of, is_empty, is_equals, is_root, number_to, serve_in, serve_of, side_by, method_of, method_in}
-use Rattle.command_words.specs.declared.side.Side.{Side}
-use Rattle.command_words.specs.declared.side.Side.TheVariants.{Method, Serve, Download}
+use Rattle.command_words.specs.Side.{download_of, is_empty, is_equals, is_root, number_to, serve_of, side_by}
+use Rattle.command_words.specs.declared.side.Side.TheVariants.{Serve, Download}
 use Rattle.update_program.specs.Sides.{scheme_of}
 
 no_server : (words : List (List ℕ)) → scheme_of (serve_of words) ≡ None

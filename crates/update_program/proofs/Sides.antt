@@ -19,10 +19,10 @@ for_no_method (Some (Method http)) P none = absurd cc
 for_no_method (Some (Serve root port connections)) P none = tt
 for_no_method (Some (Download name version)) P none = tt
 
-pub for_any_server : (side : Option Side) (P : List ℕ → ℕ → Type 0) → ((root : List ℕ) (connections : ℕ) → P root connections) → IfServe side P
+pub for_any_server : (side : Option Side) (P : List ℕ → ℕ → ℕ → Type 0) → ((root : List ℕ) (port connections : ℕ) → P root port connections) → IfServe side P
 for_any_server None P all = tt
 for_any_server (Some (Method http)) P all = tt
-for_any_server (Some (Serve root port connections)) P all = all root connections
+for_any_server (Some (Serve root port connections)) P all = all root port connections
 for_any_server (Some (Download name version)) P all = tt
 
 pub for_any_package : (side : Option Side) (P : List ℕ → List ℕ → Type 0) → ((name version : List ℕ) → P name version) → IfDownload side P

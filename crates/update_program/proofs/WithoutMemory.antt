@@ -1,5 +1,5 @@
 -- Where memory ran out before it was known what is asked for.
-use Rattle.std.proofs.Common.{◌≡◌, ◌≤◌, ℕ, List, [], ◌∷◌, length, Option, Err, inr, refl, arith, vec_len}
+use Rattle.std.proofs.Common.{◌≤◌, ℕ, List, [], ◌∷◌, length, Option, Err, inr, refl, arith, vec_len}
 use Rattle.std.specs.Global.{Vec}
 use Rattle.acq_net.specs.declared.port.Port as ports
 use Rattle.acq_outside.specs.Etc.{EtcFiles}
@@ -15,9 +15,9 @@ use Rattle.update_program.specs.Said.{WritesLine}
 use Rattle.update_program.specs.Sides.{ServesPort}
 
 -- no connection was served
-pub dry_server : {P T S : Type 0} (p : ports.Ghosts P) (t : trees.Ghosts T) (s : sinks.Ghosts S) (root : List ℕ) (connections : ℕ) (port : P) (tree : T) (out out' : S) (status : ℕ)
-    → WritesLine (output s out) (output s out') Memory status → ServesPort p t s root connections port port tree tree out out' status
-dry_server p t s root connections port tree out out' status said = record {
+pub dry_server : {P T S : Type 0} (p : ports.Ghosts P) (t : trees.Ghosts T) (s : sinks.Ghosts S) (root : List ℕ) (number connections : ℕ) (port : P) (tree : T) (out out' : S) (status : ℕ)
+    → WritesLine (output s out) (output s out') Memory status → ServesPort p t s root number connections port port tree tree out out' status
+dry_server p t s root number connections port tree out out' status said = record {
   end = Err stops.NoMemory;
   frame = record {
     port_count = omega arith;
@@ -25,6 +25,7 @@ dry_server p t s root connections port tree out out' status said = record {
     lost = record { count = omega arith; fault = λ is. absurd cc; quiet = tt; dry = λ other. refl };
     same = refl;
   };
+  at = tt;
   served = tt;
   said = said;
 }

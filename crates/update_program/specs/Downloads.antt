@@ -1,10 +1,10 @@
 -- What comes of a package file that is asked for.
-use Rattle.std.specs.Prelude.{◌≡◌, ◌⊎◌, ℕ, Bool, List, [], ◌∷◌, Option, Some, None, Result, Ok, Err, IfOk, IfErr, IsTrue, OnOk}
+use Rattle.std.specs.Prelude.{◌≡◌, ◌⊎◌, ℕ, List, [], ◌∷◌, Option, Some, None, Result, Ok, Err, IfOk, IfErr, IsTrue}
 use Rattle.acq_base.specs.declared.plan.Plan.{Plan}
 use Rattle.acq_base.specs.declared.settings.Settings.{Settings}
 use Rattle.acq_outside.specs.Etc.{EtcFiles}
 use Rattle.acq_outside.specs.Fetches.{Fetches}
-use Rattle.acq_outside.specs.States.{From, IsNow, Since}
+use Rattle.acq_outside.specs.States.{IsNow, Since}
 use Rattle.acq_outside.specs.Stays.{ReadsCounting, StaysCounting}
 use Rattle.acq_outside.specs.declared.disk.Disk as disks
 use Rattle.acq_outside.specs.declared.method.Method as methods
@@ -131,13 +131,15 @@ pub record IsNotHeld {D Q M : Type 0} (d : disks.Ghosts D) (disk disk' : D) (pla
   pub nothing : FetchesNothing place place' method method'
   pub said : WritesLine out out' Held status ⊎ WritesLine out out' Disk status
 
--- the lists folder was held, and then looked into
+-- the lists folder was held, neither failed nor was found held by another process, and was then looked into
 pub record HoldsLists {D Q M : Type 0} (d : disks.Ghosts D) (q : disks.Ghosts Q) (m : methods.Ghosts M) (it : Configured) (name version : List ℕ)
     (disk disk' : D) (place place' : Q) (method method' : M) (out out' : Output) (status : ℕ) : Type 0 where
   pub held : D
   pub files : d.files held ≡ d.files disk
   pub still : d.trace held ≡ d.trace disk
   pub telling : d.tells held ≡ d.tells disk
+  pub quiet : d.faults held ≡ d.faults disk
+  pub free : d.held held ≡ d.held disk
   pub opens : OpensLists d q m it name version held disk' place place' method method' out out' status
 
 abbrev pub LooksIntoLists : {D Q M : Type 0} → disks.Ghosts D → disks.Ghosts Q → methods.Ghosts M → Configured → List ℕ → List ℕ → D → D → Q → Q → M → M → Output → Output → ℕ → Type 0

@@ -1,6 +1,6 @@
 -- What is asked for beside updates, and what comes of it.
 use Rattle.std.specs.Prelude.{◌≡◌, ℕ, Bool, List, ◌∷◌, map, Option, Some, None, Result, Ok, Err, OnOk, String, string_bytes}
-use Rattle.std.specs.Global.{Global, Vec}
+use Rattle.std.specs.Global.{Global}
 use Rattle.acq_net.specs.declared.port.Port as ports
 use Rattle.acq_outside.specs.Fetches.{Fetches}
 use Rattle.acq_outside.specs.declared.files.Files as put_files
@@ -52,11 +52,11 @@ IfMethod (Some (Method http)) P = P http
 IfMethod (Some (Serve root port connections)) P = Unit {0}
 IfMethod (Some (Download name version)) P = Unit {0}
 
--- P of the folder and of how many connections, where a server is asked for
-abbrev pub IfServe : Option Side → (List ℕ → ℕ → Type 0) → Type 0
+-- P of the folder, the port and how many connections, where a server is asked for
+abbrev pub IfServe : Option Side → (List ℕ → ℕ → ℕ → Type 0) → Type 0
 IfServe None P = Unit {0}
 IfServe (Some (Method http)) P = Unit {0}
-IfServe (Some (Serve root port connections)) P = P root connections
+IfServe (Some (Serve root port connections)) P = P root port connections
 IfServe (Some (Download name version)) P = Unit {0}
 
 -- P of the package's name and its version, where its file is asked for
@@ -98,10 +98,11 @@ SaysStop before after (Ok all) status = (status ≡ 0) × (after ≡ before)
 SaysStop before after (Err stops.Port) status = WritesLine before after PortLine status
 SaysStop before after (Err stops.NoMemory) status = WritesLine before after Memory status
 
--- The connections were served, or the port's count of lost ones rose, or memory ran out; and the status says which.
-pub record ServesPort {P T S : Type 0} (p : ports.Ghosts P) (t : trees.Ghosts T) (s : sinks.Ghosts S) (root : List ℕ) (connections : ℕ)
+-- The connections of that port were served, or its count of lost ones rose, or memory ran out; and the status says which.
+pub record ServesPort {P T S : Type 0} (p : ports.Ghosts P) (t : trees.Ghosts T) (s : sinks.Ghosts S) (root : List ℕ) (number connections : ℕ)
     (port port' : P) (tree tree' : T) (out out' : S) (status : ℕ) : Type 0 where
   pub end : Result (Unit {0}) Stop
   pub frame : Stops p t port port' tree tree' end
+  pub at : OnOk end (p.at port' ≡ Some number)
   pub served : OnOk end (HasServedAll p t root connections port port' tree tree')
   pub said : SaysStop (output s out) (output s out') end status

@@ -74,11 +74,11 @@ pub fn program_call<
         methods.old.items methods.new.items aside.old.files aside.new.files out.old out.new result.status.0) }
     ensures method_alone { IfMethod (side_asked words.now) (λ http. (etc.new ≡ etc.old) × (disk.new ≡ disk.old)
         × (aside.new.port ≡ aside.old.port) × (aside.new.tree ≡ aside.old.tree) × (aside.new.place ≡ aside.old.place)) }
-    ensures serves { IfServe (side_asked words.now) (λ root connections. ServesPort P.Port T.Tree S.Sink root connections
+    ensures serves { IfServe (side_asked words.now) (λ root port connections. ServesPort P.Port T.Tree S.Sink root port connections
         aside.old.port aside.new.port aside.old.tree aside.new.tree out.old out.new result.status.0) }
     ensures port_fault { IfServe (side_asked words.now)
-        (λ root connections. result.status.0 ≡ 108 → Rose (P.lost aside.old.port) (P.lost aside.new.port)) }
-    ensures serve_alone { IfServe (side_asked words.now) (λ root connections. (etc.new ≡ etc.old) × (disk.new ≡ disk.old)
+        (λ root port connections. result.status.0 ≡ 108 → Rose (P.lost aside.old.port) (P.lost aside.new.port)) }
+    ensures serve_alone { IfServe (side_asked words.now) (λ root port connections. (etc.new ≡ etc.old) × (disk.new ≡ disk.old)
         × (methods.new ≡ methods.old) × (aside.new.input ≡ aside.old.input) × (aside.new.files ≡ aside.old.files)
         × (aside.new.place ≡ aside.old.place)) }
 

@@ -1,7 +1,7 @@
 use Rattle.std.proofs.Common.{◌∙◌, inl, inr, map, string_bytes}
 use Rattle.start_values.specs.declared.refused.Refused.TheVariants.{NoMemory}
 use Rattle.start_values.specs.Start.{etc_of, lists_of}
-use Rattle.acquire.proofs.Told.{named_by, place_by, without_memory}
+use Rattle.acquire.proofs.Told.{named_by, place_by, refusal_by, without_memory}
 use Rattle.acquire.proofs.carrying.carry_out.Goals as goal
 
 pub returns : goal.returns
@@ -43,7 +43,7 @@ pub returns-in-Err-place_for : goal.returns-in-Err-place_for
 returns-in-Err-place_for g c =
     let begun = c.in-Ok.ensures in
     rw c.exit_code-in-Err-place_for.ensures
-    (inr (inl (c.in-Err-place_for.refused, c.in-Err-place_for.ensures.refused, rw begun.untouched at c.write_refusal-in-Err-place_for.ensures.told)))
+    (inr (inl (c.in-Err-place_for.refused, refusal_by _ (map string_bytes c.in-Ok.start.words.items) c.in-Err-place_for.refused begun.words (rw c.as_slice.ensures.value at c.in-Err-place_for.ensures.refused), rw begun.untouched at c.write_refusal-in-Err-place_for.ensures.told)))
 
 pub returns-in_default-open_aside : goal.returns-in_default-open_aside
 returns-in_default-open_aside g c =

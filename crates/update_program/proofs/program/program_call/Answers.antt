@@ -6,7 +6,7 @@ use Rattle.update_program.proofs.program.program_call.Goals as goal
 
 pub returns-in-Err-clause-serves : goal.returns-in-Err-clause-serves
 returns-in-Err-clause-serves g c =
-    rw c.without_log.ensures.status (for_any_server _ _ (λ root connections. dry_server _ _ _ root connections _ _ _ _ _ c.write_fixed.ensures.said))
+    rw c.without_log.ensures.status (for_any_server _ _ (λ root port connections. dry_server _ _ _ root port connections _ _ _ _ _ c.write_fixed.ensures.said))
 
 pub returns-in-Err-clause-downloads : goal.returns-in-Err-clause-downloads
 returns-in-Err-clause-downloads g c =
