@@ -10,7 +10,7 @@ use Rattle.lane_pool.specs.declared.rule.View.{View}
 use Rattle.lane_pool.specs.declared.desk.Coordinator.{Coordinator}
 use Rattle.lane_pool.specs.declared.replies.Replies.{Replies}
 use Rattle.lane_pool.specs.declared.lane.Lane.{Lane}
-use Rattle.lane_pool.specs.Pool.{NoneFell}
+use Rattle.acq_outside.specs.Count.{NoneFell}
 use Rattle.lane_pool.specs.Rule.{with_note, AreBounded}
 use Rattle.lane_pool.specs.Refinement.{IsLane, AreLanes, AreBack, pool_of}
 use Rattle.lane_pool.proofs.Rows.{get_snoc_or, get_last_or, none_fell_at}

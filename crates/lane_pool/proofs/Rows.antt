@@ -2,7 +2,7 @@
 use Rattle.std.proofs.Common.{◌≡◌, ℕ, zero, suc, ◌-◌, ◌<◌, ◌≤◌, List, [], ◌∷◌, ◌++◌, map, length, set, get_or, Some, refl, ap, ◌∙◌, arith}
 use Rattle.std.specs.List.{slice_get}
 use Rattle.std.proofs.lemmas.List.{get_or-map, map-set}
-use Rattle.lane_pool.specs.Pool.{NoneFell}
+use Rattle.acq_outside.specs.Count.{NoneFell}
 
 pub get_snoc_or : {A : Type 0} (l : List A) (a d : A) (j : ℕ) → j < length l → get_or (l ++ a ∷ []) j d ≡ get_or l j d
 get_snoc_or [] a d j h = absurd (omega arith)

@@ -15,7 +15,8 @@ use Rattle.lane_pool.specs.declared.rule.View.{View}
 use Rattle.lane_pool.specs.declared.replies.Replies.{Replies}
 use Rattle.lane_pool.specs.declared.lane.Lane.{Lane}
 use Rattle.lane_pool.specs.Words.{count_after, IsHeard}
-use Rattle.lane_pool.specs.Pool.{Pool, IsWordTaken, NoneFell}
+use Rattle.acq_outside.specs.Count.{NoneFell}
+use Rattle.lane_pool.specs.Pool.{Pool, IsWordTaken}
 use Rattle.lane_pool.specs.Rule.{world_at, IsReceived}
 use Rattle.lane_pool.specs.Slot.{IsChecked}
 use Rattle.lane_pool.specs.Refinement.{pool_of, IsLane, AreLanes, HasReplies}

@@ -48,10 +48,3 @@ pub record IsWordTaken (old : Pool) (told : Told) (new : Pool) : Type 0 where
   pub worlds : new.worlds ≡ old.worlds
   pub counts : new.counts ≡ slice_set old.counts told.lane (count_after (slice_index old.counts told.lane) told.word)
   pub outs : new.outs ≡ slice_set old.outs told.lane (after_word fetch told.word)
-
--- as many counts, none below what it was
-abbrev pub NoneFell : List ℕ → List ℕ → Type 0
-NoneFell [] [] = Unit {0}
-NoneFell [] (n ∷ ns) = ⊥
-NoneFell (m ∷ ms) [] = ⊥
-NoneFell (m ∷ ms) (n ∷ ns) = (m ≤ n) × NoneFell ms ns

@@ -1,6 +1,6 @@
 //! Ending the workers.
 ghost use Rattle.std.specs.Prelude.{◌≡◌, ◌<◌, map, vec_len, vec_capacity};
-ghost use Rattle.lane_pool.specs.Pool.{NoneFell};
+ghost use Rattle.acq_outside.specs.Count.{NoneFell};
 ghost use Rattle.lane_pool.specs.Refinement.{AreBack, AreLanes};
 
 use crate::Lanes;

@@ -2,7 +2,8 @@
 ghost use Rattle.std.specs.Prelude.{◌≡◌, ◌<◌, ℕ, None, Some, slice_get, slice_set, vec_len, vec_capacity, IfSome, IfNone, IfErr, IsSome, OnErr, OnOk};
 ghost use Rattle.acq_base.specs.Uri.{IsSound};
 ghost use Rattle.acq_outside.specs.Word.{CanBegin, IsSoundWord, IsWord, begun};
-ghost use Rattle.lane_pool.specs.Pool.{IsWordTaken, OthersStay, NoneFell, own_count, own_fetch, own_world};
+ghost use Rattle.acq_outside.specs.Count.{NoneFell};
+ghost use Rattle.lane_pool.specs.Pool.{IsWordTaken, OthersStay, own_count, own_fetch, own_world};
 ghost use Rattle.lane_pool.specs.Refinement.{AreLanes, pool_of};
 
 use crate::Told;

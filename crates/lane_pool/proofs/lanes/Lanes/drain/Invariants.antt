@@ -1,5 +1,5 @@
 use Rattle.std.proofs.Common.{◌≡◌}
-use Rattle.lane_pool.specs.Pool.{NoneFell}
+use Rattle.acq_outside.specs.Count.{NoneFell}
 use Rattle.lane_pool.proofs.lanes.Lanes.drain.Given as goal
 
 abbrev pub invariant-loop : goal.invariant-loop

@@ -1,6 +1,7 @@
 use Rattle.std.proofs.Common.{◌≡◌, ◌∙◌, List, ◌++◌, [], ◌∷◌, map, length, ap, subst, arith}
 use Rattle.std.proofs.lemmas.List.{nil_from_length}
-use Rattle.lane_pool.specs.Pool.{Pool, NoneFell}
+use Rattle.acq_outside.specs.Count.{NoneFell}
+use Rattle.lane_pool.specs.Pool.{Pool}
 use Rattle.lane_pool.proofs.Rows.{none_fell_trans}
 use Rattle.lane_pool.proofs.Joins.{worlds_back, counts_back}
 use Rattle.lane_pool.proofs.lanes.Lanes.finish.Goals as goal
