@@ -1,5 +1,5 @@
 -- What wasn't served, as the answer to a whole fetch.
-use Rattle.std.proofs.Common.{◌≡◌, ◌⊎◌, inr, ⊎_elim, refl, ap, ℕ, ◌<◌, ◌≤◌, Bool, true, List, length, take, Option, Some, None, IfSome, Result, Ok, Err, OnErr, arith}
+use Rattle.std.proofs.Common.{◌≡◌, ◌⊎◌, ⊎_elim, refl, ap, ℕ, ◌<◌, ◌≤◌, Bool, List, length, Option, Some, None, IfSome, Result, Ok, Err, OnErr, arith}
 use Rattle.std.proofs.lemmas.Bool.{le-leb, lt-leb, lt-ltb}
 use Rattle.acq_base.specs.Mirror.{MirrorMap, answer_at}
 use Rattle.acq_base.specs.declared.uri.Uri.{Uri}
@@ -18,8 +18,8 @@ use Rattle.update_model.specs.Trails.{IsFaultOr, answered}
 use Rattle.update_model.specs.declared.ask.Closed.{Closed}
 use Rattle.update_model.specs.declared.ask.Closed.TheVariants.{Served, Not}
 use Rattle.acq_base.specs.declared.fetch.NotServed.TheVariants.{Moved, Absent, TooBig, Garbled, Fault}
-use Rattle.job_fetch.specs.Fetched.{IsAnswer, IsCounted, IsKnown, IsSoundEnd, LeavesFile, ask_of}
-use Rattle.job_fetch.specs.Pieces.{AnswersOver, HasMore}
+use Rattle.job_fetch.specs.Fetched.{IsAnswer, IsCounted, IsSoundEnd, LeavesFile, ask_of}
+use Rattle.job_fetch.specs.Hearing.{ComesTo}
 
 abbrev Telling : Option MirrorMap → Job → Reply → Type 0
 Telling world job reply = IfSome world (λ entries. IsReplyOf (answer_at entries job.uri) job reply)
@@ -94,25 +94,10 @@ pub any_left : (from : ℕ) (name : List ℕ) (old new : List State) (closed : C
 any_left from name old new (Served body) left = tt
 any_left from name old new (Not end) left = left
 
--- what more came is left
-pub more_left : (from : ℕ) (name : List ℕ) (old new : List State) (closed : Closed) → HasMore from name new closed → LeavesFile from name old new closed
-more_left from name old new (Served body) more = tt
-more_left from name old new (Not end) more = inr more
-
-pub any_more : (from : ℕ) (name : List ℕ) (new : List State) (closed : Closed) → (IsTold new → from < length (part_bytes new name)) → HasMore from name new closed
-any_more from name new (Served body) more = tt
-any_more from name new (Not end) more = more
-
--- an answer beside all bytes
-pub any_answers : (world : Option MirrorMap) (name : List ℕ) (old new : List State) (job : Job) (closed : Closed) → ((part : List ℕ) → IsAnswer world part true job closed) → AnswersOver world name old new job closed
-any_answers world name old new job (Served body) is = λ told part front. is part
-any_answers world name old new job (Not end) is = is
-
--- beside what the file on its way had before it was opened
-pub answers_beside : (world : Option MirrorMap) (name : List ℕ) (mid new : List State) (part : List ℕ) (job : Job) (closed : Closed) → (IsTold new → part_bytes mid name ≡ take job.from part)
-    → AnswersOver world name mid new job closed → IsKnown new closed → IsAnswer world part true job closed
-answers_beside world name mid new part job (Served body) front is known = is known part (front known)
-answers_beside world name mid new part job (Not end) front is known = is part
+-- what wasn't served came to no wrong place
+pub no_file : (into : Option (List ℕ)) (now : List State) (end : NotServed) → ComesTo into now (Not end)
+no_file None now end = tt
+no_file (Some name) now end = tt
 
 pub on_err : {T E : Type 0} {P : Type 0} (result : Result T E) → P → OnErr result P
 on_err (Ok x) p = tt

@@ -1,7 +1,6 @@
 -- A list's file on its way as pieces come, from one moment of the disk to a later one.
-use Rattle.std.proofs.lemmas.List.{take_all}
-use Rattle.std.proofs.Common.{◌≡◌, refl, sym, ap, ◌∙◌, subst, ℕ, ◌+◌, ◌<◌, ◌≤◌, List, [], ◌∷◌, ◌++◌, length, take, length-append, length-take, arith}
-use Rattle.std.proofs.lemmas.List.{length-take-le, take-append-le}
+use Rattle.std.proofs.Common.{◌≡◌, refl, sym, ap, ◌∙◌, subst, ℕ, ◌+◌, ◌≤◌, List, [], ◌∷◌, ◌++◌, length, take, length-append, arith}
+use Rattle.std.proofs.lemmas.List.{length-take-le}
 use Rattle.acq_base.specs.Sum.{sum_of}
 use Rattle.acq_base.specs.declared.sum.Sum.{Sum}
 use Rattle.acq_outside.specs.Crash.{State}
@@ -11,7 +10,7 @@ use Rattle.hash_gate.specs.Pieces.{HasSummed, size_so_far}
 use Rattle.journal_model.specs.Names.{partial}
 use Rattle.journal_model.specs.Rest.{IsPartSynced, IsPartThere, KeptAtRestSince, KeepsAtRest, part_bytes}
 use Rattle.partial_store.specs.Refinement.{part_of}
-use Rattle.job_fetch.specs.Fetched.{KeepsFront, LastsAs, Staging}
+use Rattle.job_fetch.specs.Fetched.{LastsAs, Staging}
 use Rattle.job_fetch.specs.Others.{LeavesOthers}
 use Rattle.job_fetch.specs.Pieces.{IsFilling}
 use Rattle.job_fetch.proofs.Others.{others_by_steps}
@@ -76,27 +75,3 @@ staging_named given name old new same staging = subst (λ n. Staging n old new) 
 pub lasts_as : (now : List State) (name bytes : List ℕ) (sum : Sum) → IsTold now → IsNow (IsPartSynced name bytes) now → sum_of bytes ≡ sum → LastsAs name now sum
 lasts_as [] name bytes sum told synced sums = elim told [ ]
 lasts_as (s ∷ past) name bytes sum told synced sums = record { bytes = bytes; file = synced.is; sums = sums }
-
-pub front_more : (name : List ℕ) (keep : ℕ) (old mid new : List State) (piece : List ℕ) → (IsTold new → IsTold mid) → (IsTold new → part_bytes new name ≡ part_bytes mid name ++ piece)
-    → KeepsFront name keep old mid → KeepsFront name keep old new
-front_more name keep old mid new piece before bytes keeps = record {
-  front = λ told. ap (take keep) (bytes told) ∙ take-append-le keep (part_bytes mid name) piece (keeps.within (before told)) ∙ keeps.front (before told);
-  within = λ told. omega (arith, keeps.within (before told), ap length (bytes told), length-append (part_bytes mid name) piece);
-}
-
--- the first bytes that an opened file kept, and that what came since left
-pub front_on : (given name : List ℕ) (keep : ℕ) (old mid new : List State) → given ≡ name → (IsTold new → IsTold mid) → (IsTold mid → part_bytes mid name ≡ take keep (part_bytes old name))
-    → KeepsFront given keep mid new → KeepsFront name keep old new
-front_on given name keep old mid new is before bytes keeps =
-    let same = subst (λ n. KeepsFront n keep mid new) is keeps in
-    record {
-      front = λ told. same.front told ∙ ap (take keep) (bytes (before told)) ∙ take_all keep (take keep (part_bytes old name)) (omega (arith, length-take keep (part_bytes old name)));
-      within = same.within;
-    }
-
--- as one name's bytes or another's
-pub bytes_named : (given name : List ℕ) (old new : List State) (piece : List ℕ) → given ≡ name → (IsTold new → part_bytes new given ≡ part_bytes old given ++ piece) → IsTold new → part_bytes new name ≡ part_bytes old name ++ piece
-bytes_named given name old new piece same is = subst (λ n. IsTold new → part_bytes new n ≡ part_bytes old n ++ piece) same is
-
-pub longer : (from : ℕ) (given name : List ℕ) (now : List State) (len : ℕ) → given ≡ name → (IsTold now → length (part_bytes now given) ≡ len) → from < len → IsTold now → from < length (part_bytes now name)
-longer from given name now len same is past told = subst (λ n. from < length (part_bytes now n)) same (subst (λ n. from < n) (sym (is told)) past)

@@ -13,16 +13,7 @@ use Rattle.update_model.specs.Trails.{answered, body_for}
 use Rattle.acq_base.specs.declared.fetch.NotServed.TheVariants as nots
 use Rattle.update_model.specs.declared.ask.Closed.TheVariants as closed
 use Rattle.job_fetch.specs.Fetched.{IsAnswer, ask_of}
-
--- The bytes so far: those at hand that the job leaves out, and behind them the mirror's file up to this place.
-abbrev pub IsFront : Answer → List ℕ → ℕ → ℕ → List ℕ → Type 0
-IsFront (Served all) part from at bytes = bytes ≡ take from part ++ drop from (take at all)
-IsFront (Moved place) part from at bytes = Unit {0}
-IsFront (Absent status) part from at bytes = Unit {0}
-
--- where the method tells its mirror
-pub record HasCome (world : Option MirrorMap) (part : List ℕ) (job : Job) (at : ℕ) (bytes : List ℕ) : Type 0 where
-  pub told : IfSome world (λ entries. IsFront (answer_at entries job.uri) part job.from at bytes)
+use Rattle.job_fetch.specs.Hearing.{HasCome, IsFront}
 
 more : (answer : Answer) (part : List ℕ) (from at : ℕ) (bytes piece : List ℕ) → from ≤ at → IsPieceOf answer at piece → IsFront answer part from at bytes → IsFront answer part from (at + length piece) (bytes ++ piece)
 more (Served all) part from at bytes piece past goes is =

@@ -1,7 +1,7 @@
 pub mod Ends
 pub mod Fillings
 pub mod Fronts
+pub mod Hears
 pub mod Others
-pub mod Pieces
 pub mod Sums
 pub mod Words

@@ -1,5 +1,6 @@
--- What public clauses cite: what a fetch comes to.
+-- What public clauses cite: what a fetch comes to, and how it goes on from word to word.
 pub mod Fetched
+pub mod Hearing
 pub mod Others
--- For the crate's own functions: what holds while pieces come.
+-- A list's file while pieces come.
 pub mod Pieces

@@ -5,10 +5,13 @@ ghost use Rattle.acq_outside.specs.Count.{one_more};
 ghost use Rattle.acq_outside.specs.Fetches.{Fetches};
 ghost use Rattle.job_fetch.specs.Fetched.{IsAnswer, IsCounted, IsInMemory, IsSoundEnd};
 
+use crate::hearing::hear;
+use crate::intake::{Heard, Intake};
+use crate::no_disk::NoDisk;
 use acq_base::{Bytes, Job, NoMemory};
-use acq_outside::{Method, Word};
+use acq_outside::Method;
 use std::alloc::Global;
-use update_model::{Body, Closed};
+use update_model::Closed;
 
 /// Fetches the whole of what the job's URI names into memory. The URI is sound, and nothing of the file is at hand.
 ///
@@ -30,14 +33,15 @@ pub fn fetch_into_memory<M: Method>(
     ensures in_memory { IfOk result IsInMemory }
     ensures answer { IfOk result (IsAnswer (M.world method.old) [] false job.now) }
 {
-    let mut joined = Bytes::new(alloc);
+    let mut disk = NoDisk;
+    let mut intake = Intake::Held(Bytes::new(alloc));
     let mut word = method.begin(alloc, job);
     loop {
-        match word {
-            Word::Piece { at: _, bytes } => joined.append(bytes.as_slice())?,
-            Word::Done { size: _ } => return Ok(Closed::Served(Body::Bytes(joined))),
-            Word::Not(end) => return Ok(Closed::Not(end)),
-            Word::NoMemory => return Err(NoMemory),
+        match hear(&mut disk, job, intake, word) {
+            Ok(Heard::More(next)) => intake = next,
+            Ok(Heard::Last(closed)) => return Ok(closed),
+            // What goes into memory asks no disk.
+            Err(_) => return Err(NoMemory),
         }
         word = method.more(alloc);
     }

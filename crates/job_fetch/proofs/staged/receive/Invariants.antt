@@ -1,27 +1,21 @@
-use Rattle.std.proofs.Common.{◌≡◌, ◌⊎◌, ◌-◌, ◌<◌, ◌≤◌}
-use Rattle.acq_outside.specs.Fetches.{Fetches}
+use Rattle.std.proofs.Common.{◌≡◌, ◌⊎◌, ◌-◌, ◌<◌, Some}
 use Rattle.acq_outside.specs.Stays.{HasStayed}
-use Rattle.acq_outside.specs.Word.{IsSoundWord, IsWord}
+use Rattle.journal_model.specs.Rest.{part_bytes}
 use Rattle.job_fetch.specs.Fetched.{KeepsFront, Staging}
-use Rattle.job_fetch.specs.Pieces.{IsFilling, Serves, fetch_at}
-use Rattle.job_fetch.proofs.Pieces.{ComesOver}
+use Rattle.job_fetch.specs.Hearing.{at_of, name_of}
+use Rattle.job_fetch.proofs.Words.{IsComing}
 use Rattle.job_fetch.proofs.staged.receive.Given as goal
 
-abbrev pub invariant-loop-word : goal.invariant-loop-word
-invariant-loop-word g l = record {
+abbrev pub invariant-loop-heard : goal.invariant-loop-heard
+invariant-loop-heard g l = record {
   frame : HasStayed g.D.Disk l.fn.disk l.disk;
-  method : Fetches g.M.Method l.fn.method l.method;
   begins : g.M.Method.begins l.method ≡ g.M.Method.begins l.fn.method;
-  name : l.filling.part.name ≡ l.fn.opened.part.name;
-  past : l.job.from ≤ l.filling.part.len;
-  filling : IsFilling (g.D.Disk.trace l.disk) l.filling;
-  staging : Staging l.fn.opened.part.name (g.D.Disk.trace l.fn.disk) (g.D.Disk.trace l.disk);
-  front : KeepsFront l.fn.opened.part.name l.job.from (g.D.Disk.trace l.fn.disk) (g.D.Disk.trace l.disk);
-  fresh : Serves l.word ⊎ (l.job.from < l.filling.part.len);
-  sound : IsSoundWord l.word;
-  word : IsWord (g.M.Method.faults l.fn.method) (g.M.Method.faults l.method) (g.M.Method.world l.fn.method) (fetch_at l.job l.filling.part.len) (g.M.Method.under l.method) l.word;
-  come : ComesOver (g.M.Method.world l.fn.method) l.fn.opened.part.name (g.D.Disk.trace l.fn.disk) (g.D.Disk.trace l.disk) l.job l.filling.part.len;
+  into : name_of l.intake ≡ Some l.name.0;
+  coming : IsComing g.M.Method l.job (part_bytes (g.D.Disk.trace l.fn.disk) l.name.0) l.fn.method l.method (g.D.Disk.trace l.disk) l.intake l.word;
+  staging : Staging l.name.0 (g.D.Disk.trace l.fn.disk) (g.D.Disk.trace l.disk);
+  front : KeepsFront l.name.0 l.job.from (g.D.Disk.trace l.fn.disk) (g.D.Disk.trace l.disk);
+  fresh : (g.D.Disk.trace l.disk ≡ g.D.Disk.trace l.fn.disk) ⊎ (l.job.from < at_of l.job l.intake);
 }
 
-abbrev pub decreases-loop-word : goal.decreases-loop-word
-decreases-loop-word g l = l.job.max - l.filling.part.len
+abbrev pub decreases-loop-heard : goal.decreases-loop-heard
+decreases-loop-heard g l = l.job.max - at_of l.job l.intake
