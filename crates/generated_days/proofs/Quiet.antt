@@ -8,8 +8,7 @@ use Rattle.board_model.specs.Runs.{Note}
 use Rattle.board_model.specs.Stands.{entries_of, of_key}
 use Rattle.board_model.specs.declared.key.Key.{Key}
 use Rattle.generated_days.proofs.Answers.{IsNoFault, NoFault}
-use Rattle.run_jobs.specs.Counting.{CountsOn, CountsUp}
-use Rattle.update_engine.specs.Run.{FaultsRise, asks_of_lane}
+use Rattle.run_jobs.specs.Counting.{CountsOn, CountsUp, FaultsRise, asks_of_lane}
 use Rattle.update_model.specs.Trails.{heard_of}
 use Rattle.update_model.specs.declared.ask.Closed.{Closed}
 use Rattle.update_model.specs.declared.ask.Closed.TheVariants as closed

@@ -11,7 +11,8 @@ use Rattle.acq_outside.specs.States.{IsTold, ToldAs}
 use Rattle.acq_memory.specs.declared.failing.Failing.{Failing}
 use Rattle.journal_model.specs.Reopen.{installed_now}
 use Rattle.journal_model.specs.Rest.{IsAtRest, IsSynced}
-use Rattle.update_engine.specs.Run.{Engine, KeepsMethods, LogIsTrue, NoneFell, Run}
+use Rattle.acq_outside.specs.Count.{NoneFell}
+use Rattle.update_engine.specs.Run.{Engine, KeepsMethods, LogIsTrue, Run}
 use Rattle.update_model.specs.declared.log.RunLog.{RunLog}
 use Rattle.generated_days.specs.Clear.{IsClear}
 use Rattle.generated_days.specs.Told.{LogsTellDays, TellsDay}

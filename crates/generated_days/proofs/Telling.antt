@@ -20,12 +20,14 @@ use Rattle.board_model.specs.Stands.{entries_of}
 use Rattle.journal_model.specs.Reopen.{installed_now}
 use Rattle.journal_model.specs.Rest.{IsAtRest}
 use Rattle.list_commits.specs.Made.{after_all}
+use Rattle.run_jobs.specs.Counting.{FaultsRise}
+use Rattle.run_jobs.specs.Mirrors.{ForMirror}
 use Rattle.run_model.specs.Asked.{LogsTellNotes, NotesAreOfItems, OthersHearNothing}
 use Rattle.run_model.specs.Coming.{HeardMirrorFully}
 use Rattle.run_model.specs.Groups.{commits_of}
 use Rattle.run_model.specs.Laws.{RunsLeadToNext}
 use Rattle.run_model.specs.Runs.{is_installed}
-use Rattle.update_engine.specs.Run.{Engine, FaultsRise, ForMirror, HasFinished, LogIsTrue, Run, target_names}
+use Rattle.update_engine.specs.Run.{Engine, HasFinished, LogIsTrue, Run, target_names}
 use Rattle.update_model.specs.Laws.{ReleasesEndAsObtained}
 use Rattle.update_model.specs.Next.{IsNext}
 use Rattle.update_model.specs.Outcomes.{new_set}

@@ -1,5 +1,5 @@
 -- What a run has heard of a mirror, while the disk's states go on.
-use Rattle.std.proofs.Common.{◌≡◌, ℕ, Bool, true, false, if◌then◌else◌, List, [], ◌∷◌, ◌++◌, length, subst, take, drop, Option, Some, None, IfSome}
+use Rattle.std.proofs.Common.{◌≡◌, ℕ, Bool, true, false, if◌then◌else◌, List, [], ◌∷◌, ◌++◌, length, subst, take, drop, Option}
 use Rattle.std.specs.Prelude.{nat_le, nat_lt, ◌&&◌}
 use Rattle.acq_base.specs.Mirror.{MirrorMap}
 use Rattle.acq_base.specs.declared.fetch.Answer.{Answer}
@@ -17,7 +17,9 @@ use Rattle.update_model.specs.declared.ask.Ask.{Ask}
 use Rattle.update_model.specs.declared.ask.Body.TheVariants as bodies
 use Rattle.update_model.specs.declared.ask.Closed.{Closed}
 use Rattle.update_model.specs.declared.ask.Closed.TheVariants as closings
+use Rattle.run_jobs.specs.Mirrors.{ForMirror}
 use Rattle.run_jobs.specs.Running.{AgreesWhereKnown, IsKnownOver, RunHasHeard, RunStart}
+use Rattle.run_jobs.proofs.Rising.{for_mirror}
 
 -- what is known where a disk tells is known so while it tells
 known_back : (old now : List State) (closed : Closed) → (IsTold now → IsTold old) → IsKnownOver now closed → IsKnownOver old closed
@@ -29,10 +31,9 @@ pub agrees_on : (old now : List State) (mirror : MirrorMap) (parts : PartFiles) 
 agrees_on old now mirror parts sources [] back agrees = tt
 agrees_on old now mirror parts sources (note ∷ notes) back agrees = (λ known. agrees.0 (known_back old now note.told.closed back known), agrees_on old now mirror parts sources notes back agrees.1)
 
-pub heard_on : (old now : List State) (mirror : Option MirrorMap) (parts : PartFiles) (sources : List Source) (notes : List Note) → (IsTold now → IsTold old) → IfSome mirror (λ m. AgreesWhereKnown old m parts sources notes)
-    → IfSome mirror (λ m. AgreesWhereKnown now m parts sources notes)
-heard_on old now None parts sources notes back agrees = tt
-heard_on old now (Some mirror) parts sources notes back agrees = agrees_on old now mirror parts sources notes back agrees
+pub heard_on : (old now : List State) (mirrors : List (Option MirrorMap)) (parts : PartFiles) (sources : List Source) (notes : List Note) → (IsTold now → IsTold old) → ForMirror mirrors (λ m. AgreesWhereKnown old m parts sources notes)
+    → ForMirror mirrors (λ m. AgreesWhereKnown now m parts sources notes)
+heard_on old now mirrors parts sources notes back agrees = for_mirror mirrors (λ (m : MirrorMap). AgreesWhereKnown old m parts sources notes) (λ (m : MirrorMap). AgreesWhereKnown now m parts sources notes) (λ mirror. agrees_on old now mirror parts sources notes back) agrees
 
 -- where the disk tells, all is known
 known_told : (now : List State) (closed : Closed) → IsTold now → IsKnownOver now closed
@@ -44,13 +45,12 @@ pub agrees_told : (now : List State) (mirror : MirrorMap) (parts : PartFiles) (s
 agrees_told now mirror parts sources [] told agrees = tt
 agrees_told now mirror parts sources (note ∷ notes) told agrees = (agrees.0 (known_told now note.told.closed told), agrees_told now mirror parts sources notes told agrees.1)
 
-pub heard_told : (now : List State) (mirror : Option MirrorMap) (parts : PartFiles) (sources : List Source) (notes : List Note) → IsTold now → IfSome mirror (λ m. AgreesWhereKnown now m parts sources notes)
-    → IfSome mirror (λ m. Agrees m parts sources notes)
-heard_told now None parts sources notes told agrees = tt
-heard_told now (Some mirror) parts sources notes told agrees = agrees_told now mirror parts sources notes told agrees
+pub heard_told : (now : List State) (mirrors : List (Option MirrorMap)) (parts : PartFiles) (sources : List Source) (notes : List Note) → IsTold now → ForMirror mirrors (λ m. AgreesWhereKnown now m parts sources notes)
+    → ForMirror mirrors (λ m. Agrees m parts sources notes)
+heard_told now mirrors parts sources notes told agrees = for_mirror mirrors (λ (m : MirrorMap). AgreesWhereKnown now m parts sources notes) (λ (m : MirrorMap). Agrees m parts sources notes) (λ mirror. agrees_told now mirror parts sources notes told) agrees
 
-pub run_agrees : (start : RunStart) (notes : List Note) (count : ℕ) {b : _} (now : List State) → RunHasHeard start notes count b now → IsTold now → IfSome start.mirror (λ m. Agrees m start.parts start.config.sources notes)
-run_agrees start notes count now heard told = heard_told now start.mirror start.parts start.config.sources notes told heard.answers
+pub run_agrees : (start : RunStart) (notes : List Note) {b : _} (now : List State) → RunHasHeard start notes b now → IsTold now → ForMirror start.mirrors (λ m. Agrees m start.parts start.config.sources notes)
+run_agrees start notes now heard told = heard_told now start.mirrors start.parts start.config.sources notes told heard.answers
 
 -- ---- an answer that serves nothing
 

@@ -8,7 +8,7 @@ use Rattle.board_model.specs.Jobs.{JobsStand, NoneAsks}
 use Rattle.board_model.specs.Reached.{Reached}
 use Rattle.board_model.specs.Runs.{Note, BoardRun}
 use Rattle.host_queues.specs.Lanes.{Queue}
-use Rattle.run_jobs.specs.Running.{RunStart, MayAsk, IsUnderWay}
+use Rattle.run_jobs.specs.Running.{RunStart, MayAsk, IsRunning}
 
 one_queue : (queues : List Queue) → map (λ (q : Queue). q.is_out) queues ≡ false ∷ [] → (lane : ℕ) → slice_get queues (suc lane) ≡ None
 one_queue [] e lane = refl
@@ -24,13 +24,13 @@ none_goes b busy none e (suc lane) =
     let lanes : map (λ (q : Queue). q.is_out) b.lanes.queues ≡ false ∷ [] = busy ∙ ap (map is_some) none in
     rw (one_queue b.lanes.queues lanes lane) refl
 
-none_asks : JobsAlwaysStand → BoardsWithoutJobsAskNothing → (begun : RunStart) (notes : List Note) (count : ℕ) (b : Board) (now : List State) → IsUnderWay begun notes count b now → issued_job b 0 ≡ None → NoneAsks b
-none_asks stand idle begun notes count b now under e =
-    let r : Reached begun.config begun.olds notes b = under.heard.reached in
+none_asks : JobsAlwaysStand → BoardsWithoutJobsAskNothing → (begun : RunStart) (notes : List Note) (counts : List ℕ) (b : Board) (now : List State) → IsRunning begun notes counts b now → issued_job b 0 ≡ None → NoneAsks b
+none_asks stand idle begun notes counts b now running e =
+    let r : Reached begun.config begun.olds notes b = running.under_way.heard.reached in
     let w : BoardRun = record { board = b; jobs = r.jobs; queue = []; notes = notes } in
     let jobs : JobsStand w = subst JobsStand r.leads (stand begun.config begun.olds r.lanes r.events r.each r.some) in
-    idle begun.config begun.olds notes b r (none_goes b jobs.busy under.none_out e) (none_out_of b under.none_out)
+    idle begun.config begun.olds notes b r (none_goes b jobs.busy running.none_out e) (none_out_of b running.none_out)
 
 -- then no item asks any more
-pub nothing_asked : JobsAlwaysStand → BoardsWithoutJobsAskNothing → {mirror : _} (count : ℕ) (b c : Board) (now : List State) → MayAsk mirror count b now → c ≡ issued b 0 → issued_job b 0 ≡ None → NoneAsks c
-nothing_asked stand idle count b c now ready issued_is e = subst NoneAsks (sym issued_is) (none_asks stand idle ready.begun ready.notes count b now ready.under_way e)
+pub nothing_asked : JobsAlwaysStand → BoardsWithoutJobsAskNothing → {mirrors : _} (counts : List ℕ) (b c : Board) (now : List State) → MayAsk mirrors counts b now → c ≡ issued b 0 → issued_job b 0 ≡ None → NoneAsks c
+nothing_asked stand idle counts b c now ready issued_is e = subst NoneAsks (sym issued_is) (none_asks stand idle ready.begun ready.notes counts b now ready.running e)

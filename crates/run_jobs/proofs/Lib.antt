@@ -1,5 +1,7 @@
--- Cited by the crates above too: what an answer adds to a log, which files stay, and one job.
+-- Cited by the crates above too: what an answer adds to a log, how faults of several methods are told, which files stay, and
+-- one job.
 pub mod Telling
+pub mod Rising
 pub mod Agreed
 pub mod OnTheWay
 pub mod Keeping

@@ -34,16 +34,19 @@ use Rattle.update_model.specs.declared.ask.Body.TheVariants as bodies
 use Rattle.update_model.specs.declared.ask.Closed.{Closed}
 use Rattle.acq_base.specs.declared.fetch.NotServed.TheVariants as nots
 use Rattle.update_model.specs.declared.ask.Closed.TheVariants as closings
+use Rattle.update_model.specs.declared.log.Asked.{Asked}
 use Rattle.board_model.proofs.Askers.{asker-asks}
 use Rattle.board_bounds.proofs.Walking.{at_all}
 use Rattle.run_jobs.specs.Coupling.{HasWantedParts}
 use Rattle.run_jobs.specs.Fetching.{Answers, CanFetch, ComesTo, IsFetched, KeepsBytes, LeavesPart, RestsOnDisk, front_of}
-use Rattle.run_jobs.specs.Running.{AgreesWhereKnown, RunStart, JobKeepsRunGoing, JobAddsNotes, RunHasHeard, MayAsk, IsKnownOver, IsSoundBegun, IsUnderWay}
+use Rattle.run_jobs.specs.Counting.{FaultsRise}
+use Rattle.run_jobs.specs.Running.{AgreesWhereKnown, RunStart, JobKeepsRunGoing, JobAddsNotes, HasCounted, RunHasHeard, MayAsk, IsKnownOver, IsRunning, IsSoundBegun}
 use Rattle.run_jobs.proofs.Agreed.{agrees_on, says_not}
 use Rattle.run_jobs.proofs.Keeping.{front_is, keep_of, moments_of, told_back, uses_after}
 use Rattle.run_jobs.proofs.OnTheWay.{IsNoteOf, job_leaves, job_touches}
+use Rattle.run_jobs.proofs.Rising.{faults_last, for_mirror_at}
 use Rattle.run_jobs.proofs.StagedLists.{staged_named}
-use Rattle.run_jobs.proofs.Telling.{answered_front, counts_last, each_last, sound_answer}
+use Rattle.run_jobs.proofs.Telling.{answered_front, each_last, sound_answer}
 
 -- what is known of boards
 pub record Laws : Type 0 where
@@ -122,11 +125,12 @@ kind_of laws begun b n a notes sound config reached asks may = by a.ask.stage re
         let wanted = laws.asks b n a i.target.name (subst (λ (c : Setup). AreNamedApart c) (sym config) sound.apart) asks e i.is in
         rw e (rw i.is (refl, i.is, put_name laws.put a.source i.k i.target planned i.at, wanted))
 
-pub job_of : Laws → (begun : RunStart) (notes : List Note) (count : ℕ) (b : Board) (job : Job) (now : List State) → IsSoundBegun begun → IsUnderWay begun notes count b now → issued_job b 0 ≡ Some job
+pub job_of : Laws → (begun : RunStart) (notes : List Note) (counts : List ℕ) (b : Board) (job : Job) (now : List State) → IsSoundBegun begun → IsRunning begun notes counts b now → issued_job b 0 ≡ Some job
     → IsJob (issued b 0) job (staged_name (issued b 0) job.no)
-job_of laws begun notes count b job now sound under e =
+job_of laws begun notes counts b job now sound running e =
+    let under = running.under_way in
     let i = issued_is b job e in
-    let out = out_is b job e under.none_out in
+    let out = out_is b job e running.none_out in
     let lane = lane_is (issued b 0).out job.no out in
     let reached = laws.issued begun.config begun.olds notes b 0 under.heard.reached in
     let may = laws.fetched begun.config begun.olds notes (issued b 0) job.no i.a sound.planned under.heard.sound reached i.asks in
@@ -145,10 +149,11 @@ can_by begun b job None now j uses = rw j.job_is (j.may.sound, j.kind.1)
 can_by begun b job (Some name) now j uses =
     rw j.job_is (j.may.sound, j.may.begin, record { named = j.kind.2; keep = λ told. keep_of j.a.ask.from (wanted_part b) name.0 begun.parts now j.kind.3 uses told })
 
-pub can_fetch : Laws → (mirror : Option MirrorMap) (count : ℕ) (b c : Board) (job : Job) (now : List State) → MayAsk mirror count b now → issued_job b 0 ≡ Some job → c ≡ issued b 0
+pub can_fetch : Laws → (mirrors : List (Option MirrorMap)) (counts : List ℕ) (b c : Board) (job : Job) (now : List State) → MayAsk mirrors counts b now → issued_job b 0 ≡ Some job → c ≡ issued b 0
     → CanFetch (staged_name c job.no) job now
-can_fetch laws mirror count b c job now ready e issued_is =
-    subst (λ (x : Board). CanFetch (staged_name x job.no) job now) (sym issued_is) (can_by ready.begun (issued b 0) job (staged_name (issued b 0) job.no) now (job_of laws ready.begun ready.notes count b job now ready.sound ready.under_way e) ready.under_way.uses)
+can_fetch laws mirrors counts b c job now ready e issued_is =
+    subst (λ (x : Board). CanFetch (staged_name x job.no) job now) (sym issued_is)
+    (can_by ready.begun (issued b 0) job (staged_name (issued b 0) job.no) now (job_of laws ready.begun ready.notes counts b job now ready.sound ready.running e) ready.running.under_way.uses)
 
 -- ---- the board that took its answer in
 
@@ -221,39 +226,47 @@ rests_on_disk (Some name) now (closings.Not nots.TooBig) comes known = tt
 rests_on_disk (Some name) now (closings.Not (nots.Garbled at)) comes known = tt
 rests_on_disk (Some name) now (closings.Not (nots.Fault before after)) comes known = tt
 
--- what one job did
-pub record HasFetched (begun : RunStart) (b : Board) (job : Job) (staged : Option ListName) (before after : ℕ) (old now : List State) (closed : Closed) : Type 0 where
+-- what one job did, over this mirror
+pub record HasFetched (mirror : Option MirrorMap) (b : Board) (job : Job) (staged : Option ListName) (before after : ℕ) (old now : List State) (closed : Closed) : Type 0 where
   pub fetched : IsFetched staged old now
   pub kept : KeepsBytes staged job.from old now
   pub comes : ComesTo staged now closed
   pub left : LeavesPart staged job.from old now closed
-  pub answers : Answers begun.mirror staged job old now closed
+  pub answers : Answers mirror staged job old now closed
   pub counted : IsCounted before after closed
   pub count : before ≤ after
   pub sound : IsSoundEnd closed
 
-heard_one : Laws → (begun : RunStart) (notes : List Note) (b : Board) (job : Job) (staged : Option ListName) (before after : ℕ) (old now : List State) (closed : Closed) → (j : IsJob b job staged) → HasWantedParts (wanted_part b) begun.parts old → RunHasHeard begun notes before b old
-    → HasFetched begun b job staged before after old now closed → RunHasHeard begun (notes ++ note_of j.a (record { lane = 0; closed = closed }) ∷ []) after (took b job.no j.a 0 (record { lane = 0; closed = closed })) now
-heard_one laws begun notes b job staged before after old now closed j uses heard did =
+heard_one : Laws → (begun : RunStart) (notes : List Note) (b : Board) (job : Job) (staged : Option ListName) (mirror : Option MirrorMap) (before after : ℕ) (old now : List State) (closed : Closed) → (j : IsJob b job staged)
+    → HasWantedParts (wanted_part b) begun.parts old → slice_get begun.mirrors 0 ≡ Some mirror → RunHasHeard begun notes b old → HasFetched mirror b job staged before after old now closed
+    → RunHasHeard begun (notes ++ note_of j.a (record { lane = 0; closed = closed }) ∷ []) (took b job.no j.a 0 (record { lane = 0; closed = closed })) now
+heard_one laws begun notes b job staged mirror before after old now closed j uses at heard did =
     let told : LaneAnswer = record { lane = 0; closed = closed } in
     let note = note_of j.a told in
+    let back = told_back (KeptAtRestSince old) old now (moments_of staged old now did.fetched) in
     record {
       config = heard.config;
       reached = subst (λ (x : Board). Reached begun.config begun.olds (notes ++ note ∷ []) x) (absorbed_is b job.no closed j.a j.lane j.asks)
           (laws.absorbed begun.config begun.olds notes b 0 job.no 0 closed j.a heard.reached j.lane j.asks);
       sound = each_last _ notes note heard.sound (sound_answer closed did.sound);
-      answers = answers_one begun.mirror heard.answers did.answers.told;
-      counts = counts_last b.asks _ closed begun.count before after refl heard.counts did.counted did.count;
-      lanes = each_last _ b.asks _ heard.lanes refl;
+      answers = for_mirror_at begun.mirrors 0 mirror (λ (m : MirrorMap). AgreesWhereKnown old m begun.parts begun.config.sources notes) (λ (m : MirrorMap). AgreesWhereKnown now m begun.parts begun.config.sources (notes ++ note ∷ [])) at (λ m is agrees.
+          each_last _ notes note (agrees_on old now m begun.parts begun.config.sources notes back agrees)
+          (λ known. mirrors_note begun b job staged old now closed 0 j heard.config uses back did.comes known m (says m is (did.answers.told (rests_on_disk staged now closed did.comes known))))) heard.answers;
     }
   where
-    answers_one : (world : Option MirrorMap) → IfSome world (λ m. AgreesWhereKnown old m begun.parts begun.config.sources notes) → (RestsOnDisk staged now closed → IsAnswer world (front_of staged old) (is_some staged) job closed)
-        → IfSome world (λ m. AgreesWhereKnown now m begun.parts begun.config.sources (notes ++ note_of j.a (record { lane = 0; closed = closed }) ∷ []))
-    answers_one None agrees says = tt
-    answers_one (Some mirror) agrees says =
-        let back = told_back (KeptAtRestSince old) old now (moments_of staged old now did.fetched) in
-        each_last _ notes (note_of j.a (record { lane = 0; closed = closed })) (agrees_on old now mirror begun.parts begun.config.sources notes back agrees)
-        (λ known. mirrors_note begun b job staged old now closed 0 j heard.config uses back did.comes known mirror (says (rests_on_disk staged now closed did.comes known)).told)
+    says : (m : MirrorMap) → mirror ≡ Some m → IsAnswer mirror (front_of staged old) (is_some staged) job closed
+        → IsFaultOr closed (answered (front_of staged old) (record { uri = job.uri; max = job.max; from = job.from; stage = is_some staged }) (answer_at m job.uri))
+    says m is answer = (subst (λ (world : Option MirrorMap). IsAnswer world (front_of staged old) (is_some staged) job closed) is answer).told
+
+-- its faults are those that the one method counted
+counted_one : (begun : RunStart) (b c : Board) (job : Job) (staged : Option ListName) (before after : ℕ) (closed : Closed) → (j : IsJob c job staged) → c.asks ≡ b.asks → IsCounted before after closed → before ≤ after
+    → HasCounted begun (before ∷ []) b → HasCounted begun (after ∷ []) (took c job.no j.a 0 (record { lane = 0; closed = closed }))
+counted_one begun b c job staged before after closed j same counted count has = record {
+  sized = has.sized;
+  faults = faults_last begun.counts (before ∷ []) (after ∷ []) c.asks _ 0 before after closed refl refl (let sized = has.sized in omega (arith, sized))
+      (record { last = before; was = refl; low = omega arith; now = refl; rises = count; counted = counted; fell = (count, tt) })
+      (subst (λ (asks : List Asked). FaultsRise begun.counts (before ∷ []) asks) (sym same) has.faults);
+}
 
 -- the list whose file the job fetches is its item's
 own_note : (begun : RunStart) (b : Board) (job : Job) (staged : Option ListName) (told : LaneAnswer) → (j : IsJob b job staged) → b.config ≡ begun.config → j.a.ask.from ≡ job.from → IsNoteOf begun.config.sources staged job.from (note_of j.a told)
@@ -262,66 +275,78 @@ own_note begun b job (Some name) told j config from =
     let source_is : slice_get begun.config.sources j.a.key.source ≡ Some j.a.source = subst (λ (c : Setup). slice_get c.sources j.a.key.source ≡ Some j.a.source) config (asker-asks b job.no j.a j.asks).source_is in
     record { from_is = from; stage = j.kind.0; list = rw source_is (rw j.kind.1 refl) }
 
-pub goes_one : Laws → (begun : RunStart) (notes : List Note) (before after : ℕ) (b : Board) (job : Job) (old now : List State) (closed : Closed) → issued_job b 0 ≡ Some job → IsSoundBegun begun → IsUnderWay begun notes before b old
-    → HasFetched begun (issued b 0) job (staged_name (issued b 0) job.no) before after old now closed → JobAddsNotes begun notes after (absorbed (issued b 0) 0 job.no closed) old now
-goes_one laws begun notes before after b job old now closed e sound under did =
+pub goes_one : Laws → (begun : RunStart) (notes : List Note) (mirror : Option MirrorMap) (before after : ℕ) (b : Board) (job : Job) (old now : List State) (closed : Closed) → issued_job b 0 ≡ Some job → IsSoundBegun begun
+    → begun.mirrors ≡ mirror ∷ [] → IsRunning begun notes (before ∷ []) b old → HasFetched mirror (issued b 0) job (staged_name (issued b 0) job.no) before after old now closed
+    → JobAddsNotes begun notes (after ∷ []) (absorbed (issued b 0) 0 job.no closed) old now
+goes_one laws begun notes mirror before after b job old now closed e sound from running did =
+    let under = running.under_way in
     let c = issued b 0 in
     let staged = staged_name c job.no in
-    let j = job_of laws begun notes before b job old sound under e in
+    let j = job_of laws begun notes (before ∷ []) b job old sound running e in
     let told : LaneAnswer = record { lane = 0; closed = closed } in
     let is = absorbed_is c job.no closed j.a j.lane j.asks in
     let reached = laws.issued begun.config begun.olds notes b 0 under.heard.reached in
-    let heard : RunHasHeard begun notes before c old = record { config = under.heard.config; reached = reached; sound = under.heard.sound; answers = under.heard.answers; counts = under.heard.counts; lanes = under.heard.lanes } in
+    let heard : RunHasHeard begun notes c old = record { config = under.heard.config; reached = reached; sound = under.heard.sound; answers = under.heard.answers } in
     let falls = λ (name : List ℕ). laws.rest begun.config begun.olds notes c 0 job.no 0 closed j.a name reached j.lane j.asks (served_as c j.a staged now closed j.kind did.comes) in
     let from_is : job.from ≡ j.a.ask.from = ap (λ (x : Job). x.from) j.job_is in
+    let at : slice_get begun.mirrors 0 ≡ Some mirror = rw from refl in
     record {
       more = note_of j.a told ∷ [];
       left = job_leaves begun.config.sources staged job.from (note_of j.a told) old now (own_note begun c job staged told j under.heard.config (sym from_is)) did.fetched did.left did.comes;
       touched = job_touches begun.config.sources staged job.from (note_of j.a told) old now (own_note begun c job staged told j under.heard.config (sym from_is)) did.fetched did.left did.comes;
-      under_way = record {
-        heard = subst (λ (x : Board). RunHasHeard begun (notes ++ note_of j.a told ∷ []) after x now) (sym is) (heard_one laws begun notes c job staged before after old now closed j under.uses heard did);
+      running = record {
+        under_way = record {
+          heard = subst (λ (x : Board). RunHasHeard begun (notes ++ note_of j.a told ∷ []) x now) (sym is) (heard_one laws begun notes c job staged mirror before after old now closed j under.uses at heard did);
+          uses = uses_after staged j.a.ask.from closed (wanted_part c) (wanted_part (absorbed c 0 job.no closed)) begun.parts old now did.fetched (rw (← from_is) did.kept) did.comes (use_of c job staged j) falls under.uses;
+        };
+        counted = subst (HasCounted begun (after ∷ [])) (sym is) (counted_one begun b c job staged before after closed j refl did.counted did.count running.counted);
         none_out = rw is (rw j.out refl);
-        uses = uses_after staged j.a.ask.from closed (wanted_part c) (wanted_part (absorbed c 0 job.no closed)) begun.parts old now did.fetched (rw (← from_is) did.kept) did.comes (use_of c job staged j) falls under.uses;
       };
     }
 
 -- none goes out
-pub goes_none : IssuedBoardsAreReached → (begun : RunStart) (notes : List Note) (count : ℕ) (b : Board) (now : List State) → issued_job b 0 ≡ None → IsUnderWay begun notes count b now → IsUnderWay begun notes count (issued b 0) now
-goes_none law begun notes count b now e under = record {
-  heard = record { config = under.heard.config; reached = law begun.config begun.olds notes b 0 under.heard.reached; sound = under.heard.sound; answers = under.heard.answers; counts = under.heard.counts; lanes = under.heard.lanes };
-  none_out = rw e under.none_out;
-  uses = under.uses;
-}
+pub goes_none : IssuedBoardsAreReached → (begun : RunStart) (notes : List Note) (counts : List ℕ) (b : Board) (now : List State) → issued_job b 0 ≡ None → IsRunning begun notes counts b now → IsRunning begun notes counts (issued b 0) now
+goes_none law begun notes counts b now e running =
+    let under = running.under_way in
+    record {
+      under_way = record {
+        heard = record { config = under.heard.config; reached = law begun.config begun.olds notes b 0 under.heard.reached; sound = under.heard.sound; answers = under.heard.answers };
+        uses = under.uses;
+      };
+      counted = record { sized = running.counted.sized; faults = running.counted.faults };
+      none_out = rw e running.none_out;
+    }
 
-did_of : (begun : RunStart) (c d : Board) (job : Job) (closed : Closed) (mirror : Option MirrorMap) (before after : ℕ) (old now : List State) → c ≡ d → begun.mirror ≡ mirror
+did_of : (c d : Board) (job : Job) (closed : Closed) (mirror : Option MirrorMap) (before after : ℕ) (old now : List State) → c ≡ d
     → IsFetched (staged_name c job.no) old now → KeepsBytes (staged_name c job.no) job.from old now → ComesTo (staged_name c job.no) now closed → LeavesPart (staged_name c job.no) job.from old now closed
-    → Answers mirror (staged_name c job.no) job old now closed → IsCounted before after closed → before ≤ after → IsSoundEnd closed → HasFetched begun d job (staged_name d job.no) before after old now closed
-did_of begun c d job closed mirror before after old now same from fetched kept comes left answers counted count sound =
-    subst (λ (x : Board). HasFetched begun x job (staged_name x job.no) before after old now closed) same
-    (record { fetched = fetched; kept = kept; comes = comes; left = left; answers = rw from answers; counted = counted; count = count; sound = sound })
+    → Answers mirror (staged_name c job.no) job old now closed → IsCounted before after closed → before ≤ after → IsSoundEnd closed → HasFetched mirror d job (staged_name d job.no) before after old now closed
+did_of c d job closed mirror before after old now same fetched kept comes left answers counted count sound =
+    subst (λ (x : Board). HasFetched mirror x job (staged_name x job.no) before after old now closed) same
+    (record { fetched = fetched; kept = kept; comes = comes; left = left; answers = answers; counted = counted; count = count; sound = sound })
 
 -- the whole of one job
 pub goes_job : Laws → (mirror : Option MirrorMap) (before after : ℕ) (b c d : Board) (job : Job) (closed : Closed) (old now : List State) → issued_job b 0 ≡ Some job → c ≡ issued b 0 → d ≡ absorbed c 0 job.no closed
     → IsFetched (staged_name c job.no) old now → KeepsBytes (staged_name c job.no) job.from old now → ComesTo (staged_name c job.no) now closed → LeavesPart (staged_name c job.no) job.from old now closed
-    → Answers mirror (staged_name c job.no) job old now closed → IsCounted before after closed → before ≤ after → IsSoundEnd closed → JobKeepsRunGoing mirror before after b d old now
-goes_job laws mirror before after b c d job closed old now e issued_is absorbed_as fetched kept comes left answers counted count sound = λ begun notes sound_begun from under.
-    let whole = goes_one laws begun notes before after b job old now closed e sound_begun under (did_of begun c (issued b 0) job closed mirror before after old now issued_is from fetched kept comes left answers counted count sound) in
+    → Answers mirror (staged_name c job.no) job old now closed → IsCounted before after closed → before ≤ after → IsSoundEnd closed → JobKeepsRunGoing (mirror ∷ []) (before ∷ []) (after ∷ []) b d old now
+goes_job laws mirror before after b c d job closed old now e issued_is absorbed_as fetched kept comes left answers counted count sound = λ begun notes sound_begun from running.
+    let did = did_of c (issued b 0) job closed mirror before after old now issued_is fetched kept comes left answers counted count sound in
+    let whole = goes_one laws begun notes mirror before after b job old now closed e sound_begun from running did in
     let same : d ≡ absorbed (issued b 0) 0 job.no closed = absorbed_as ∙ ap (λ (x : Board). absorbed x 0 job.no closed) issued_is in
-    subst (λ (x : Board). JobAddsNotes begun notes after x old now) (sym same) whole
+    subst (λ (x : Board). JobAddsNotes begun notes (after ∷ []) x old now) (sym same) whole
 
 -- its answer is one more entry of the log
-pub one_more : Laws → (mirror : Option MirrorMap) (count : ℕ) (b c d : Board) (job : Job) (closed : Closed) (now : List State) → MayAsk mirror count b now → issued_job b 0 ≡ Some job → c ≡ issued b 0 → d ≡ absorbed c 0 job.no closed
+pub one_more : Laws → (mirrors : List (Option MirrorMap)) (counts : List ℕ) (b c d : Board) (job : Job) (closed : Closed) (now : List State) → MayAsk mirrors counts b now → issued_job b 0 ≡ Some job → c ≡ issued b 0 → d ≡ absorbed c 0 job.no closed
     → length d.asks ≡ length b.asks + 1
-one_more laws mirror count b c d job closed now ready e issued_is absorbed_as =
-    let j = job_of laws ready.begun ready.notes count b job now ready.sound ready.under_way e in
+one_more laws mirrors counts b c d job closed now ready e issued_is absorbed_as =
+    let j = job_of laws ready.begun ready.notes counts b job now ready.sound ready.running e in
     let same : d ≡ absorbed (issued b 0) 0 job.no closed = absorbed_as ∙ ap (λ (x : Board). absorbed x 0 job.no closed) issued_is in
     rw (same ∙ absorbed_is (issued b 0) job.no closed j.a j.lane j.asks) (length_push b.asks _)
 
 -- none goes out, and the run stands as it did
-pub goes_idle : IssuedBoardsAreReached → (mirror : Option MirrorMap) (count : ℕ) (b c : Board) (now : List State) → c ≡ issued b 0 → issued_job b 0 ≡ None → JobKeepsRunGoing mirror count count b c now now
-goes_idle law mirror count b c now issued_is e = λ begun notes sound from under. record {
+pub goes_idle : IssuedBoardsAreReached → (mirrors : List (Option MirrorMap)) (counts : List ℕ) (b c : Board) (now : List State) → c ≡ issued b 0 → issued_job b 0 ≡ None → JobKeepsRunGoing mirrors counts counts b c now now
+goes_idle law mirrors counts b c now issued_is e = λ begun notes sound from running. record {
   more = [];
   left = λ told name. inl (refl, tt);
   touched = λ told. inl refl;
-  under_way = subst (λ (ns : List Note). IsUnderWay begun ns count c now) (sym (append-nil notes)) (subst (λ (x : Board). IsUnderWay begun notes count x now) (sym issued_is) (goes_none law begun notes count b now e under));
+  running = subst (λ (ns : List Note). IsRunning begun ns counts c now) (sym (append-nil notes)) (subst (λ (x : Board). IsRunning begun notes counts x now) (sym issued_is) (goes_none law begun notes counts b now e running));
 }

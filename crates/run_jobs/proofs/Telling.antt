@@ -43,7 +43,7 @@ counts_one entry (closings.Not (nots.Garbled at)) first before after e le is up 
 counts_one entry (closings.Not (nots.Fault b a)) first before after e le is up =
     rw e (subst (λ n. first ≤ n) (sym is.0) le, rw is.0 (rw is.1 is.2), rw is.0 (rw is.1 up), subst (λ n. n ≤ after) (sym is.1) (omega arith))
 
-on_heard : (heard : Heard) (count : ℕ) (P Q : ℕ → Type 0) → ((n : ℕ) → P n → Q n) → CountsOn heard count P → CountsOn heard count Q
+pub on_heard : (heard : Heard) (count : ℕ) (P Q : ℕ → Type 0) → ((n : ℕ) → P n → Q n) → CountsOn heard count P → CountsOn heard count Q
 on_heard (heards.Served sum) count P Q f is = f count is
 on_heard (heards.Not (nots.Moved place)) count P Q f is = f count is
 on_heard (heards.Not (nots.Absent status)) count P Q f is = f count is

@@ -1,5 +1,6 @@
--- How a log tells the faults of a method, and how often it was asked.
-use Rattle.std.specs.Prelude.{◌≡◌, ℕ, zero, suc, ◌≤◌, ◌+◌, List, [], ◌∷◌, length}
+-- How a log tells the faults of methods, and how often each was asked.
+use Rattle.std.specs.Prelude.{◌≡◌, ◌==◌, ℕ, zero, suc, ◌<◌, ◌≤◌, ◌+◌, List, [], ◌∷◌, filter, length, slice_get, Some}
+use Rattle.std.specs.List.{AllByRecursion as Each}
 use Rattle.acq_outside.specs.Count.{Rose, one_more}
 use Rattle.update_model.specs.declared.log.Asked.{Asked}
 use Rattle.update_model.specs.declared.log.Heard.{Heard}
@@ -27,3 +28,18 @@ pub record BeginsAsked (before after : ℕ) (asks later : List Asked) : Type 0 w
   pub more : ℕ
   pub asked : length later ≡ length asks + more
   pub begins : after ≡ counted_on before more
+
+-- ---- over several methods
+
+abbrev pub asks_of_lane : ℕ → List Asked → List Asked
+asks_of_lane lane asks = filter (λ asked. asked.lane == lane) asks
+
+-- Each ask was one of these methods', and the faults of each method are told in order, within what it counted.
+pub record FaultsRise (before after : List ℕ) (asks : List Asked) : Type 0 where
+  pub lanes : Each (λ asked. asked.lane < length before) asks
+  pub counts : (lane first last : ℕ) → slice_get before lane ≡ Some first → slice_get after lane ≡ Some last → CountsUp first last (asks_of_lane lane asks)
+
+-- of each method just as many fetches were begun as the log tells
+abbrev pub BeginsAsTold : List ℕ → List ℕ → List Asked → Type 0
+BeginsAsTold before after asks =
+    (lane first last : ℕ) → slice_get before lane ≡ Some first → slice_get after lane ≡ Some last → last ≡ counted_on first (length (asks_of_lane lane asks))

@@ -6,6 +6,8 @@ pub mod Coupling
 pub mod OnTheWay
 -- how faults are told,
 pub mod Counting
+-- of which mirror the methods tell,
+pub mod Mirrors
 -- and why a run gives no log.
 pub mod Refusals
 -- For the crate's own functions: what the fetch of one job does.

@@ -1,5 +1,5 @@
--- A run between two of its steps: its board, the disk and the method.
-use Rattle.std.specs.Prelude.{◌≡◌, ◌⊎◌, ◌≤◌, ℕ, All, List, [], ◌∷◌, ◌++◌, length, Option, None, IfSome}
+-- A run between two of its steps: its board, the disk and the methods.
+use Rattle.std.specs.Prelude.{◌≡◌, ◌⊎◌, ◌≤◌, ℕ, All, List, [], ◌∷◌, ◌++◌, length, Option, None}
 use Rattle.std.specs.List.{flat_map, AllByRecursion as Each}
 use Rattle.acq_base.specs.Mirror.{MirrorMap}
 use Rattle.acq_base.specs.Plan.{IsPlanned, names_of}
@@ -21,17 +21,18 @@ use Rattle.update_model.specs.declared.ask.Body.TheVariants.{Bytes, Staged}
 use Rattle.update_model.specs.declared.ask.Closed.{Closed}
 use Rattle.update_model.specs.declared.ask.Closed.TheVariants.{Served, Not}
 use Rattle.run_jobs.specs.Coupling.{HasWantedParts}
-use Rattle.run_jobs.specs.Counting.{CountsUp}
+use Rattle.run_jobs.specs.Counting.{FaultsRise}
+use Rattle.run_jobs.specs.Mirrors.{ForMirror}
 use Rattle.run_jobs.specs.OnTheWay.{StaysOnItsWay, WasLeft}
 
--- What a run was begun with: the board's configuration, what was installed, the lists on their way, and the method's mirror
--- and count of faults.
+-- What a run was begun with: the board's configuration, what was installed, the lists on their way, and the methods' mirrors
+-- and counts of faults.
 pub record RunStart : Type 0 where
   pub config : Setup
   pub olds : List Old
   pub parts : PartFiles
-  pub mirror : Option MirrorMap
-  pub count : ℕ
+  pub mirrors : List (Option MirrorMap)
+  pub counts : List ℕ
 
 -- the plan is sound, and the sizes are those of the lists on their way
 pub record IsSoundBegun (begun : RunStart) : Type 0 where
@@ -50,43 +51,51 @@ IsKnownOver now (Not end) = Unit {0}
 abbrev pub AgreesWhereKnown : List State → MirrorMap → PartFiles → List Source → List Note → Type 0
 AgreesWhereKnown now mirror parts sources notes = Each (λ note. IsKnownOver now note.told.closed → IsMirrors mirror parts sources note) notes
 
--- A run has heard these notes: calls have led to the board, each answer is the mirror's, where the method tells, or a fault,
--- and faults are those that the method counted. All answers are those of the first method.
-pub record RunHasHeard (begun : RunStart) (notes : List Note) (count : ℕ) (b : Board) (now : List State) : Type 0 where
+-- A run has heard these notes: calls have led to the board, and each answer that is known is the mirror's, where all methods
+-- tell one, or a fault.
+pub record RunHasHeard (begun : RunStart) (notes : List Note) (b : Board) (now : List State) : Type 0 where
   pub config : b.config ≡ begun.config
   pub reached : Reached begun.config begun.olds notes b
   pub sound : LeadSoundly notes
-  pub answers : IfSome begun.mirror (λ mirror. AgreesWhereKnown now mirror begun.parts begun.config.sources notes)
-  pub counts : CountsUp begun.count count b.asks
-  pub lanes : Each (λ asked. asked.lane ≡ 0) b.asks
+  pub answers : ForMirror begun.mirrors (λ mirror. AgreesWhereKnown now mirror begun.parts begun.config.sources notes)
 
--- A run between two of its steps, with no job out: what the board wants of the lists on their way is there.
-pub record IsUnderWay (begun : RunStart) (notes : List Note) (count : ℕ) (b : Board) (now : List State) : Type 0 where
-  pub heard : RunHasHeard begun notes count b now
-  pub none_out : b.out ≡ None ∷ []
+-- The methods have counted up to here, and the faults that the board has heard are those that they counted.
+pub record HasCounted (begun : RunStart) (counts : List ℕ) (b : Board) : Type 0 where
+  pub sized : length counts ≡ length begun.counts
+  pub faults : FaultsRise begun.counts counts b.asks
+
+-- A run between two of its steps: what the board wants of the lists on their way is there.
+pub record IsUnderWay (begun : RunStart) (notes : List Note) (b : Board) (now : List State) : Type 0 where
+  pub heard : RunHasHeard begun notes b now
   pub uses : HasWantedParts (wanted_part b) begun.parts now
 
--- the run that is under way over a sound plan, and a commit may be prepared
-pub record MayAsk (mirror : Option MirrorMap) (count : ℕ) (b : Board) (now : List State) : Type 0 where
+-- The same between two jobs of one lane: none is out.
+pub record IsRunning (begun : RunStart) (notes : List Note) (counts : List ℕ) (b : Board) (now : List State) : Type 0 where
+  pub under_way : IsUnderWay begun notes b now
+  pub counted : HasCounted begun counts b
+  pub none_out : b.out ≡ None ∷ []
+
+-- the run that goes on over a sound plan, and a commit may be prepared
+pub record MayAsk (mirrors : List (Option MirrorMap)) (counts : List ℕ) (b : Board) (now : List State) : Type 0 where
   pub begun : RunStart
   pub notes : List Note
   pub sound : IsSoundBegun begun
-  pub from : begun.mirror ≡ mirror
-  pub under_way : IsUnderWay begun notes count b now
+  pub from : begun.mirrors ≡ mirrors
+  pub running : IsRunning begun notes counts b now
   pub idle : IsNow IsIdle now
 
 -- What it has heard is behind what it had heard before. Each list on its way is as it was, or as the answer left it, and where
 -- the disk was touched the answer left one.
-pub record JobAddsNotes (begun : RunStart) (notes : List Note) (count : ℕ) (b : Board) (old now : List State) : Type 0 where
+pub record JobAddsNotes (begun : RunStart) (notes : List Note) (counts : List ℕ) (b : Board) (old now : List State) : Type 0 where
   pub more : List Note
   pub left : IsTold now → (name : List ℕ) → StaysOnItsWay begun.config.sources more old now name
   pub touched : IsTold now → (now ≡ old) ⊎ ((own : List ℕ) × WasLeft begun.config.sources own more now)
-  pub under_way : IsUnderWay begun (notes ++ more) count b now
+  pub running : IsRunning begun (notes ++ more) counts b now
 
--- a run that is under way still is, over the same mirror
-abbrev pub JobKeepsRunGoing : Option MirrorMap → ℕ → ℕ → Board → Board → List State → List State → Type 0
-JobKeepsRunGoing mirror count later before after old now =
-    (begun : RunStart) (notes : List Note) → IsSoundBegun begun → begun.mirror ≡ mirror → IsUnderWay begun notes count before old → JobAddsNotes begun notes later after old now
+-- a run that goes on over these mirrors still does
+abbrev pub JobKeepsRunGoing : List (Option MirrorMap) → List ℕ → List ℕ → Board → Board → List State → List State → Type 0
+JobKeepsRunGoing mirrors counts later before after old now =
+    (begun : RunStart) (notes : List Note) → IsSoundBegun begun → begun.mirrors ≡ mirrors → IsRunning begun notes counts before old → JobAddsNotes begun notes later after old now
 
 -- nothing else of a board has changed than what its items have heard
 pub record SameBoard (before after : Board) : Type 0 where

@@ -1,5 +1,5 @@
 //! One job of a run: it goes out, is fetched, and its answer comes in.
-ghost use Rattle.std.specs.Prelude.{◌≡◌, ◌≢◌, ◌+◌, ℕ, true, false, length, None, Err, IfOk, OnOk};
+ghost use Rattle.std.specs.Prelude.{◌≡◌, ◌≢◌, ◌+◌, ◌∷◌, [], ℕ, true, false, length, None, Err, IfOk, OnOk};
 ghost use Rattle.acq_outside.specs.Count.{one_more};
 ghost use Rattle.acq_outside.specs.Fetches.{Fetches};
 ghost use Rattle.acq_outside.specs.States.{Since};
@@ -63,7 +63,7 @@ pub fn ask_one<D: Disk, M: Method>(
     method: &mut M,
     board: &mut Board,
 ) -> Result<bool, RunError>
-    requires ready { MayAsk (M.world method.old) (M.faults method.old) (board_of board.old) (D.trace disk.old) }
+    requires ready { MayAsk (M.world method.old ∷ []) (M.faults method.old ∷ []) (board_of board.old) (D.trace disk.old) }
     requires change { judge.now.change ≡ (board_of board.old).config.change }
 
     ensures frame { StaysCounting RunError.DiskFault D.Disk disk.old disk.new result }
@@ -77,7 +77,7 @@ pub fn ask_one<D: Disk, M: Method>(
 
     ensures moments { Since (D.trace disk.old) (D.trace disk.new) (KeptAtRestSince (D.trace disk.old)) }
     ensures others { ChangesOnePart (D.trace disk.old) (D.trace disk.new) }
-    ensures goes { OnOk result (JobKeepsRunGoing (M.world method.old) (M.faults method.old) (M.faults method.new)
+    ensures goes { OnOk result (JobKeepsRunGoing (M.world method.old ∷ []) (M.faults method.old ∷ []) (M.faults method.new ∷ [])
         (board_of board.old) (board_of board.new) (D.trace disk.old) (D.trace disk.new)) }
 {
     match board.issue(alloc, 0)? {

@@ -7,7 +7,7 @@ use Rattle.acq_base.specs.Uri.{same_uri}
 use Rattle.acq_base.specs.declared.plan.Source.{Source}
 use Rattle.acq_base.specs.declared.settings.Settings.{Settings}
 use Rattle.acq_base.specs.declared.uri.Uri.{Uri}
-use Rattle.acq_outside.specs.Count.{Rose}
+use Rattle.acq_outside.specs.Count.{NoneFell, Rose}
 use Rattle.acq_outside.specs.Crash.{State, reads}
 use Rattle.acq_outside.specs.States.{IsNow, IsTold, ToldAs}
 use Rattle.board_model.specs.Agreeing.{Agrees, NoneIsDead}
@@ -21,12 +21,13 @@ use Rattle.list_commits.specs.Loose.{NoneIsLoose}
 use Rattle.list_commits.specs.Made.{after_all}
 use Rattle.run_model.specs.Runs.{cleans_up, installed_by}
 use Rattle.update_engine.proofs.Lists.{answers_told}
-use Rattle.run_jobs.specs.Counting.{CountsOn, CountsUp}
+use Rattle.run_jobs.specs.Mirrors.{ForMirror}
+use Rattle.run_jobs.specs.Counting.{CountsOn, CountsUp, asks_of_lane}
 use Rattle.run_model.specs.Begun.{RunInput}
 use Rattle.run_model.specs.Groups.{commits_of}
 use Rattle.run_model.specs.Laws.{RunsHoldAsTold, RunsKeepOthers, RunsLeadToNext, RunsLeaveMirrored}
 use Rattle.run_model.specs.Coming.{HeardMirrorFully, LeavesMirrored}
-use Rattle.update_engine.specs.Run.{Engine, ForMirror, HasFinished, IsConfiguredBy, IsTaken, KeepsAside, KeepsMethods, LogIsTrue, NoneFell, Run, asks_of_lane}
+use Rattle.update_engine.specs.Run.{Engine, HasFinished, IsConfiguredBy, IsTaken, KeepsAside, KeepsMethods, LogIsTrue, Run}
 use Rattle.update_model.specs.Next.{IsNext}
 use Rattle.update_model.specs.declared.log.Asked.{Asked}
 use Rattle.update_model.specs.declared.log.Heard.{Heard}

@@ -19,10 +19,11 @@ use Rattle.board_model.specs.Settling.{held_of}
 use Rattle.board_model.specs.Stands.{entries_of, history_of}
 use Rattle.commit_journal.specs.Opening.{damage_of}
 use Rattle.journal_model.specs.Reopen.{CrashLeaves, ReopensAsAt, installed_now}
+use Rattle.run_jobs.specs.Mirrors.{ForMirror}
 use Rattle.run_model.specs.Asked.{IsListed}
 use Rattle.run_model.specs.Begun.{RunInput}
 use Rattle.run_promises.specs.Promise.{HasNew, HasSets, MayBeInstalled, NoneIsGivenUp, ReadsLists, StopLeavesWholeSets, WasSynced}
-use Rattle.update_engine.specs.Run.{Engine, ForMirror, IsConfiguredBy, LogIsTrue, Run, StopsForMemory, SurvivesCrash}
+use Rattle.update_engine.specs.Run.{Engine, IsConfiguredBy, LogIsTrue, Run, StopsForMemory, SurvivesCrash}
 use Rattle.update_model.specs.Laws.{IsFileOf}
 use Rattle.update_model.specs.Next.{Keeps}
 use Rattle.update_model.specs.Obtained.{reached_files}

@@ -17,10 +17,11 @@ use Rattle.journal_model.specs.Reopen.{ReopensAsAt, installed_now, reopened}
 use Rattle.journal_model.specs.Rest.{IsAtRest, IsSynced}
 use Rattle.list_commits.specs.Loose.{NoneIsLoose}
 use Rattle.release_file.specs.Release.{release_of}
+use Rattle.run_jobs.specs.Mirrors.{ForMirror}
 use Rattle.run_model.specs.Begun.{RunInput}
 use Rattle.run_model.specs.Coming.{HasSetAsLogged, LeavesMirrored, mirrored}
 use Rattle.run_model.specs.Runs.{cleans_up, installed_by}
-use Rattle.update_engine.specs.Run.{Engine, ForMirror, HasOpenedJournal, IsConfiguredBy, IsLogOfBoard, IsReadFromDisk, IsTaken, KeepsAside, KeepsMethods, LogIsTrue, Run, SurvivesCrash}
+use Rattle.update_engine.specs.Run.{Engine, HasOpenedJournal, IsConfiguredBy, IsLogOfBoard, IsReadFromDisk, IsTaken, KeepsAside, KeepsMethods, LogIsTrue, Run, SurvivesCrash}
 use Rattle.update_model.specs.Next.{HasWholeSet, IsNext, Keeps}
 use Rattle.update_model.specs.Outcomes.{AdmittedRelease}
 use Rattle.update_model.specs.Releases.{IsAdmissible, installed_release}

@@ -1,11 +1,10 @@
 -- How many fetches a run begins of each method.
-use Rattle.std.proofs.Common.{◌≡◌, ◌∙◌, ℕ, zero, suc, ◌+◌, List, [], ◌∷◌, length, Some, sym, ap, subst, arith}
-use Rattle.std.specs.Prelude.{slice_get}
+use Rattle.std.proofs.Common.{◌≡◌, ◌∙◌, ℕ, zero, suc, ◌+◌, List, [], ◌∷◌, length, Some, refl, sym, ap, subst, arith}
+use Rattle.std.specs.Prelude.{◌==◌, if◌then◌else◌, slice_get}
 use Rattle.std.specs.List.{AllByRecursion as Each}
 use Rattle.acq_outside.specs.Count.{one_more}
-use Rattle.run_jobs.specs.Counting.{BeginsAsked, counted_on}
-use Rattle.update_engine.proofs.Over.{lane_other, lane_zero}
-use Rattle.update_engine.specs.Run.{BeginsAsTold, asks_of_lane}
+use Rattle.run_jobs.specs.Counting.{BeginsAsTold, BeginsAsked, FaultsRise, asks_of_lane, counted_on}
+use Rattle.update_engine.proofs.Over.{lane_other, lanes_first}
 use Rattle.update_model.specs.declared.log.Asked.{Asked}
 
 counted_further : (count first more : ℕ) → counted_on (counted_on count first) more ≡ counted_on count (first + more)
@@ -28,11 +27,18 @@ begins_more before mid after asks between later first second =
       begins = second.begins ∙ ap (λ (n : ℕ). counted_on n second.more) first.begins ∙ counted_further before first.more second.more;
     }
 
--- of a run over the first of some methods
-pub begins_first : (before after : ℕ) (others : List ℕ) (asks told : List Asked) → BeginsAsked before after [] asks → told ≡ asks → Each (λ asked. asked.lane ≡ 0) told
+lane_zero : (asks : List Asked) → Each (λ asked. asked.lane ≡ 0) asks → asks_of_lane 0 asks ≡ asks
+lane_zero [] each = refl
+lane_zero (a ∷ asks) each = subst (λ (n : ℕ). (if n == 0 then a ∷ asks_of_lane 0 asks else asks_of_lane 0 asks) ≡ a ∷ asks) (sym each.0) (ap (λ (xs : List Asked). a ∷ xs) (lane_zero asks each.1))
+
+-- of a run over the first of some methods, whose faults are told so
+pub begins_first : (before after : ℕ) (others : List ℕ) (asks told : List Asked) {count later : _} → BeginsAsked before after [] asks → told ≡ asks → FaultsRise (count ∷ []) (later ∷ []) told
     → BeginsAsTold (before ∷ others) (after ∷ others) told
-begins_first before after others asks told begins same lanes = by
+begins_first before after others asks told begins same faults = by
   where
+    lanes : Each (λ asked. asked.lane ≡ 0) told
+    lanes = lanes_first told faults.lanes
+
     count : begins.more ≡ length told
     count = let asked = begins.asked in let long : length told ≡ length asks = ap length same in omega (arith, asked, long)
 

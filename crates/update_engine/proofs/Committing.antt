@@ -63,9 +63,9 @@ use Rattle.update_engine.proofs.Naming.{release_free, which_name}
 use Rattle.update_engine.proofs.OnBoards.{as_open, heard_settled, is_of, owns, told_more, under_settled, uses_settled}
 
 -- a source comes to a new set, of a run that is under way
-pub record IsSettling (start : RunStart) (notes : List Note) (count : ℕ) (b : Board) (n : ℕ) (settled : Settled) (now : List State) : Type 0 where
+pub record IsSettling (start : RunStart) (notes : List Note) (b : Board) (n : ℕ) (settled : Settled) (now : List State) : Type 0 where
   pub sound : IsSoundBegun start
-  pub under : IsUnderWay start notes count b now
+  pub under : IsUnderWay start notes b now
   pub ready : first_ready b.slots ≡ Some n
   pub comes : settled_of b n ≡ Some settled
 
@@ -79,8 +79,8 @@ pub record IsChanging (start : RunStart) (b : Board) (n : ℕ) (settled : Settle
   pub former : Verdict2
   pub former_is : slice_get b.verdicts n ≡ Some former
 
-pub changing : CommittingLaws → (start : RunStart) (notes : List Note) (count : ℕ) (b : Board) (n : ℕ) (settled : Settled) (now : List State) → IsSettling start notes count b n settled now → IsChanging start b n settled
-changing laws start notes count b n settled now s =
+pub changing : CommittingLaws → (start : RunStart) (notes : List Note) (b : Board) (n : ℕ) (settled : Settled) (now : List State) → IsSettling start notes b n settled now → IsChanging start b n settled
+changing laws start notes b n settled now s =
     let o = is_of b n settled s.comes in
     let source_is : slice_get start.config.sources n ≡ Some o.source = subst (λ (c : Setup). slice_get c.sources n ≡ Some o.source) s.under.heard.config o.source_is in
     let planned = at_all IsPlanned start.config.sources n o.source s.sound.planned source_is in
@@ -118,14 +118,14 @@ pub last_puts : (wanted : List ℕ → WantedPart) (first : PartFiles) (s : Stat
 last_puts wanted first s past [] on uses = tt
 last_puts wanted first s past ((name, body) ∷ puts) on uses = (last_put wanted first s past name body on.0 uses, last_puts wanted first s past puts on.1 uses)
 
-pub puts_rest : CommittingLaws → (start : RunStart) (notes : List Note) (count : ℕ) (b : Board) (n : ℕ) (settled : Settled) (now : List State) → IsSettling start notes count b n settled now → Each (RestsOn (wanted_part b)) settled.puts
-puts_rest laws start notes count b n settled now s = laws.puts b n settled (subst AreNamedApart (sym s.under.heard.config) s.sound.apart) s.comes
+pub puts_rest : CommittingLaws → (start : RunStart) (notes : List Note) (b : Board) (n : ℕ) (settled : Settled) (now : List State) → IsSettling start notes b n settled now → Each (RestsOn (wanted_part b)) settled.puts
+puts_rest laws start notes b n settled now s = laws.puts b n settled (subst AreNamedApart (sym s.under.heard.config) s.sound.apart) s.comes
 
-pub are_staged : CommittingLaws → (start : RunStart) (notes : List Note) (count : ℕ) (b : Board) (n : ℕ) (settled : Settled) (now : List State) (source : Source) → IsSettling start notes count b n settled now
+pub are_staged : CommittingLaws → (start : RunStart) (notes : List Note) (b : Board) (n : ℕ) (settled : Settled) (now : List State) (source : Source) → IsSettling start notes b n settled now
     → IsNow (AreAllStaged (changes_for source settled ∷ [])) now
-are_staged laws start notes count b n settled [] source s = tt
-are_staged laws start notes count b n settled (state ∷ past) source s =
-    laws.staged ((source, settled) ∷ []) None state (last_puts (wanted_part b) start.parts state past settled.puts (puts_rest laws start notes count b n settled (state ∷ past) s) s.under.uses, tt)
+are_staged laws start notes b n settled [] source s = tt
+are_staged laws start notes b n settled (state ∷ past) source s =
+    laws.staged ((source, settled) ∷ []) None state (last_puts (wanted_part b) start.parts state past settled.puts (puts_rest laws start notes b n settled (state ∷ past) s) s.under.uses, tt)
 
 -- ---- the sums of what is put
 
@@ -142,8 +142,8 @@ sums_puts : (wanted : List ℕ → WantedPart) (first : PartFiles) (now : List S
 sums_puts wanted first now [] told on uses = tt
 sums_puts wanted first now ((name, body) ∷ puts) told on uses = (sum_put wanted first now name body told on.0 uses, sums_puts wanted first now puts told on.1 uses)
 
-pub have_sums : CommittingLaws → (start : RunStart) (notes : List Note) (count : ℕ) (b : Board) (n : ℕ) (settled : Settled) (now : List State) → IsTold now → IsSettling start notes count b n settled now → HaveSums (part_bytes now) settled
-have_sums laws start notes count b n settled now told s = sums_puts (wanted_part b) start.parts now settled.puts told (puts_rest laws start notes count b n settled now s) s.under.uses
+pub have_sums : CommittingLaws → (start : RunStart) (notes : List Note) (b : Board) (n : ℕ) (settled : Settled) (now : List State) → IsTold now → IsSettling start notes b n settled now → HaveSums (part_bytes now) settled
+have_sums laws start notes b n settled now told s = sums_puts (wanted_part b) start.parts now settled.puts told (puts_rest laws start notes b n settled now s) s.under.uses
 
 -- ---- what is wanted of lists on their way is there behind it
 
@@ -167,9 +167,9 @@ own_free laws start b n settled c name apart comes within = elim (which_name c.s
   | inr t ↦ subst (λ (x : List ℕ). wanted_part (settled_as b n settled.verdict) x ≡ Free) t.is (laws.free b n t.k c.source t.target settled settled.verdict apart comes c.here_is t.at)
 ]
 
-pub uses_committed : CommittingLaws → (start : RunStart) (notes : List Note) (count : ℕ) (b : Board) (n : ℕ) (settled : Settled) (old now : List State) → IsSettling start notes count b n settled old → (c : IsChanging start b n settled)
+pub uses_committed : CommittingLaws → (start : RunStart) (notes : List Note) (b : Board) (n : ℕ) (settled : Settled) (old now : List State) → IsSettling start notes b n settled old → (c : IsChanging start b n settled)
     → (IsTold now → IsTold old) → KeepsUnchangedFiles (changes_for c.source settled ∷ []) old now → HasWantedParts (wanted_part (settled_as b n settled.verdict)) start.parts now
-uses_committed laws start notes count b n settled old now s c back keeps = record { each = λ name told. one name told (among name (names_of c.source)) }
+uses_committed laws start notes b n settled old now s c back keeps = record { each = λ name told. one name told (among name (names_of c.source)) }
   where
     apart : AreNamedApart b.config
     apart = subst AreNamedApart (sym s.under.heard.config) s.sound.apart
@@ -179,14 +179,13 @@ uses_committed laws start notes count b n settled old now s c back keeps = recor
     one name told (inr out) = stays_holds (wanted_part (settled_as b n settled.verdict) name) name (start.parts name) old now (keeps (partial name) (partial_not_journal name) (unnamed laws start b n settled c name out))
         ((uses_settled laws.settling b n settled.verdict start.parts old s.under.uses).each name (back told))
 
-pub under_committed : CommittingLaws → (start : RunStart) (notes : List Note) (count : ℕ) (b : Board) (n : ℕ) (settled : Settled) (old now : List State) → IsSettling start notes count b n settled old → (c : IsChanging start b n settled)
-    → (IsTold now → IsTold old) → KeepsUnchangedFiles (changes_for c.source settled ∷ []) old now → IsUnderWay start notes count (settled_as b n settled.verdict) now
-under_committed laws start notes count b n settled old now s c back keeps =
-    let heard = heard_settled laws.settling start notes count b n settled old s.ready s.comes s.under.heard in
+pub under_committed : CommittingLaws → (start : RunStart) (notes : List Note) (b : Board) (n : ℕ) (settled : Settled) (old now : List State) → IsSettling start notes b n settled old → (c : IsChanging start b n settled)
+    → (IsTold now → IsTold old) → KeepsUnchangedFiles (changes_for c.source settled ∷ []) old now → IsUnderWay start notes (settled_as b n settled.verdict) now
+under_committed laws start notes b n settled old now s c back keeps =
+    let heard = heard_settled laws.settling start notes b n settled old s.ready s.comes s.under.heard in
     record {
-      heard = record { config = heard.config; reached = heard.reached; sound = heard.sound; answers = heard_on old now start.mirror start.parts start.config.sources notes back heard.answers; counts = heard.counts; lanes = heard.lanes };
-      none_out = s.under.none_out;
-      uses = uses_committed laws start notes count b n settled old now s c back keeps;
+      heard = record { config = heard.config; reached = heard.reached; sound = heard.sound; answers = heard_on old now start.mirrors start.parts start.config.sources notes back heard.answers };
+      uses = uses_committed laws start notes b n settled old now s c back keeps;
     }
 
 -- ---- the commits with one more
@@ -222,9 +221,9 @@ pub have_shape : (commits : List (List Group)) → Each CommitsOneSource commits
 have_shape [] each = tt
 have_shape (groups ∷ commits) each = (ap length each.0.is, have_shape commits each.1)
 
-pub new_set : CommittingLaws → (start : RunStart) (notes : List Note) (count : ℕ) (b : Board) (n : ℕ) (settled : Settled) (old : List State) (held : Held) → IsTold old → IsSettling start notes count b n settled old → (c : IsChanging start b n settled)
+pub new_set : CommittingLaws → (start : RunStart) (notes : List Note) (b : Board) (n : ℕ) (settled : Settled) (old : List State) (held : Held) → IsTold old → IsSettling start notes b n settled old → (c : IsChanging start b n settled)
     → settled.verdict ≡ Installed held → IsNewSet (begun_of start) notes n (filled (part_bytes old) (changes_for c.source settled))
-new_set laws start notes count b n settled old held told s c installs = record {
+new_set laws start notes b n settled old held told s c installs = record {
   source = c.source;
   source_is = c.source_is;
   settled = settled;
@@ -232,42 +231,42 @@ new_set laws start notes count b n settled old held told s c installs = record {
   held = held;
   installs = installs;
   staged = part_bytes old;
-  sums = have_sums laws start notes count b n settled old told s;
+  sums = have_sums laws start notes b n settled old told s;
   are = refl;
 }
 
 -- what is told as installed then
-pub told_installed : CommittingLaws → (start : RunStart) (notes : List Note) (count : ℕ) (b : Board) (n : ℕ) (settled : Settled) (old : List State) → IsSettling start notes count b n settled old → (c : IsChanging start b n settled)
+pub told_installed : CommittingLaws → (start : RunStart) (notes : List Note) (b : Board) (n : ℕ) (settled : Settled) (old : List State) → IsSettling start notes b n settled old → (c : IsChanging start b n settled)
     → installed_in (settled_as b n settled.verdict) ≡ installed_in b ++ (if is_installed settled.verdict then n ∷ [] else [])
-told_installed laws start notes count b n settled old s c =
+told_installed laws start notes b n settled old s c =
     let reached = laws.settling.reached start.config start.olds notes b n settled s.under.heard.reached s.ready s.comes in
     told_more b n settled.verdict c.former c.former_is (laws.settling.once start.config start.olds notes (settled_as b n settled.verdict) reached).once
 
-told_new : CommittingLaws → (start : RunStart) (notes : List Note) (count : ℕ) (b : Board) (n : ℕ) (settled : Settled) (old : List State) (held : Held) → IsSettling start notes count b n settled old → (c : IsChanging start b n settled)
+told_new : CommittingLaws → (start : RunStart) (notes : List Note) (b : Board) (n : ℕ) (settled : Settled) (old : List State) (held : Held) → IsSettling start notes b n settled old → (c : IsChanging start b n settled)
     → settled.verdict ≡ Installed held → installed_in (settled_as b n settled.verdict) ≡ installed_in b ++ n ∷ []
-told_new laws start notes count b n settled old held s c installs =
-    told_installed laws start notes count b n settled old s c ∙ ap (λ (v : Verdict2). installed_in b ++ (if is_installed v then n ∷ [] else [])) installs
+told_new laws start notes b n settled old held s c installs =
+    told_installed laws start notes b n settled old s c ∙ ap (λ (v : Verdict2). installed_in b ++ (if is_installed v then n ∷ [] else [])) installs
 
 -- and of no other source a list on its way changes
-more_installed : CommittingLaws → (start : RunStart) (notes : List Note) (count : ℕ) (b : Board) (n : ℕ) (settled : Settled) (old : List State) (held : Held) → IsSettling start notes count b n settled old → (c : IsChanging start b n settled)
+more_installed : CommittingLaws → (start : RunStart) (notes : List Note) (b : Board) (n : ℕ) (settled : Settled) (old : List State) (held : Held) → IsSettling start notes b n settled old → (c : IsChanging start b n settled)
     → settled.verdict ≡ Installed held → (m : ℕ) → Contains (installed_in b) m → Contains (installed_in (settled_as b n settled.verdict)) m
-more_installed laws start notes count b n settled old held s c installs m is =
-    subst (λ (ns : List ℕ). Contains ns m) (sym (told_new laws start notes count b n settled old held s c installs)) (Contains-append_left (installed_in b) (n ∷ []) m is)
+more_installed laws start notes b n settled old held s c installs m is =
+    subst (λ (ns : List ℕ). Contains ns m) (sym (told_new laws start notes b n settled old held s c installs)) (Contains-append_left (installed_in b) (n ∷ []) m is)
 
-aside_new : CommittingLaws → (start : RunStart) (notes : List Note) (count : ℕ) (b : Board) (n : ℕ) (settled : Settled) (old now : List State) (held : Held) → IsSettling start notes count b n settled old → (c : IsChanging start b n settled)
+aside_new : CommittingLaws → (start : RunStart) (notes : List Note) (b : Board) (n : ℕ) (settled : Settled) (old now : List State) (held : Held) → IsSettling start notes b n settled old → (c : IsChanging start b n settled)
     → settled.verdict ≡ Installed held → KeepsUnchangedFiles (changes_for c.source settled ∷ []) old now → KeepsAside start.config.sources (IsListOf start.config.sources (installed_in (settled_as b n settled.verdict))) [] old now
-aside_new laws start notes count b n settled old now held s c installs keeps =
-    let here_too : Contains (installed_in (settled_as b n settled.verdict)) n = subst (λ (ns : List ℕ). Contains ns n) (sym (told_new laws start notes count b n settled old held s c installs)) (Contains-append_right (installed_in b) (n ∷ []) n (here n [] n refl)) in
+aside_new laws start notes b n settled old now held s c installs keeps =
+    let here_too : Contains (installed_in (settled_as b n settled.verdict)) n = subst (λ (ns : List ℕ). Contains ns n) (sym (told_new laws start notes b n settled old held s c installs)) (Contains-append_right (installed_in b) (n ∷ []) n (here n [] n refl)) in
     aside_committed start.config.sources (IsListOf start.config.sources (installed_in (settled_as b n settled.verdict))) (changes_for c.source settled ∷ []) old now (can_record laws start b n settled c) keeps
     (λ name out. unnamed laws start b n settled c name (λ within. out (record { n = n; source = c.source; at = c.source_is; own = within; among = here_too })))
 
 -- the sets so far, and one more
-pub sets_committed : CommittingLaws → (start : RunStart) (notes : List Note) (count : ℕ) (opened : List State) (b : Board) (n : ℕ) (settled : Settled) (old now : List State) (held : Held) → IsSettling start notes count b n settled old → (c : IsChanging start b n settled)
+pub sets_committed : CommittingLaws → (start : RunStart) (notes : List Note) (opened : List State) (b : Board) (n : ℕ) (settled : Settled) (old now : List State) (held : Held) → IsSettling start notes b n settled old → (c : IsChanging start b n settled)
     → settled.verdict ≡ Installed held → IsTold now → HasCommitted (filled_all (part_bytes old) (changes_for c.source settled ∷ [])) old now → KeepsUnchangedFiles (changes_for c.source settled ∷ []) old now
     → HasCommittedSets (begun_of start) notes opened old b → HasCommittedSets (begun_of start) notes opened now (settled_as b n settled.verdict)
-sets_committed laws start notes count opened b n settled old now held s c installs told done keeps sets =
+sets_committed laws start notes opened b n settled old now held s c installs told done keeps sets =
     let changes = filled (part_bytes old) (changes_for c.source settled) in
-    let installed = told_new laws start notes count b n settled old held s c installs in
+    let installed = told_new laws start notes b n settled old held s c installs in
     record {
       sets = record {
         told = told;
@@ -275,12 +274,12 @@ sets_committed laws start notes count opened b n settled old now held s c instal
         made = subst (λ (cs : List Commit). CommitsMade cs opened now) (sym (commits_last sets.commits (SetOf n changes ∷ [])))
             (makes sets.made (commit_of (SetOf n changes ∷ [])) (subst (λ (x : Commit). HasCommitted x old now) (one_group (part_bytes old) n (changes_for c.source settled)) done));
         each = each_last sets.commits n changes sets.each;
-        groups = groups_last (begun_of start) notes sets.commits n changes sets.each sets.groups (new_set laws start notes count b n settled old held sets.told s c installs);
+        groups = groups_last (begun_of start) notes sets.commits n changes sets.each sets.groups (new_set laws start notes b n settled old held sets.told s c installs);
         order = sources_last sets.commits n changes sets.each ∙ ap (λ (ns : List ℕ). ns ++ n ∷ []) sets.order ∙ sym installed;
       };
       aside = aside_on start.config.sources (IsListOf start.config.sources (installed_in b)) (IsListOf start.config.sources (installed_in (settled_as b n settled.verdict))) notes opened old now
-          (list_more start.config.sources (installed_in b) (installed_in (settled_as b n settled.verdict)) (more_installed laws start notes count b n settled old held s c installs))
-          sets.aside (aside_new laws start notes count b n settled old now held s c installs keeps);
+          (list_more start.config.sources (installed_in b) (installed_in (settled_as b n settled.verdict)) (more_installed laws start notes b n settled old held s c installs))
+          sets.aside (aside_new laws start notes b n settled old now held s c installs keeps);
     }
 
 -- ---- a stop
@@ -293,9 +292,9 @@ pub none_removed : (commits : List (List Group)) → Each CommitsOneSource commi
 none_removed [] each = refl
 none_removed (groups ∷ commits) each = subst (λ (gs : List Group). removed_in (gs ++ all_groups commits) ≡ []) (sym each.0.is) (none_removed commits each.1)
 
-unfoldable pub has_begun : (start : RunStart) (notes : List Note) (count : ℕ) (b : Board) (now : List State) (lists : Files) (commits : List (List Group)) → RunHasHeard start notes count b now → Each CommitsOneSource commits
+unfoldable pub has_begun : (start : RunStart) (notes : List Note) (b : Board) (now : List State) (lists : Files) (commits : List (List Group)) → RunHasHeard start notes b now → Each CommitsOneSource commits
     → AreGroups (begun_of start) notes (all_groups commits) → sources_in (all_groups commits) ≡ installed_in b → MayBeStopped false (begun_of start) lists commits
-has_begun start notes count b now lists commits heard each groups order = record {
+has_begun start notes b now lists commits heard each groups order = record {
   heard = notes;
   board = b;
   reached = heard.reached;
@@ -310,29 +309,29 @@ pub nothing_begun : (old now : List State) → now ≡ old → NoCommitBegun old
 nothing_begun old now same = record { lists = no_time old now _ same; rest = no_time old now _ same }
 
 -- where no commit was begun
-pub stops_unbegun : CommittingLaws → (error : RunError) (start : RunStart) (notes : List Note) (count : ℕ) (lists : Files) (opened : List State) (b : Board) (old now : List State) → RunHasHeard start notes count b old → NoCommitBegun old now → (IsNow IsSynced old → IsNow IsSynced now)
+pub stops_unbegun : CommittingLaws → (error : RunError) (start : RunStart) (notes : List Note) (lists : Files) (opened : List State) (b : Board) (old now : List State) → RunHasHeard start notes b old → NoCommitBegun old now → (IsNow IsSynced old → IsNow IsSynced now)
     → HasCommittedSets (begun_of start) notes opened old b → HasProgress error start false lists opened now
 unfolding has_begun
-stops_unbegun laws error start notes count lists opened b old now heard unbegun settled sets = record {
+stops_unbegun laws error start notes lists opened b old now heard unbegun settled sets = record {
   commits = sets.commits;
   acknowledged = length (commits_of sets.commits);
   started = length (commits_of sets.commits);
   progress = laws.unbegun (commits_of sets.commits) opened old now sets.made unbegun;
   whole = λ dry. refl;
-  has = has_begun start notes count b old lists sets.commits heard sets.each sets.groups sets.order;
-  agrees = λ told. run_agrees start notes count old heard sets.told;
+  has = has_begun start notes b old lists sets.commits heard sets.each sets.groups sets.order;
+  agrees = λ told. run_agrees start notes old heard sets.told;
   synced = λ rest. settled (settled_made laws (commits_of sets.commits) lists opened old sets.made rest);
 }
 
 -- where the next was
-pub stops_begun : CommittingLaws → (error : RunError) (start : RunStart) (notes : List Note) (count : ℕ) (lists : Files) (opened : List State) (b : Board) (n : ℕ) (settled : Settled) (old now : List State) (held : Held) → IsSettling start notes count b n settled old
+pub stops_begun : CommittingLaws → (error : RunError) (start : RunStart) (notes : List Note) (lists : Files) (opened : List State) (b : Board) (n : ℕ) (settled : Settled) (old now : List State) (held : Held) → IsSettling start notes b n settled old
     → (c : IsChanging start b n settled) → settled.verdict ≡ Installed held → CommitHasBegun (filled_all (part_bytes old) (changes_for c.source settled ∷ [])) old now → error ≢ NoMemory → (IsNow IsSynced old → IsNow IsSynced now)
     → HasCommittedSets (begun_of start) notes opened old b → HasProgress error start false lists opened now
 unfolding has_begun
-stops_begun laws error start notes count lists opened b n settled old now held s c installs begun moist is_settled sets =
+stops_begun laws error start notes lists opened b n settled old now held s c installs begun moist is_settled sets =
     let changes = filled (part_bytes old) (changes_for c.source settled) in
     let group = SetOf n changes ∷ [] in
-    let heard = heard_settled laws.settling start notes count b n settled old s.ready s.comes s.under.heard in
+    let heard = heard_settled laws.settling start notes b n settled old s.ready s.comes s.under.heard in
     record {
       commits = sets.commits ++ group ∷ [];
       acknowledged = length (commits_of sets.commits);
@@ -340,20 +339,20 @@ stops_begun laws error start notes count lists opened b n settled old now held s
       progress = subst (λ (cs : List Commit). CommitProgress cs (length (commits_of sets.commits)) (suc (length (commits_of sets.commits))) opened now) (sym (commits_last sets.commits group))
           (laws.begun (commits_of sets.commits) (commit_of group) opened old now sets.made (subst (λ (x : Commit). CommitHasBegun x old now) (one_group (part_bytes old) n (changes_for c.source settled)) begun));
       whole = λ dry. absurd (moist dry);
-      has = has_begun start notes count (settled_as b n settled.verdict) old lists (sets.commits ++ group ∷ []) heard (each_last sets.commits n changes sets.each)
-          (groups_last (begun_of start) notes sets.commits n changes sets.each sets.groups (new_set laws start notes count b n settled old held sets.told s c installs))
-          (sources_last sets.commits n changes sets.each ∙ ap (λ (ns : List ℕ). ns ++ n ∷ []) sets.order ∙ sym (told_new laws start notes count b n settled old held s c installs));
-      agrees = λ told. run_agrees start notes count old s.under.heard sets.told;
+      has = has_begun start notes (settled_as b n settled.verdict) old lists (sets.commits ++ group ∷ []) heard (each_last sets.commits n changes sets.each)
+          (groups_last (begun_of start) notes sets.commits n changes sets.each sets.groups (new_set laws start notes b n settled old held sets.told s c installs))
+          (sources_last sets.commits n changes sets.each ∙ ap (λ (ns : List ℕ). ns ++ n ∷ []) sets.order ∙ sym (told_new laws start notes b n settled old held s c installs));
+      agrees = λ told. run_agrees start notes old s.under.heard sets.told;
       synced = λ rest. is_settled (settled_made laws (commits_of sets.commits) lists opened old sets.made rest);
     }
 
-pub stops_committing : CommittingLaws → (error : RunError) (start : RunStart) (notes : List Note) (count : ℕ) (lists : Files) (opened : List State) (b : Board) (n : ℕ) (settled : Settled) (old now : List State) (held : Held) → IsSettling start notes count b n settled old
+pub stops_committing : CommittingLaws → (error : RunError) (start : RunStart) (notes : List Note) (lists : Files) (opened : List State) (b : Board) (n : ℕ) (settled : Settled) (old now : List State) (held : Held) → IsSettling start notes b n settled old
     → (c : IsChanging start b n settled) → settled.verdict ≡ Installed held → IsCommitStopped (filled_all (part_bytes old) (changes_for c.source settled ∷ [])) old now → (error ≡ NoMemory → now ≡ old) → (IsNow IsSynced old → IsNow IsSynced now)
     → HasCommittedSets (begun_of start) notes opened old b → HasProgress error start false lists opened now
-stops_committing laws error start notes count lists opened b n settled old now held s c installs (inl unbegun) dry is_settled sets = stops_unbegun laws error start notes count lists opened b old now s.under.heard unbegun is_settled sets
-stops_committing laws NoMemory start notes count lists opened b n settled old now held s c installs (inr begun) dry is_settled sets = stops_unbegun laws NoMemory start notes count lists opened b old now s.under.heard (nothing_begun old now (dry refl)) is_settled sets
-stops_committing laws DiskFault start notes count lists opened b n settled old now held s c installs (inr begun) dry is_settled sets = stops_begun laws DiskFault start notes count lists opened b n settled old now held s c installs begun (λ is. absurd (cc)) is_settled sets
-stops_committing laws (BadJournal at) start notes count lists opened b n settled old now held s c installs (inr begun) dry is_settled sets = stops_begun laws (BadJournal at) start notes count lists opened b n settled old now held s c installs begun (λ is. absurd (cc)) is_settled sets
+stops_committing laws error start notes lists opened b n settled old now held s c installs (inl unbegun) dry is_settled sets = stops_unbegun laws error start notes lists opened b old now s.under.heard unbegun is_settled sets
+stops_committing laws NoMemory start notes lists opened b n settled old now held s c installs (inr begun) dry is_settled sets = stops_unbegun laws NoMemory start notes lists opened b old now s.under.heard (nothing_begun old now (dry refl)) is_settled sets
+stops_committing laws DiskFault start notes lists opened b n settled old now held s c installs (inr begun) dry is_settled sets = stops_begun laws DiskFault start notes lists opened b n settled old now held s c installs begun (λ is. absurd (cc)) is_settled sets
+stops_committing laws (BadJournal at) start notes lists opened b n settled old now held s c installs (inr begun) dry is_settled sets = stops_begun laws (BadJournal at) start notes lists opened b n settled old now held s c installs begun (λ is. absurd (cc)) is_settled sets
 
 -- ---- what the settling of a source comes to
 
@@ -361,27 +360,27 @@ stops_committing laws (BadJournal at) start notes count lists opened b n settled
 pub goes_settled : CommittingLaws → (b c : Board) (n : ℕ) (settled : Settled) (now : List State) → first_ready b.slots ≡ Some n → settled_of b n ≡ Some settled → c ≡ settled_as b n settled.verdict → is_installed settled.verdict ≡ false
     → KeepsRunGoing b c now now
 goes_settled laws b c n settled now ready comes same none_new = subst (λ (x : Board). KeepsRunGoing b x now now) (sym same) (record {
-  under_way = λ start notes count sound under. under_settled laws.settling start notes count b n settled now ready comes under;
-  sets = λ start notes count opened sound under sets. record {
+  under_way = λ start notes sound under. under_settled laws.settling start notes b n settled now ready comes under;
+  sets = λ start notes opened sound under sets. record {
     sets = record {
       told = sets.told;
       commits = sets.commits;
       made = sets.made;
       each = sets.each;
       groups = sets.groups;
-      order = sets.order ∙ sym (told_none start notes count sound under);
+      order = sets.order ∙ sym (told_none start notes sound under);
     };
-    aside = subst (λ (ns : List ℕ). KeepsAside start.config.sources (IsListOf start.config.sources ns) notes opened now) (sym (told_none start notes count sound under)) sets.aside;
+    aside = subst (λ (ns : List ℕ). KeepsAside start.config.sources (IsListOf start.config.sources ns) notes opened now) (sym (told_none start notes sound under)) sets.aside;
   };
-  aside = λ start notes count sound under. aside_none start.config.sources _ now now refl;
-  more = λ start notes count sound under m is. subst (λ (ns : List ℕ). Contains ns m) (sym (told_none start notes count sound under)) is;
+  aside = λ start notes sound under. aside_none start.config.sources _ now now refl;
+  more = λ start notes sound under m is. subst (λ (ns : List ℕ). Contains ns m) (sym (told_none start notes sound under)) is;
 })
   where
-    told_none : (start : RunStart) (notes : List Note) (count : ℕ) → IsSoundBegun start → IsUnderWay start notes count b now → installed_in (settled_as b n settled.verdict) ≡ installed_in b
-    told_none start notes count sound under =
-        let s : IsSettling start notes count b n settled now = record { sound = sound; under = under; ready = ready; comes = comes } in
-        let c = changing laws start notes count b n settled now s in
-        told_installed laws start notes count b n settled now s c ∙ ap (λ (t : Bool). installed_in b ++ (if t then n ∷ [] else [])) none_new ∙ append-nil (installed_in b)
+    told_none : (start : RunStart) (notes : List Note) → IsSoundBegun start → IsUnderWay start notes b now → installed_in (settled_as b n settled.verdict) ≡ installed_in b
+    told_none start notes sound under =
+        let s : IsSettling start notes b n settled now = record { sound = sound; under = under; ready = ready; comes = comes } in
+        let c = changing laws start notes b n settled now s in
+        told_installed laws start notes b n settled now s c ∙ ap (λ (t : Bool). installed_in b ++ (if t then n ∷ [] else [])) none_new ∙ append-nil (installed_in b)
 
 -- the groups of the commit are those of the source
 abbrev pub AreGroupsOf : Board → ℕ → Settled → List (List Change) → Type 0
@@ -390,16 +389,16 @@ AreGroupsOf b n settled groups = (source : Source) → slice_get b.config.source
 pub commit_can : CommittingLaws → (b : Board) (n : ℕ) (settled : Settled) (groups : List (List Change)) (now : List State) → MayCommit b now → first_ready b.slots ≡ Some n → settled_of b n ≡ Some settled → AreGroupsOf b n settled groups
     → CanRecord groups
 commit_can laws b n settled groups now stands ready comes are =
-    let s : IsSettling stands.start stands.notes stands.count b n settled now = record { sound = stands.sound; under = stands.under_way; ready = ready; comes = comes } in
-    let c = changing laws stands.start stands.notes stands.count b n settled now s in
+    let s : IsSettling stands.start stands.notes b n settled now = record { sound = stands.sound; under = stands.under_way; ready = ready; comes = comes } in
+    let c = changing laws stands.start stands.notes b n settled now s in
     subst CanRecord (sym (are c.source c.here_is)) (can_record laws stands.start b n settled c)
 
 pub commit_staged : CommittingLaws → (b : Board) (n : ℕ) (settled : Settled) (groups : List (List Change)) (now : List State) → MayCommit b now → first_ready b.slots ≡ Some n → settled_of b n ≡ Some settled → AreGroupsOf b n settled groups
     → IsNow (AreAllStaged groups) now
 commit_staged laws b n settled groups now stands ready comes are =
-    let s : IsSettling stands.start stands.notes stands.count b n settled now = record { sound = stands.sound; under = stands.under_way; ready = ready; comes = comes } in
-    let c = changing laws stands.start stands.notes stands.count b n settled now s in
-    subst (λ (gs : List (List Change)). IsNow (AreAllStaged gs) now) (sym (are c.source c.here_is)) (are_staged laws stands.start stands.notes stands.count b n settled now c.source s)
+    let s : IsSettling stands.start stands.notes b n settled now = record { sound = stands.sound; under = stands.under_way; ready = ready; comes = comes } in
+    let c = changing laws stands.start stands.notes b n settled now s in
+    subst (λ (gs : List (List Change)). IsNow (AreAllStaged gs) now) (sym (are c.source c.here_is)) (are_staged laws stands.start stands.notes b n settled now c.source s)
 
 back_committed : (commit : Commit) (old now : List State) → HasCommitted commit old now → IsTold now → IsTold old
 back_committed commit old now done told = told_back _ old done.begun.prepared done.begun.before (told_back _ done.begun.prepared now done.begun.during told)
@@ -411,44 +410,44 @@ on_committed commit old now done told = told_on _ done.begun.prepared now done.b
 pub goes_committed : CommittingLaws → (b c : Board) (n : ℕ) (settled : Settled) (groups : List (List Change)) (old now : List State) → first_ready b.slots ≡ Some n → settled_of b n ≡ Some settled → c ≡ settled_as b n settled.verdict
     → is_installed settled.verdict ≡ true → AreGroupsOf b n settled groups → KeepsUnchangedFiles groups old now → HasCommitted (filled_all (part_bytes old) groups) old now → KeepsRunGoing b c old now
 goes_committed laws b c n settled groups old now ready comes same new_one are keeps done = subst (λ (x : Board). KeepsRunGoing b x old now) (sym same) (record {
-  under_way = λ start notes count sound under.
-      let s : IsSettling start notes count b n settled old = record { sound = sound; under = under; ready = ready; comes = comes } in
-      let d = changing laws start notes count b n settled old s in
-      under_committed laws start notes count b n settled old now s d (back_committed (filled_all (part_bytes old) groups) old now done)
+  under_way = λ start notes sound under.
+      let s : IsSettling start notes b n settled old = record { sound = sound; under = under; ready = ready; comes = comes } in
+      let d = changing laws start notes b n settled old s in
+      under_committed laws start notes b n settled old now s d (back_committed (filled_all (part_bytes old) groups) old now done)
       (subst (λ (gs : List (List Change)). KeepsUnchangedFiles gs old now) (are d.source d.here_is) keeps);
-  sets = λ start notes count opened sound under sets.
-      let s : IsSettling start notes count b n settled old = record { sound = sound; under = under; ready = ready; comes = comes } in
-      let d = changing laws start notes count b n settled old s in
+  sets = λ start notes opened sound under sets.
+      let s : IsSettling start notes b n settled old = record { sound = sound; under = under; ready = ready; comes = comes } in
+      let d = changing laws start notes b n settled old s in
       let held = is_held settled.verdict new_one in
-      sets_committed laws start notes count opened b n settled old now held.0 s d held.1 (on_committed (filled_all (part_bytes old) groups) old now done sets.told)
+      sets_committed laws start notes opened b n settled old now held.0 s d held.1 (on_committed (filled_all (part_bytes old) groups) old now done sets.told)
       (subst (λ (gs : List (List Change)). HasCommitted (filled_all (part_bytes old) gs) old now) (are d.source d.here_is) done)
       (subst (λ (gs : List (List Change)). KeepsUnchangedFiles gs old now) (are d.source d.here_is) keeps) sets;
-  aside = λ start notes count sound under.
-      let s : IsSettling start notes count b n settled old = record { sound = sound; under = under; ready = ready; comes = comes } in
-      let d = changing laws start notes count b n settled old s in
+  aside = λ start notes sound under.
+      let s : IsSettling start notes b n settled old = record { sound = sound; under = under; ready = ready; comes = comes } in
+      let d = changing laws start notes b n settled old s in
       let held = is_held settled.verdict new_one in
-      aside_new laws start notes count b n settled old now held.0 s d held.1 (subst (λ (gs : List (List Change)). KeepsUnchangedFiles gs old now) (are d.source d.here_is) keeps);
-  more = λ start notes count sound under.
-      let s : IsSettling start notes count b n settled old = record { sound = sound; under = under; ready = ready; comes = comes } in
+      aside_new laws start notes b n settled old now held.0 s d held.1 (subst (λ (gs : List (List Change)). KeepsUnchangedFiles gs old now) (are d.source d.here_is) keeps);
+  more = λ start notes sound under.
+      let s : IsSettling start notes b n settled old = record { sound = sound; under = under; ready = ready; comes = comes } in
       let held = is_held settled.verdict new_one in
-      more_installed laws start notes count b n settled old held.0 s (changing laws start notes count b n settled old s) held.1;
+      more_installed laws start notes b n settled old held.0 s (changing laws start notes b n settled old s) held.1;
 })
 
 -- ---- where it stops
 
 -- nothing was done to the disk
 pub stops_here : CommittingLaws → (error : RunError) (b : Board) (now : List State) → StopsBetweenAsks error b now now
-stops_here laws error b now = λ start notes count lists opened sound under sets.
-    stops_unbegun laws error start notes count lists opened b now now under.heard (nothing_begun now now refl) (λ is. is) sets
+stops_here laws error b now = λ start notes lists opened sound under sets.
+    stops_unbegun laws error start notes lists opened b now now under.heard (nothing_begun now now refl) (λ is. is) sets
 
 -- the commit was not made
 pub stops_in_commit : CommittingLaws → (error : RunError) (b : Board) (n : ℕ) (settled : Settled) (groups : List (List Change)) (old now : List State) → first_ready b.slots ≡ Some n → settled_of b n ≡ Some settled → is_installed settled.verdict ≡ true
     → AreGroupsOf b n settled groups → IsCommitStopped (filled_all (part_bytes old) groups) old now → (error ≡ NoMemory → now ≡ old) → (IsNow IsSynced old → IsNow IsSynced now) → StopsBetweenAsks error b old now
-stops_in_commit laws error b n settled groups old now ready comes new_one are stopped dry is_settled = λ start notes count lists opened sound under sets.
-    let s : IsSettling start notes count b n settled old = record { sound = sound; under = under; ready = ready; comes = comes } in
-    let d = changing laws start notes count b n settled old s in
+stops_in_commit laws error b n settled groups old now ready comes new_one are stopped dry is_settled = λ start notes lists opened sound under sets.
+    let s : IsSettling start notes b n settled old = record { sound = sound; under = under; ready = ready; comes = comes } in
+    let d = changing laws start notes b n settled old s in
     let held = is_held settled.verdict new_one in
-    stops_committing laws error start notes count lists opened b n settled old now held.0 s d held.1
+    stops_committing laws error start notes lists opened b n settled old now held.0 s d held.1
     (subst (λ (gs : List (List Change)). IsCommitStopped (filled_all (part_bytes old) gs) old now) (are d.source d.here_is) stopped) dry is_settled sets
 
 pub groups_of : (b c : Board) (n : ℕ) (settled : Settled) (changes : List Change) (groups : List (List Change)) → c ≡ settled_as b n settled.verdict

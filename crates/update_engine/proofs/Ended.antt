@@ -60,9 +60,9 @@ shape_so_far : (together : Bool) (commits : List (List Group)) → Each CommitsO
 shape_so_far false commits each first = have_shape commits each
 shape_so_far true commits each first = subst (AreCommitGroups true) (sym (first refl)) (omega arith, tt)
 
-unfoldable has_so_far : (together : Bool) (start : RunStart) (notes : List Note) (count : ℕ) (opened now : List State) (lists : Files) (b : Board) (picks : List NewSource) → RunHasHeard start notes count b now
+unfoldable has_so_far : (together : Bool) (start : RunStart) (notes : List Note) (opened now : List State) (lists : Files) (b : Board) (picks : List NewSource) → RunHasHeard start notes b now
     → (e : HasCommittedAllBut together start notes opened now b picks) → MayBeStopped together (begun_of start) lists e.commits
-has_so_far together start notes count opened now lists b picks heard e = record {
+has_so_far together start notes opened now lists b picks heard e = record {
   heard = notes;
   board = b;
   reached = heard.reached;
@@ -72,17 +72,17 @@ has_so_far together start notes count opened now lists b picks heard e = record 
   shape = shape_so_far together e.commits e.each e.first;
 }
 
-pub stops_before : CommittingLaws → (error : RunError) (together : Bool) (start : RunStart) (notes : List Note) (count : ℕ) (lists : Files) (opened mid now : List State) (b : Board) (picks : List NewSource) → RunHasHeard start notes count b mid
+pub stops_before : CommittingLaws → (error : RunError) (together : Bool) (start : RunStart) (notes : List Note) (lists : Files) (opened mid now : List State) (b : Board) (picks : List NewSource) → RunHasHeard start notes b mid
     → HasCommittedAllBut together start notes opened mid b picks → NoCommitBegun mid now → (IsNow IsSynced mid → IsNow IsSynced now) → HasProgress error start together lists opened now
 unfolding has_so_far
-stops_before laws error together start notes count lists opened mid now b picks heard e unbegun settled = record {
+stops_before laws error together start notes lists opened mid now b picks heard e unbegun settled = record {
   commits = e.commits;
   acknowledged = length (commits_of e.commits);
   started = length (commits_of e.commits);
   progress = laws.unbegun (commits_of e.commits) opened mid now e.made unbegun;
   whole = λ dry. refl;
-  has = has_so_far together start notes count opened mid lists b picks heard e;
-  agrees = λ told. run_agrees start notes count mid heard e.told;
+  has = has_so_far together start notes opened mid lists b picks heard e;
+  agrees = λ told. run_agrees start notes mid heard e.told;
   synced = λ rest. settled (settled_made laws (commits_of e.commits) lists opened mid e.made rest);
 }
 
@@ -203,10 +203,10 @@ cleans_one false sources lists loose removed are is = is
 
 -- ---- a run of which all but the last commit is made
 
-pub record AtLast (together cleanup : Bool) (start : RunStart) (notes : List Note) (count : ℕ) (lists files : Files) (opened mid : List State) (c : Board) (picks : List NewSource) (loose : List (List ℕ)) : Type 0 where
+pub record AtLast (together cleanup : Bool) (start : RunStart) (notes : List Note) (lists files : Files) (opened mid : List State) (c : Board) (picks : List NewSource) (loose : List (List ℕ)) : Type 0 where
   pub switch : start.config.settings.cleanup ≡ cleanup
   pub sound : IsSoundBegun start
-  pub under : IsUnderWay start notes count c mid
+  pub under : IsUnderWay start notes c mid
   pub each : Each (IsNewSource start notes mid) picks
   pub turn : AreRising (numbers_of picks)
   pub but : HasCommittedAllBut together start notes opened mid c picks
@@ -223,9 +223,9 @@ pub tells_now : (tells : Bool) (files : Files) (now : List State) → IsTold now
 tells_now tells files [] told shown = absurd told
 tells_now tells files (s ∷ past) told shown = shown.0
 
-are_loose : CommittingLaws → (together cleanup : Bool) (start : RunStart) (notes : List Note) (count : ℕ) (lists files : Files) (opened mid : List State) (c : Board) (picks : List NewSource) (loose : List (List ℕ)) (tells : Bool)
-    → IsShown tells files mid → AtLast together cleanup start notes count lists files opened mid c picks loose → AreLooseLists start.config.sources lists loose
-are_loose laws together cleanup start notes count lists files opened mid c picks loose tells shown a =
+are_loose : CommittingLaws → (together cleanup : Bool) (start : RunStart) (notes : List Note) (lists files : Files) (opened mid : List State) (c : Board) (picks : List NewSource) (loose : List (List ℕ)) (tells : Bool)
+    → IsShown tells files mid → AtLast together cleanup start notes lists files opened mid c picks loose → AreLooseLists start.config.sources lists loose
+are_loose laws together cleanup start notes lists files opened mid c picks loose tells shown a =
     let e = a.but in
     laws.loose (begun_of start) lists files notes e.commits loose a.over e.groups (none_removed e.commits e.each) a.names
     (read_at_rest (after_all (commits_of e.commits) lists) files tells mid e.told shown (laws.leaves (commits_of e.commits) lists opened mid e.made a.rest))
@@ -240,9 +240,9 @@ pub record AllOfRun (together cleanup : Bool) (start : RunStart) (notes : List N
   pub shape : AreCommitGroups together commits
   pub removed : removed_in (all_groups commits) ≡ names_of_group (names_to_remove cleanup c.verdicts loose)
 
-all_of_run : CommittingLaws → (together cleanup : Bool) (start : RunStart) (notes : List Note) (count : ℕ) (lists files : Files) (opened mid : List State) (c : Board) (picks : List NewSource) (loose : List (List ℕ)) (tells : Bool)
-    → IsShown tells files mid → (a : AtLast together cleanup start notes count lists files opened mid c picks loose) → AllOfRun together cleanup start notes lists mid c picks loose (last_of cleanup loose a.but)
-all_of_run laws together cleanup start notes count lists files opened mid c picks loose tells shown a =
+all_of_run : CommittingLaws → (together cleanup : Bool) (start : RunStart) (notes : List Note) (lists files : Files) (opened mid : List State) (c : Board) (picks : List NewSource) (loose : List (List ℕ)) (tells : Bool)
+    → IsShown tells files mid → (a : AtLast together cleanup start notes lists files opened mid c picks loose) → AllOfRun together cleanup start notes lists mid c picks loose (last_of cleanup loose a.but)
+all_of_run laws together cleanup start notes lists files opened mid c picks loose tells shown a =
     let e = a.but in
     let part = part_bytes mid in
     let names = names_to_remove cleanup c.verdicts loose in
@@ -259,7 +259,7 @@ all_of_run laws together cleanup start notes count lists files opened mid c pick
         order = sources ∙ sym e.order;
         cleans = subst (λ (t : Bool). RemovesLooseNames t start.config.sources lists (removed_in (all_groups (with_last e.commits last)))) (sym switch)
             (cleans_one (cleans cleanup c.verdicts) start.config.sources lists loose (removed_in (all_groups (with_last e.commits last)))
-            (are_loose laws together cleanup start notes count lists files opened mid c picks loose tells shown a) removed);
+            (are_loose laws together cleanup start notes lists files opened mid c picks loose tells shown a) removed);
       };
       in_turn = turn_with together e.commits (all_groups (with_last e.commits last)) picks sources a.turn e.first;
       shape = shape_with together e.commits part picks names e.each e.first e.alone;
@@ -312,10 +312,10 @@ none_goes start cleanup verdicts loose are name out = one (cleans cleanup verdic
     one true cleaned is = out (cleaned, are name (subst (λ (ns : List (List ℕ)). Contains ns name) (group_some loose) is))
     one false cleaned is = none-in name is
 
-aside_last : CommittingLaws → (together cleanup : Bool) (start : RunStart) (notes : List Note) (count : ℕ) (lists files : Files) (opened mid now : List State) (c : Board) (picks : List NewSource) (loose : List (List ℕ)) (later : List (List Change))
-    → AtLast together cleanup start notes count lists files opened mid c picks loose → AreLater cleanup c picks loose later → CanRecord later → (later ≡ [] → now ≡ mid) → (later ≢ [] → KeepsUnchangedFiles later mid now)
+aside_last : CommittingLaws → (together cleanup : Bool) (start : RunStart) (notes : List Note) (lists files : Files) (opened mid now : List State) (c : Board) (picks : List NewSource) (loose : List (List ℕ)) (later : List (List Change))
+    → AtLast together cleanup start notes lists files opened mid c picks loose → AreLater cleanup c picks loose later → CanRecord later → (later ≡ [] → now ≡ mid) → (later ≢ [] → KeepsUnchangedFiles later mid now)
     → KeepsAside start.config.sources (TakenAtLast cleanup start c) [] mid now
-aside_last laws together cleanup start notes count lists files opened mid now c picks loose later a is can none keeps = by later refl
+aside_last laws together cleanup start notes lists files opened mid now c picks loose later a is can none keeps = by later refl
   where
     free : (name : List ℕ) → (TakenAtLast cleanup start c name → ⊥) → IsNone (partial name) (all_changed_names later)
     free name out = subst (λ (gs : List (List Change)). IsNone (partial name) (all_changed_names gs)) (last_groups_are cleanup c picks loose later is)
@@ -328,10 +328,10 @@ aside_last laws together cleanup start notes count lists files opened mid now c 
     by [] same = aside_none start.config.sources (TakenAtLast cleanup start c) mid now (none same)
     by (g ∷ gs) same = aside_committed start.config.sources (TakenAtLast cleanup start c) later mid now can (keeps (λ empty. let wrong : g ∷ gs ≡ [] = sym same ∙ empty in absurd (cc))) free
 
-gone_last : CommittingLaws → (together cleanup : Bool) (start : RunStart) (notes : List Note) (count : ℕ) (lists files : Files) (opened mid now : List State) (c : Board) (picks : List NewSource) (loose : List (List ℕ)) (tells : Bool) (later : List (List Change))
-    → IsShown tells files mid → AtLast together cleanup start notes count lists files opened mid c picks loose → AreLater cleanup c picks loose later → (later ≡ [] → now ≡ mid) → (later ≢ [] → KeepsUnchangedFiles later mid now)
+gone_last : CommittingLaws → (together cleanup : Bool) (start : RunStart) (notes : List Note) (lists files : Files) (opened mid now : List State) (c : Board) (picks : List NewSource) (loose : List (List ℕ)) (tells : Bool) (later : List (List Change))
+    → IsShown tells files mid → AtLast together cleanup start notes lists files opened mid c picks loose → AreLater cleanup c picks loose later → (later ≡ [] → now ≡ mid) → (later ≢ [] → KeepsUnchangedFiles later mid now)
     → (later ≢ [] → IsNow (ReadsAllGone later) now) → cleans cleanup c.verdicts ≡ true → IsNow (λ s. NoneIsLoose start.config.sources (reads s)) now
-gone_last laws together cleanup start notes count lists files opened mid now c picks loose tells later shown a is none keeps gone cleaned =
+gone_last laws together cleanup start notes lists files opened mid now c picks loose tells later shown a is none keeps gone cleaned =
     let names : names_to_remove cleanup c.verdicts loose ≡ some_names loose = ap (λ (t : Bool). if t then some_names loose else None) cleaned in
     none_loose start.config.sources files loose (groups_for picks) later mid now tells shown a.but.told a.names
     (is ∙ ap (λ (ns : Option (List (List ℕ))). groups_for picks ++ group_of ns) names) none keeps gone
@@ -341,14 +341,14 @@ gone_last laws together cleanup start notes count lists files opened mid now c p
 
 -- ---- its end
 
-pub ended : CommittingLaws → (together cleanup : Bool) (start : RunStart) (notes : List Note) (count : ℕ) (lists files : Files) (opened old mid now : List State) (c : Board) (picks : List NewSource) (loose : List (List ℕ)) (tells : Bool)
-    (later : List (List Change)) (log : RunLog) → IsShown tells files mid → AtLast together cleanup start notes count lists files opened mid c picks loose → AreLater cleanup c picks loose later
+pub ended : CommittingLaws → (together cleanup : Bool) (start : RunStart) (notes : List Note) (lists files : Files) (opened old mid now : List State) (c : Board) (picks : List NewSource) (loose : List (List ℕ)) (tells : Bool)
+    (later : List (List Change)) (log : RunLog) → IsShown tells files mid → AtLast together cleanup start notes lists files opened mid c picks loose → AreLater cleanup c picks loose later
     → log ≡ with_removed (log_of c) (names_to_remove cleanup c.verdicts loose) → (later ≡ [] → now ≡ mid) → (later ≢ [] → HasCommitted (filled_all (part_bytes mid) later) mid now) → CanRecord later
     → (later ≢ [] → KeepsUnchangedFiles later mid now) → (later ≢ [] → IsNow (ReadsAllGone later) now)
     → KeepsAside start.config.sources (IsListOf start.config.sources (installed_in c)) [] old mid → HasCommittedAll together start notes lists opened old now log
-ended laws together cleanup start notes count lists files opened old mid now c picks loose tells later log shown a is told none done can keeps gone before =
-    let last = aside_last laws together cleanup start notes count lists files opened mid now c picks loose later a is can none keeps in
-    let all = all_of_run laws together cleanup start notes count lists files opened mid c picks loose tells shown a in
+ended laws together cleanup start notes lists files opened old mid now c picks loose tells later log shown a is told none done can keeps gone before =
+    let last = aside_last laws together cleanup start notes lists files opened mid now c picks loose later a is can none keeps in
+    let all = all_of_run laws together cleanup start notes lists files opened mid c picks loose tells shown a in
     record {
       commits = last_of cleanup loose a.but;
       ran = record {
@@ -367,7 +367,7 @@ ended laws together cleanup start notes count lists files opened old mid now c p
           (taken_so (aside_on start.config.sources _ (TakenAtLast cleanup start c) notes opened mid now (λ name l. inl l) a.but.aside last));
       end = subst (λ (l : RunLog). KeepsAside start.config.sources (IsTaken start.config.sources (installed_by l) (cleans_up start.config.settings l.verdicts)) [] old now) (sym told)
           (taken_so (aside_on start.config.sources _ (TakenAtLast cleanup start c) [] old mid now (λ name l. inl l) before last));
-      gone = λ cleaned. gone_last laws together cleanup start notes count lists files opened mid now c picks loose tells later shown a is none keeps gone
+      gone = λ cleaned. gone_last laws together cleanup start notes lists files opened mid now c picks loose tells later shown a is none keeps gone
           (sym (ap (λ (t : Bool). t && list_all (λ verdict. not (is_kept verdict)) c.verdicts) a.switch) ∙ subst (λ (l : RunLog). cleans_up start.config.settings l.verdicts ≡ true) told cleaned);
     }
   where
@@ -380,9 +380,9 @@ may_all : (together : Bool) (start : RunStart) (lists : Files) (c : Board) (grou
 may_all false start lists c groups all = inr all
 may_all true start lists c groups all = inr all
 
-unfoldable has_last : (together cleanup : Bool) (start : RunStart) (notes : List Note) (count : ℕ) (lists : Files) (mid : List State) (c : Board) (picks : List NewSource) (loose : List (List ℕ)) (commits : List (List Group))
-    → RunHasHeard start notes count c mid → AllOfRun together cleanup start notes lists mid c picks loose commits → MayBeStopped together (begun_of start) lists commits
-has_last together cleanup start notes count lists mid c picks loose commits heard all = record {
+unfoldable has_last : (together cleanup : Bool) (start : RunStart) (notes : List Note) (lists : Files) (mid : List State) (c : Board) (picks : List NewSource) (loose : List (List ℕ)) (commits : List (List Group))
+    → RunHasHeard start notes c mid → AllOfRun together cleanup start notes lists mid c picks loose commits → MayBeStopped together (begun_of start) lists commits
+has_last together cleanup start notes lists mid c picks loose commits heard all = record {
   heard = notes;
   board = c;
   reached = heard.reached;
@@ -400,55 +400,55 @@ moment_with laws commits (g ∷ gs) later opened mid now made is some begun =
     (laws.begun (commits_of commits) (commit_of (g ∷ gs)) opened mid now made (subst (λ (x : Commit). CommitHasBegun x mid now) is begun))
 
 -- within the last commit
-stops_in_last : CommittingLaws → (error : RunError) (together cleanup : Bool) (start : RunStart) (notes : List Note) (count : ℕ) (lists files : Files) (opened mid now : List State) (c : Board) (picks : List NewSource) (loose : List (List ℕ)) (tells : Bool)
-    (later : List (List Change)) → IsShown tells files mid → AtLast together cleanup start notes count lists files opened mid c picks loose → AreLater cleanup c picks loose later → later ≢ []
+stops_in_last : CommittingLaws → (error : RunError) (together cleanup : Bool) (start : RunStart) (notes : List Note) (lists files : Files) (opened mid now : List State) (c : Board) (picks : List NewSource) (loose : List (List ℕ)) (tells : Bool)
+    (later : List (List Change)) → IsShown tells files mid → AtLast together cleanup start notes lists files opened mid c picks loose → AreLater cleanup c picks loose later → later ≢ []
     → CommitHasBegun (filled_all (part_bytes mid) later) mid now → error ≢ NoMemory → (IsNow IsSynced mid → IsNow IsSynced now) → HasProgress error start together lists opened now
 unfolding has_last
-stops_in_last laws error together cleanup start notes count lists files opened mid now c picks loose tells later shown a is some begun moist settled =
+stops_in_last laws error together cleanup start notes lists files opened mid now c picks loose tells later shown a is some begun moist settled =
     let e = a.but in
-    let all = all_of_run laws together cleanup start notes count lists files opened mid c picks loose tells shown a in
+    let all = all_of_run laws together cleanup start notes lists files opened mid c picks loose tells shown a in
     record {
       commits = last_of cleanup loose e;
       acknowledged = length (commits_of e.commits);
       started = suc (length (commits_of e.commits));
       progress = moment_with laws e.commits (last_groups (part_bytes mid) picks (names_to_remove cleanup c.verdicts loose)) later opened mid now e.made (filled_later cleanup c picks loose later (part_bytes mid) is) some begun;
       whole = λ dry. absurd (moist dry);
-      has = has_last together cleanup start notes count lists mid c picks loose (last_of cleanup loose e) a.under.heard all;
-      agrees = λ told. run_agrees start notes count mid a.under.heard e.told;
+      has = has_last together cleanup start notes lists mid c picks loose (last_of cleanup loose e) a.under.heard all;
+      agrees = λ told. run_agrees start notes mid a.under.heard e.told;
       synced = λ rest. settled (settled_made laws (commits_of e.commits) lists opened mid e.made rest);
     }
 
-pub stops_within : CommittingLaws → (error : RunError) (together cleanup : Bool) (start : RunStart) (notes : List Note) (count : ℕ) (lists files : Files) (opened mid now : List State) (c : Board) (picks : List NewSource) (loose : List (List ℕ)) (tells : Bool)
-    (later : List (List Change)) → IsShown tells files mid → AtLast together cleanup start notes count lists files opened mid c picks loose → AreLater cleanup c picks loose later → later ≢ []
+pub stops_within : CommittingLaws → (error : RunError) (together cleanup : Bool) (start : RunStart) (notes : List Note) (lists files : Files) (opened mid now : List State) (c : Board) (picks : List NewSource) (loose : List (List ℕ)) (tells : Bool)
+    (later : List (List Change)) → IsShown tells files mid → AtLast together cleanup start notes lists files opened mid c picks loose → AreLater cleanup c picks loose later → later ≢ []
     → IsCommitStopped (filled_all (part_bytes mid) later) mid now → (error ≡ NoMemory → now ≡ mid) → (IsNow IsSynced mid → IsNow IsSynced now) → HasProgress error start together lists opened now
-stops_within laws error together cleanup start notes count lists files opened mid now c picks loose tells later shown a is some (inl unbegun) dry settled =
-    stops_before laws error together start notes count lists opened mid now c picks a.under.heard a.but unbegun settled
-stops_within laws NoMemory together cleanup start notes count lists files opened mid now c picks loose tells later shown a is some (inr begun) dry settled =
-    stops_before laws NoMemory together start notes count lists opened mid now c picks a.under.heard a.but (nothing_begun mid now (dry refl)) settled
-stops_within laws DiskFault together cleanup start notes count lists files opened mid now c picks loose tells later shown a is some (inr begun) dry settled =
-    stops_in_last laws DiskFault together cleanup start notes count lists files opened mid now c picks loose tells later shown a is some begun (λ wrong. absurd (cc)) settled
-stops_within laws (BadJournal at) together cleanup start notes count lists files opened mid now c picks loose tells later shown a is some (inr begun) dry settled =
-    stops_in_last laws (BadJournal at) together cleanup start notes count lists files opened mid now c picks loose tells later shown a is some begun (λ wrong. absurd (cc)) settled
+stops_within laws error together cleanup start notes lists files opened mid now c picks loose tells later shown a is some (inl unbegun) dry settled =
+    stops_before laws error together start notes lists opened mid now c picks a.under.heard a.but unbegun settled
+stops_within laws NoMemory together cleanup start notes lists files opened mid now c picks loose tells later shown a is some (inr begun) dry settled =
+    stops_before laws NoMemory together start notes lists opened mid now c picks a.under.heard a.but (nothing_begun mid now (dry refl)) settled
+stops_within laws DiskFault together cleanup start notes lists files opened mid now c picks loose tells later shown a is some (inr begun) dry settled =
+    stops_in_last laws DiskFault together cleanup start notes lists files opened mid now c picks loose tells later shown a is some begun (λ wrong. absurd (cc)) settled
+stops_within laws (BadJournal at) together cleanup start notes lists files opened mid now c picks loose tells later shown a is some (inr begun) dry settled =
+    stops_in_last laws (BadJournal at) together cleanup start notes lists files opened mid now c picks loose tells later shown a is some begun (λ wrong. absurd (cc)) settled
 
 -- ---- at the end of a run
 
 -- nothing was done
 pub stops_first : CommittingLaws → (error : RunError) (together cleanup : Bool) (b : Board) (old now : List State) → now ≡ old → StopsWhileEnding error together cleanup b old now
-stops_first laws error together cleanup b old now same = λ start notes count lists opened switch h.
+stops_first laws error together cleanup b old now same = λ start notes lists opened switch h.
     subst (HasProgress error start together lists opened) (sym same)
-    (stops_before laws error together start notes count lists opened old old b [] h.under_way.heard (all_committed together start notes opened old b h.first h.sets) (nothing_begun old old refl) (λ is. is))
+    (stops_before laws error together start notes lists opened old old b [] h.under_way.heard (all_committed together start notes opened old b h.first h.sets) (nothing_begun old old refl) (λ is. is))
 
 -- it stopped as its sets were committed one by one
 pub stops_one_by_one : (error : RunError) (together cleanup : Bool) (b : Board) (old now : List State) → together ≡ false → StopsBetweenAsks error b old now → StopsWhileEnding error together cleanup b old now
-stops_one_by_one error together cleanup b old now isnt stops = λ start notes count lists opened switch h.
-    subst (λ (t : Bool). HasProgress error start t lists opened now) (sym isnt) (stops start notes count lists opened h.sound h.under_way h.sets)
+stops_one_by_one error together cleanup b old now isnt stops = λ start notes lists opened switch h.
+    subst (λ (t : Bool). HasProgress error start t lists opened now) (sym isnt) (stops start notes lists opened h.sound h.under_way h.sets)
 
 -- before the last commit
 pub stops_between : CommittingLaws → (error : RunError) (together cleanup : Bool) (b c : Board) (old mid now : List State) (groups : List (List Change)) → LeavesUncommitted together b c old mid groups → now ≡ mid → StopsWhileEnding error together cleanup b old now
-stops_between laws error together cleanup b c old mid now groups leaves same = λ start notes count lists opened switch h.
-    let l = leaves start notes count h.sound h.under_way in
+stops_between laws error together cleanup b c old mid now groups leaves same = λ start notes lists opened switch h.
+    let l = leaves start notes h.sound h.under_way in
     subst (HasProgress error start together lists opened) (sym same)
-    (stops_before laws error together start notes count lists opened mid mid c l.picks l.under_way.heard (l.sets opened h.first h.sets) (nothing_begun mid mid refl) (λ is. is))
+    (stops_before laws error together start notes lists opened mid mid c l.picks l.under_way.heard (l.sets opened h.first h.sets) (nothing_begun mid mid refl) (λ is. is))
 
 -- reads change nothing
 pub leaves_on : (together : Bool) (b c : Board) (old mid now : List State) (groups : List (List Change)) → now ≡ mid → LeavesUncommitted together b c old mid groups → LeavesUncommitted together b c old now groups
@@ -457,10 +457,10 @@ leaves_on together b c old mid now groups still leaves = subst (λ (t : List Sta
 pub shown_on : (tells : Bool) (files : Files) (mid now : List State) → now ≡ mid → IsShown tells files mid → IsShown tells files now
 shown_on tells files mid now still shown = subst (IsShown tells files) (sym still) shown
 
-at_last : (together cleanup : Bool) (start : RunStart) (notes : List Note) (count : ℕ) (lists files : Files) (opened old mid : List State) (b c : Board) (groups : List (List Change)) (loose : List (List ℕ)) (sources : List Source) (tells : Bool)
-    → start.config.settings.cleanup ≡ cleanup → RunsOverLists together start notes count lists opened old b → (l : HasUncommitted together start notes count b old mid c groups) → is_finished c ≡ true → sources ≡ c.config.sources
-    → (IsTrue tells → AreLooseNames files sources loose) → IsShown tells files mid → AtLast together cleanup start notes count lists files opened mid c l.picks loose
-at_last together cleanup start notes count lists files opened old mid b c groups loose sources tells switch h l finished same names shown =
+at_last : (together cleanup : Bool) (start : RunStart) (notes : List Note) (lists files : Files) (opened old mid : List State) (b c : Board) (groups : List (List Change)) (loose : List (List ℕ)) (sources : List Source) (tells : Bool)
+    → start.config.settings.cleanup ≡ cleanup → RunsOverLists together start notes lists opened old b → (l : HasUncommitted together start notes b old mid c groups) → is_finished c ≡ true → sources ≡ c.config.sources
+    → (IsTrue tells → AreLooseNames files sources loose) → IsShown tells files mid → AtLast together cleanup start notes lists files opened mid c l.picks loose
+at_last together cleanup start notes lists files opened old mid b c groups loose sources tells switch h l finished same names shown =
     let but = l.sets opened h.first h.sets in
     let own : sources ≡ start.config.sources = same ∙ ap (λ (x : Setup). x.sources) l.under_way.heard.config in
     record {
@@ -480,11 +480,11 @@ at_last together cleanup start notes count lists files opened old mid b c groups
 pub stops_last : CommittingLaws → (error : RunError) (together cleanup : Bool) (b c : Board) (old mid now : List State) (files : Files) (tells : Bool) (groups later : List (List Change)) (loose : List (List ℕ)) (sources : List Source) (first : RunLog)
     → LeavesUncommitted together b c old mid groups → is_finished c ≡ true → sources ≡ c.config.sources → (IsTrue tells → AreLooseNames files sources loose) → IsShown tells files mid
     → later ≡ groups ++ group_of (names_to_remove cleanup first.verdicts loose) → first ≡ log_of c → later ≢ [] → IsCommitStopped (filled_all (part_bytes mid) later) mid now → (error ≡ NoMemory → now ≡ mid) → (IsNow IsSynced mid → IsNow IsSynced now) → StopsWhileEnding error together cleanup b old now
-stops_last laws error together cleanup b c old mid now files tells groups later loose sources first leaves finished same names shown is told some stopped dry settled = λ start notes count lists opened switch h.
-    let l = leaves start notes count h.sound h.under_way in
+stops_last laws error together cleanup b c old mid now files tells groups later loose sources first leaves finished same names shown is told some stopped dry settled = λ start notes lists opened switch h.
+    let l = leaves start notes h.sound h.under_way in
     let is_c : later ≡ groups ++ group_of (names_to_remove cleanup c.verdicts loose) = subst (λ (x : RunLog). later ≡ groups ++ group_of (names_to_remove cleanup x.verdicts loose)) told is in
-    stops_within laws error together cleanup start notes count lists files opened mid now c l.picks loose tells later shown
-    (at_last together cleanup start notes count lists files opened old mid b c groups loose sources tells switch h l finished same names shown)
+    stops_within laws error together cleanup start notes lists files opened mid now c l.picks loose tells later shown
+    (at_last together cleanup start notes lists files opened old mid b c groups loose sources tells switch h l finished same names shown)
     (is_c ∙ ap (λ (gs : List (List Change)). gs ++ group_of (names_to_remove cleanup c.verdicts loose)) l.are) some stopped dry settled
 
 -- behind it
@@ -493,10 +493,10 @@ pub ends_all : CommittingLaws → (together cleanup : Bool) (b c : Board) (old m
     → later ≡ groups ++ group_of (names_to_remove cleanup first.verdicts loose) → first ≡ log_of c → log ≡ with_removed first (names_to_remove cleanup first.verdicts loose)
     → (later ≡ [] → now ≡ mid) → (later ≢ [] → HasCommitted (filled_all (part_bytes mid) later) mid now) → CanRecord later → (later ≢ [] → KeepsUnchangedFiles later mid now) → (later ≢ [] → IsNow (ReadsAllGone later) now)
     → CommitsAll together cleanup b old now log
-ends_all laws together cleanup b c old mid now files tells groups later loose sources first log leaves finished same names shown is told told_log none done can keeps gone = λ start notes count lists opened switch h.
-    let l = leaves start notes count h.sound h.under_way in
+ends_all laws together cleanup b c old mid now files tells groups later loose sources first log leaves finished same names shown is told told_log none done can keeps gone = λ start notes lists opened switch h.
+    let l = leaves start notes h.sound h.under_way in
     let is_c : later ≡ groups ++ group_of (names_to_remove cleanup c.verdicts loose) = subst (λ (x : RunLog). later ≡ groups ++ group_of (names_to_remove cleanup x.verdicts loose)) told is in
-    ended laws together cleanup start notes count lists files opened old mid now c l.picks loose tells later log shown
-    (at_last together cleanup start notes count lists files opened old mid b c groups loose sources tells switch h l finished same names shown)
+    ended laws together cleanup start notes lists files opened old mid now c l.picks loose tells later log shown
+    (at_last together cleanup start notes lists files opened old mid b c groups loose sources tells switch h l finished same names shown)
     (is_c ∙ ap (λ (gs : List (List Change)). gs ++ group_of (names_to_remove cleanup c.verdicts loose)) l.are)
     (subst (λ (x : RunLog). log ≡ with_removed x (names_to_remove cleanup x.verdicts loose)) told told_log) none done can keeps gone l.aside

@@ -42,14 +42,14 @@ turn_last (n ∷ ns) m turn below = (each_last (λ k. n < k) ns m turn.0 below.0
 
 -- ---- a source that came to a new set
 
-lasts_now : CommittingLaws → (start : RunStart) (notes : List Note) (count : ℕ) (b : Board) (n : ℕ) (settled : Settled) (now : List State) → IsSettling start notes count b n settled now
+lasts_now : CommittingLaws → (start : RunStart) (notes : List Note) (b : Board) (n : ℕ) (settled : Settled) (now : List State) → IsSettling start notes b n settled now
     → IsNow (λ s. Each (λ (put : ListName × Body). IsSyncedPart s put.0 put.1) settled.puts) now
-lasts_now laws start notes count b n settled [] s = tt
-lasts_now laws start notes count b n settled (state ∷ past) s = last_puts (wanted_part b) start.parts state past settled.puts (puts_rest laws start notes count b n settled (state ∷ past) s) s.under.uses
+lasts_now laws start notes b n settled [] s = tt
+lasts_now laws start notes b n settled (state ∷ past) s = last_puts (wanted_part b) start.parts state past settled.puts (puts_rest laws start notes b n settled (state ∷ past) s) s.under.uses
 
-is_pick : CommittingLaws → (start : RunStart) (notes : List Note) (count : ℕ) (b : Board) (n : ℕ) (settled : Settled) (now : List State) → IsSettling start notes count b n settled now → (c : IsChanging start b n settled) → is_installed settled.verdict ≡ true
+is_pick : CommittingLaws → (start : RunStart) (notes : List Note) (b : Board) (n : ℕ) (settled : Settled) (now : List State) → IsSettling start notes b n settled now → (c : IsChanging start b n settled) → is_installed settled.verdict ≡ true
     → IsNewSource start notes now (record { n = n; source = c.source; settled = settled })
-is_pick laws start notes count b n settled now s c new_one =
+is_pick laws start notes b n settled now s c new_one =
     let held = is_held settled.verdict new_one in
     record {
       source_is = c.source_is;
@@ -58,14 +58,14 @@ is_pick laws start notes count b n settled now s c new_one =
       installs = held.1;
       put = c.gathered.put.0;
       own = c.gathered.own.0;
-      lasts = lasts_now laws start notes count b n settled now s;
-      sums = λ told. have_sums laws start notes count b n settled now told s;
+      lasts = lasts_now laws start notes b n settled now s;
+      sums = λ told. have_sums laws start notes b n settled now told s;
     }
 
 -- ---- one more source
 
 pub gathers_none : (b : Board) → GathersChanges b b []
-gathers_none b start notes count now sound under = record {
+gathers_none b start notes now sound under = record {
   under_way = under;
   picks = [];
   are = refl;
@@ -78,22 +78,22 @@ gathers_none b start notes count now sound under = record {
 gathers_to : CommittingLaws → (b c : Board) (n : ℕ) (groups later : List (List Change)) (settled : Settled) → GathersChanges b c groups → first_ready c.slots ≡ Some n → settled_of c n ≡ Some settled
     → ((source : Source) → slice_get c.config.sources n ≡ Some source → later ≡ groups ++ (if is_installed settled.verdict then changes_for source settled ∷ [] else []))
     → GathersChanges b (settled_as c n settled.verdict) later
-gathers_to laws b c n groups later settled gathers ready comes group start notes count now sound under = one (is_installed settled.verdict) refl
+gathers_to laws b c n groups later settled gathers ready comes group start notes now sound under = one (is_installed settled.verdict) refl
   where
-    g : HasGatheredChanges start notes count now b c groups
-    g = gathers start notes count now sound under
+    g : HasGatheredChanges start notes now b c groups
+    g = gathers start notes now sound under
 
-    s : IsSettling start notes count c n settled now
+    s : IsSettling start notes c n settled now
     s = record { sound = sound; under = g.under_way; ready = ready; comes = comes }
 
     d : IsChanging start c n settled
-    d = changing laws start notes count c n settled now s
+    d = changing laws start notes c n settled now s
 
-    under_then : IsUnderWay start notes count (settled_as c n settled.verdict) now
-    under_then = under_settled laws.settling start notes count c n settled now ready comes g.under_way
+    under_then : IsUnderWay start notes (settled_as c n settled.verdict) now
+    under_then = under_settled laws.settling start notes c n settled now ready comes g.under_way
 
     told : installed_in (settled_as c n settled.verdict) ≡ installed_in c ++ (if is_installed settled.verdict then n ∷ [] else [])
-    told = told_installed laws start notes count c n settled now s d
+    told = told_installed laws start notes c n settled now s d
 
     before : (m : ℕ) → first_ready (settled_as c n settled.verdict).slots ≡ Some m → n < m
     before m next = later_than c.slots n m ready next
@@ -101,7 +101,7 @@ gathers_to laws b c n groups later settled gathers ready comes group start notes
     behind : (m : ℕ) → n < m → Each (λ k. k < m) (numbers_of g.picks)
     behind m less = each_more (λ k. k < n) (λ k. k < m) (numbers_of g.picks) (λ k low. omega (arith, low, less)) (g.next n ready)
 
-    one : (t : Bool) → is_installed settled.verdict ≡ t → HasGatheredChanges start notes count now b (settled_as c n settled.verdict) later
+    one : (t : Bool) → is_installed settled.verdict ≡ t → HasGatheredChanges start notes now b (settled_as c n settled.verdict) later
     one false e = record {
       under_way = under_then;
       picks = g.picks;
@@ -118,7 +118,7 @@ gathers_to laws b c n groups later settled gathers ready comes group start notes
           picks = g.picks ++ p ∷ [];
           are = group d.source d.here_is ∙ ap (λ (t : Bool). groups ++ (if t then changes_for d.source settled ∷ [] else [])) e
               ∙ ap (λ (gs : List (List Change)). gs ++ changes_for d.source settled ∷ []) g.are ∙ sym (groups_last g.picks p);
-          each = each_last (IsNewSource start notes now) g.picks p g.each (is_pick laws start notes count c n settled now s d e);
+          each = each_last (IsNewSource start notes now) g.picks p g.each (is_pick laws start notes c n settled now s d e);
           order = told ∙ ap (λ (t : Bool). installed_in c ++ (if t then n ∷ [] else [])) e ∙ ap (λ (ns : List ℕ). ns ++ n ∷ []) g.order
               ∙ append_assoc (installed_in b) (numbers_of g.picks) (n ∷ []) ∙ ap (λ (ns : List ℕ). installed_in b ++ ns) (sym (numbers_last g.picks p));
           in_turn = subst AreRising (sym (numbers_last g.picks p)) (turn_last (numbers_of g.picks) n g.in_turn (g.next n ready));

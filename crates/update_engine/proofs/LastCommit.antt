@@ -53,8 +53,8 @@ all_committed together start notes opened now b none sets = record {
 }
 
 pub last_gathered : (together : Bool) (b c : Board) (old now : List State) (groups : List (List Change)) → together ≡ true → now ≡ old → GathersChanges b c groups → LeavesUncommitted together b c old now groups
-last_gathered together b c old now groups is_so same gathers start notes count sound under =
-    let g : HasGatheredChanges start notes count now b c groups = gathers start notes count now sound (subst (λ (t : List State). IsUnderWay start notes count b t) (sym same) under) in
+last_gathered together b c old now groups is_so same gathers start notes sound under =
+    let g : HasGatheredChanges start notes now b c groups = gathers start notes now sound (subst (λ (t : List State). IsUnderWay start notes b t) (sym same) under) in
     record {
       under_way = g.under_way;
       picks = g.picks;
@@ -80,20 +80,20 @@ last_gathered together b c old now groups is_so same gathers start notes count s
     }
 
 pub last_none : (together : Bool) (b c : Board) (old now : List State) (groups : List (List Change)) → together ≡ false → groups ≡ [] → KeepsRunGoing b c old now → LeavesUncommitted together b c old now groups
-last_none together b c old now groups isnt empty goes start notes count sound under = record {
-  aside = goes.aside start notes count sound under;
-  under_way = goes.under_way start notes count sound under;
+last_none together b c old now groups isnt empty goes start notes sound under = record {
+  aside = goes.aside start notes sound under;
+  under_way = goes.under_way start notes sound under;
   picks = [];
   are = empty;
   each = tt;
   in_turn = tt;
-  sets = λ opened none sets. all_committed together start notes opened now c (λ so. let wrong : true ≡ false = sym so ∙ isnt in absurd (cc)) (goes.sets start notes count opened sound under sets);
+  sets = λ opened none sets. all_committed together start notes opened now c (λ so. let wrong : true ≡ false = sym so ∙ isnt in absurd (cc)) (goes.sets start notes opened sound under sets);
 }
 
 pub last_stands : (together : Bool) (b c : Board) (old now : List State) (groups : List (List Change)) → MayCommit b old → LeavesUncommitted together b c old now groups → IsNow IsIdle now → MayCommit c now
 last_stands together b c old now groups stands leaves idle =
-    let l = leaves stands.start stands.notes stands.count stands.sound stands.under_way in
-    record { start = stands.start; notes = stands.notes; count = stands.count; sound = stands.sound; under_way = l.under_way; idle = idle }
+    let l = leaves stands.start stands.notes stands.sound stands.under_way in
+    record { start = stands.start; notes = stands.notes; sound = stands.sound; under_way = l.under_way; idle = idle }
 
 -- ---- it makes one commit with the clean-up
 
@@ -115,25 +115,25 @@ may_go sources cleanup verdicts loose sorted are named few = one (cleans cleanup
 pub can_last : CommittingLaws → (together : Bool) (b c : Board) (old now : List State) (groups later : List (List Change)) (cleanup : Bool) (verdicts : List Verdict2) (loose : List (List ℕ)) → MayCommit b old → LeavesUncommitted together b c old now groups
     → AreSorted loose → All (IsLoose c.config.sources) loose → All IsName loose → length loose < 2 ^ 31 → later ≡ groups ++ group_of (names_to_remove cleanup verdicts loose) → CanRecord later
 can_last laws together b c old now groups later cleanup verdicts loose stands leaves sorted are named few is =
-    let l = leaves stands.start stands.notes stands.count stands.sound stands.under_way in
+    let l = leaves stands.start stands.notes stands.sound stands.under_way in
     let names = names_to_remove cleanup verdicts loose in
     let all : groups_of (gathered_for l.picks) names ≡ later = groups_same l.picks names ∙ ap (λ (gs : List (List Change)). gs ++ group_of names) (sym l.are) ∙ sym is in
     let here = subst (λ (x : Setup). All (IsLoose x.sources) loose) l.under_way.heard.config are in
     subst CanRecord all (laws.can stands.start.config.sources (gathered_for l.picks) names (are_gathered stands.start stands.notes now l.picks stands.sound l.each l.in_turn)
     (may_go stands.start.config.sources cleanup verdicts loose sorted here named few))
 
-staged_by : CommittingLaws → (together : Bool) (start : RunStart) (notes : List Note) (count : ℕ) (b : Board) (old now : List State) (c : Board) (groups : List (List Change)) (names : Option (List (List ℕ))) → (l : HasUncommitted together start notes count b old now c groups)
+staged_by : CommittingLaws → (together : Bool) (start : RunStart) (notes : List Note) (b : Board) (old now : List State) (c : Board) (groups : List (List Change)) (names : Option (List (List ℕ))) → (l : HasUncommitted together start notes b old now c groups)
     → IsNow (AreAllStaged (groups_of (gathered_for l.picks) names)) now
-staged_by laws together start notes count b old [] c groups names l = tt
-staged_by laws together start notes count b old (s ∷ past) c groups names l = laws.staged (gathered_for l.picks) names s (all_last start notes s past l.picks l.each)
+staged_by laws together start notes b old [] c groups names l = tt
+staged_by laws together start notes b old (s ∷ past) c groups names l = laws.staged (gathered_for l.picks) names s (all_last start notes s past l.picks l.each)
 
 pub staged_last : CommittingLaws → (together : Bool) (b c : Board) (old now : List State) (groups later : List (List Change)) (cleanup : Bool) (verdicts : List Verdict2) (loose : List (List ℕ)) → MayCommit b old → LeavesUncommitted together b c old now groups
     → later ≡ groups ++ group_of (names_to_remove cleanup verdicts loose) → IsNow (AreAllStaged later) now
 staged_last laws together b c old now groups later cleanup verdicts loose stands leaves is =
-    let l = leaves stands.start stands.notes stands.count stands.sound stands.under_way in
+    let l = leaves stands.start stands.notes stands.sound stands.under_way in
     let names = names_to_remove cleanup verdicts loose in
     let all : groups_of (gathered_for l.picks) names ≡ later = groups_same l.picks names ∙ ap (λ (gs : List (List Change)). gs ++ group_of names) (sym l.are) ∙ sym is in
-    subst (λ (gs : List (List Change)). IsNow (AreAllStaged gs) now) all (staged_by laws together stands.start stands.notes stands.count b old now c groups names l)
+    subst (λ (gs : List (List Change)). IsNow (AreAllStaged gs) now) all (staged_by laws together stands.start stands.notes b old now c groups names l)
 
 -- ---- what is told
 
@@ -142,20 +142,16 @@ none_removed cleanup verdicts loose e = ap (λ (t : Bool). removed_names (names_
 
 pub ends_last : (together : Bool) (b c : Board) (old now : List State) (groups : List (List Change)) (cleanup : Bool) (loose : List (List ℕ)) (log : RunLog) → LeavesUncommitted together b c old now groups → is_finished c ≡ true
     → log ≡ with_removed (log_of c) (names_to_remove cleanup (log_of c).verdicts loose) → EndsWithLog cleanup b old log
-ends_last together b c old now groups cleanup loose log leaves finished is = subst (EndsWithLog cleanup b old) (sym is) (λ start notes count sound switch under.
-    let l = leaves start notes count sound under in
+ends_last together b c old now groups cleanup loose log leaves finished is = subst (EndsWithLog cleanup b old) (sym is) (λ start notes sound switch under.
+    let l = leaves start notes sound under in
     record {
-      tells = record {
-        board = c;
-        reached = l.under_way.heard.reached;
-        finished = finished;
-        verdicts = refl;
-        order = refl;
-        asks = refl;
-        kept = λ none. none_removed cleanup c.verdicts loose (subst (λ (t : Bool). cleans t c.verdicts ≡ false) switch none);
-      };
-      counts = l.under_way.heard.counts;
-      lanes = l.under_way.heard.lanes;
+      board = c;
+      reached = l.under_way.heard.reached;
+      finished = finished;
+      verdicts = refl;
+      order = refl;
+      asks = refl;
+      kept = λ none. none_removed cleanup c.verdicts loose (subst (λ (t : Bool). cleans t c.verdicts ≡ false) switch none);
     })
 
 pub ends_told : (together : Bool) (b c : Board) (old now : List State) (groups : List (List Change)) (cleanup : Bool) (loose : List (List ℕ)) (first log : RunLog) → LeavesUncommitted together b c old now groups → is_finished c ≡ true → first ≡ log_of c

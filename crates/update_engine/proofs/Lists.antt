@@ -6,9 +6,11 @@ use Rattle.acq_outside.specs.Crash.{State}
 use Rattle.acq_outside.specs.States.{IsTold, Since}
 use Rattle.acq_base.specs.Mirror.{MirrorMap}
 use Rattle.board_model.specs.Agreeing.{Agrees}
+use Rattle.run_jobs.specs.Mirrors.{ForMirror}
 use Rattle.run_jobs.proofs.Agreed.{agrees_told}
 use Rattle.run_jobs.specs.Running.{AgreesWhereKnown}
-use Rattle.update_engine.specs.Run.{Engine, ForMirror, LogIsTrue, NoneFell, Run}
+use Rattle.acq_outside.specs.Count.{NoneFell}
+use Rattle.update_engine.specs.Run.{Engine, LogIsTrue, Run}
 use Rattle.update_model.specs.declared.log.RunLog.{RunLog}
 
 -- ---- filters

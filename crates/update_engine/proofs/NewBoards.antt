@@ -1,5 +1,5 @@
 -- A run begins.
-use Rattle.std.proofs.Common.{◌≡◌, ◌∙◌, ◌≤◌, ◌-◌, ◌^◌, ⊎_elim, refl, sym, ap, subst, arith, ℕ, ℤ, zero, suc, Bool, true, false, List, [], ◌∷◌, ◌++◌, All, Contains, IsTrue, length, map, take, replicate, Option, Some, None, IfSome, bytes_eq}
+use Rattle.std.proofs.Common.{◌≡◌, ◌∙◌, ◌≤◌, ◌-◌, ◌^◌, ⊎_elim, refl, sym, ap, subst, arith, ℕ, ℤ, zero, suc, Bool, true, false, List, [], ◌∷◌, ◌++◌, All, Contains, IsTrue, length, map, take, replicate, Option, Some, bytes_eq}
 use Rattle.std.specs.Prelude.{if◌then◌else◌, nat_lt, unwrap_or}
 use Rattle.std.specs.List.{flat_map, AllByRecursion as Each}
 use Rattle.std.proofs.lemmas.List.{length-replicate, length-take-le}
@@ -34,6 +34,7 @@ use Rattle.board_model.proofs.Making.{none-in}
 use Rattle.list_commits.proofs.Apart.{here, there}
 use Rattle.run_model.proofs.Loose.{among}
 use Rattle.run_jobs.proofs.Keeping.{falls_holds}
+use Rattle.run_jobs.proofs.Rising.{for_any, none_told}
 use Rattle.update_engine.proofs.Known.{BeginningLaws}
 use Rattle.update_engine.specs.Reading.{size_of, sizes_in, sizes_of}
 use Rattle.update_engine.specs.Run.{IsReadFromDisk, run_of, resumable_part, target_names}
@@ -178,13 +179,9 @@ olds_are_read laws tells files (s ∷ past) olds sources sources' planned shown 
 
 -- ---- it begins
 
-none_heard : (now : List State) (mirror : Option MirrorMap) (parts : PartFiles) (sources : List Source) → IfSome mirror (λ mirror. AgreesWhereKnown now mirror parts sources [])
-none_heard now None parts sources = tt
-none_heard now (Some mirror) parts sources = tt
-
 pub starts : BeginningLaws → (plan : Plan) (settings : Settings) (change : Change) (moment : ℤ) (together : Bool) (olds : List Old) (sizes : List (ListName × ℕ)) (now : List State) (b : Board) → IsSound plan → All IsPlanned plan.sources
     → length olds ≡ length plan.sources → ((lists : Files) → ToldAs (IsAtRest lists) now → olds ≡ map (installed_of lists) plan.sources) → (IsTold now → sizes ≡ sizes_of now plan.sources) → b ≡ first_board (config_for plan sizes settings change moment) olds 1 → StartsRun (run_of plan settings change moment together) now b
-starts laws plan settings change moment together olds sizes now b sound planned each wanted_part read is = subst (StartsRun (run_of plan settings change moment together) now) (sym is) (λ mirror count. started mirror count)
+starts laws plan settings change moment together olds sizes now b sound planned each wanted_part read is = subst (StartsRun (run_of plan settings change moment together) now) (sym is) (λ mirrors counts. started mirrors counts)
   where
     config : Setup
     config = config_for plan sizes settings change moment
@@ -213,24 +210,25 @@ starts laws plan settings change moment together olds sizes now b sound planned 
           (subst (λ (rows : List (ListName × ℕ)). size_under rows name ≡ part_size now name) (sym (read told)) (sizes_are_read now plan.sources name is));
     }
 
-    started : (mirror : Option MirrorMap) (count : ℕ) → IsNewRun (run_of plan settings change moment together) mirror count now (first_board config olds 1)
-    started mirror count = record {
-      start = record { config = config; olds = olds; parts = parts_at now config.sizes; mirror = mirror; count = count };
+    started : (mirrors : List (Option MirrorMap)) (counts : List ℕ) → IsNewRun (run_of plan settings change moment together) mirrors counts now (first_board config olds 1)
+    started mirrors counts = record {
+      start = record { config = config; olds = olds; parts = parts_at now config.sizes; mirrors = mirrors; counts = counts };
       from = refl;
       at = refl;
       sound = record { planned = planned; apart = sound.distinct; few = sound.few; sizes = long };
       of_run = record { sources = refl; settings = refl; change = refl; moment = refl; sizes = long };
-      under_way = record {
-        heard = record {
-          config = refl;
-          reached = laws.reached config olds 1 each (omega arith);
-          sound = tt;
-          answers = none_heard now mirror (parts_at now config.sizes) plan.sources;
-          counts = omega arith;
-          lanes = tt;
+      running = record {
+        under_way = record {
+          heard = record {
+            config = refl;
+            reached = laws.reached config olds 1 each (omega arith);
+            sound = tt;
+            answers = for_any mirrors (λ mirror. AgreesWhereKnown now mirror (parts_at now config.sizes) plan.sources []) (λ mirror. tt);
+          };
+          uses = uses_at_first laws config olds now within;
         };
+        counted = record { sized = refl; faults = none_told counts };
         none_out = refl;
-        uses = uses_at_first laws config olds now within;
       };
       none = refl;
       read = begins;

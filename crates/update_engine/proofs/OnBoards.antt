@@ -92,22 +92,19 @@ owns below config notes b n source slot settled at comes planned = record {
 pub uses_settled : SettlingLaws → (b : Board) (n : ℕ) (verdict : Verdict2) (first : List ℕ → List ℕ) (now : List State) → HasWantedParts (wanted_part b) first now → HasWantedParts (wanted_part (settled_as b n verdict)) first now
 uses_settled below b n verdict first now uses = record { each = λ name told. falls_holds (wanted_part b name) (wanted_part (settled_as b n verdict) name) name (first name) now (below.rest b n verdict name) (uses.each name told) }
 
-pub heard_settled : SettlingLaws → (start : RunStart) (notes : List Note) (count : ℕ) (b : Board) (n : ℕ) (settled : Settled) (now : List State) → first_ready b.slots ≡ Some n → settled_of b n ≡ Some settled
-    → RunHasHeard start notes count b now → RunHasHeard start notes count (settled_as b n settled.verdict) now
-heard_settled below start notes count b n settled now ready comes heard = record {
+pub heard_settled : SettlingLaws → (start : RunStart) (notes : List Note) (b : Board) (n : ℕ) (settled : Settled) (now : List State) → first_ready b.slots ≡ Some n → settled_of b n ≡ Some settled
+    → RunHasHeard start notes b now → RunHasHeard start notes (settled_as b n settled.verdict) now
+heard_settled below start notes b n settled now ready comes heard = record {
   config = heard.config;
   reached = below.reached start.config start.olds notes b n settled heard.reached ready comes;
   sound = heard.sound;
   answers = heard.answers;
-  counts = heard.counts;
-  lanes = heard.lanes;
 }
 
-pub under_settled : SettlingLaws → (start : RunStart) (notes : List Note) (count : ℕ) (b : Board) (n : ℕ) (settled : Settled) (now : List State) → first_ready b.slots ≡ Some n → settled_of b n ≡ Some settled
-    → IsUnderWay start notes count b now → IsUnderWay start notes count (settled_as b n settled.verdict) now
-under_settled below start notes count b n settled now ready comes under = record {
-  heard = heard_settled below start notes count b n settled now ready comes under.heard;
-  none_out = under.none_out;
+pub under_settled : SettlingLaws → (start : RunStart) (notes : List Note) (b : Board) (n : ℕ) (settled : Settled) (now : List State) → first_ready b.slots ≡ Some n → settled_of b n ≡ Some settled
+    → IsUnderWay start notes b now → IsUnderWay start notes (settled_as b n settled.verdict) now
+under_settled below start notes b n settled now ready comes under = record {
+  heard = heard_settled below start notes b n settled now ready comes under.heard;
   uses = uses_settled below b n settled.verdict start.parts now under.uses;
 }
 
@@ -204,10 +201,10 @@ quiet_settled : (b : Board) (n : ℕ) (verdict : Verdict2) → NoneAsks b → No
 quiet_settled b n verdict none number = asker_then b n verdict number (key_at b.config.sources number) (none number)
 
 pub only_settled : (b c : Board) (n : ℕ) → HasSettled n b c → OnlySettles b c
-only_settled b c n settled = subst (λ (x : Board). OnlySettles b x) (sym settled.is) (record { config = refl; asks = refl; quiet = quiet_settled b n settled.verdict })
+only_settled b c n settled = subst (λ (x : Board). OnlySettles b x) (sym settled.is) (record { config = refl; asks = refl; out = refl; quiet = quiet_settled b n settled.verdict })
 
 pub only_none : (b : Board) → OnlySettles b b
-only_none b = record { config = refl; asks = refl; quiet = λ none. none }
+only_none b = record { config = refl; asks = refl; out = refl; quiet = λ none. none }
 
 pub only_more : (b c d : Board) → OnlySettles b c → OnlySettles c d → OnlySettles b d
-only_more b c d one two = record { config = two.config ∙ one.config; asks = two.asks ∙ one.asks; quiet = λ none. two.quiet (one.quiet none) }
+only_more b c d one two = record { config = two.config ∙ one.config; asks = two.asks ∙ one.asks; out = two.out ∙ one.out; quiet = λ none. two.quiet (one.quiet none) }

@@ -1,11 +1,10 @@
 -- A run over a method, from its beginning to its end.
-use Rattle.std.proofs.Common.{◌≡◌, ◌∙◌, ◌≤◌, ◌<◌, ℕ, zero, suc, Bool, true, false, IsTrue, List, [], ◌∷◌, ◌++◌, length, get_or, take, drop, slice_set, Option, Some, None, IfSome, Result, Ok, Err, inl, inr, refl, sym, ap, subst, arith, ⊎_elim}
+use Rattle.std.proofs.Common.{◌≡◌, ◌∙◌, ◌≤◌, ◌<◌, ℕ, zero, suc, Bool, true, false, IsTrue, List, [], ◌∷◌, ◌++◌, length, get_or, take, drop, slice_set, Option, Some, None, Result, Ok, Err, inl, inr, refl, sym, ap, subst, arith, ⊎_elim}
 use Rattle.std.proofs.lemmas.Bool.Decides.{nat_tests}
 use Rattle.std.proofs.lemmas.List.{append-nil, drop_all, take_all}
 use Rattle.std.specs.Prelude.{IsErrAnd, filter, if◌then◌else◌, slice_get, ◌==◌}
 use Rattle.std.specs.List.{AllByRecursion as Each}
 use Rattle.acq_base.specs.Mirror.{MirrorMap}
-use Rattle.acq_base.specs.declared.plan.Source.{Source}
 use Rattle.acq_base.specs.declared.settings.Settings.{Settings}
 use Rattle.acq_outside.specs.Crash.{IsShown, State, reads}
 use Rattle.acq_outside.specs.Disk.{Files}
@@ -22,42 +21,43 @@ use Rattle.journal_model.specs.Names.{journal}
 use Rattle.journal_model.specs.Reopen.{installed_now}
 use Rattle.journal_model.specs.Rest.{IsAtRest, IsIdle, IsSynced, KeptAtRestSince}
 use Rattle.list_commits.specs.Made.{CommitsMade, after_all, none, rests}
-use Rattle.run_jobs.specs.Counting.{CountsUp}
+use Rattle.run_jobs.specs.Mirrors.{ForMirror}
+use Rattle.run_jobs.specs.Counting.{CountsUp, FaultsRise, asks_of_lane}
 use Rattle.run_jobs.specs.declared.error.RunError.{RunError}
 use Rattle.run_jobs.specs.declared.error.RunError.TheVariants.{BadJournal, NoMemory}
 use Rattle.run_jobs.proofs.Agreed.{heard_on, run_agrees}
-use Rattle.run_jobs.specs.Running.{AgreesWhereKnown, RunStart, MayAsk, IsSoundBegun, IsUnderWay}
+use Rattle.run_jobs.proofs.Rising.{for_any}
+use Rattle.run_jobs.specs.Running.{AgreesWhereKnown, RunStart, MayAsk, IsRunning, IsSoundBegun}
 use Rattle.run_model.specs.Begun.{RunInput}
 use Rattle.run_model.specs.Groups.{Group, all_groups, commits_of}
 use Rattle.run_model.specs.Runs.{AreAllGroups, MayBeCommitted, is_told_installed}
-use Rattle.update_model.specs.Outcomes.{PartFiles}
 use Rattle.update_model.specs.declared.log.Asked.{Asked}
 use Rattle.update_model.specs.declared.log.RunLog.{RunLog}
 use Rattle.run_model.proofs.Counting.{verdicts_count}
 use Rattle.update_engine.proofs.Known.{CommittingLaws}
-use Rattle.update_engine.specs.Run.{Engine, FaultsRise, RunFindsDamage, ForMirror, HasFinished, HasOpenedJournal, IsReadFromDisk, KeepsMethods, LogIsTrue, Run, Runs, SurvivesCrash, StopsAmongCommits, StopsForMemory, asks_of_lane, engine}
-use Rattle.update_engine.specs.Session.{EndsWithLog, CommitsAll, RunGoesOn, RunGoesOnWith, RunsOverLists, HasCommittedSets, HasCommittedAll, IsNewRun, HasProgress, IsLogOfRun, MayCommit, StartsRun, StopsWhileAsking, StopsWhileEnding, begun_of}
+use Rattle.update_engine.specs.Run.{Engine, RunFindsDamage, HasFinished, HasOpenedJournal, IsLogOfBoard, IsReadFromDisk, KeepsMethods, LogIsTrue, Run, Runs, SurvivesCrash, StopsAmongCommits, StopsForMemory, engine}
+use Rattle.update_engine.specs.Session.{EndsWithLog, CommitsAll, RunGoesOn, RunGoesOnWith, RunsOverLists, HasCommittedSets, HasCommittedAll, IsNewRun, HasProgress, MayCommit, StartsRun, StopsWhileAsking, StopsWhileEnding, begun_of}
 use Rattle.update_engine.proofs.Committing.{settled_made}
 use Rattle.update_engine.proofs.Beside.{aside_none}
 use Rattle.update_engine.proofs.Lists.{each_more, none_fall, told_on}
 
 -- ---- what is known at its jobs
 
-pub starts_ready : (run : Run) (mirror : Option MirrorMap) (count : ℕ) (now later : List State) (b : Board) → StartsRun run now b → later ≡ now → IsNow IsIdle now → MayAsk mirror count b later
-starts_ready run mirror count now later b starts same idle =
-    let h : IsNewRun run mirror count now b = starts mirror count in
-    subst (MayAsk mirror count b) (sym same)
-    (record { begun = h.start; notes = []; sound = h.sound; from = h.from; under_way = h.under_way; idle = idle })
+pub starts_ready : (run : Run) (mirrors : List (Option MirrorMap)) (counts : List ℕ) (now later : List State) (b : Board) → StartsRun run now b → later ≡ now → IsNow IsIdle now → MayAsk mirrors counts b later
+starts_ready run mirrors counts now later b starts same idle =
+    let h : IsNewRun run mirrors counts now b = starts mirrors counts in
+    subst (MayAsk mirrors counts b) (sym same)
+    (record { begun = h.start; notes = []; sound = h.sound; from = h.from; running = h.running; idle = idle })
 
-pub starts_change : (run : Run) (mirror : Option MirrorMap) (count : ℕ) (now : List State) (b : Board) → StartsRun run now b → run.change ≡ b.config.change
-starts_change run mirror count now b starts =
-    let h : IsNewRun run mirror count now b = starts mirror count in
-    sym (ap (λ (c : Setup). c.change) h.under_way.heard.config ∙ h.of_run.change)
+pub starts_change : (run : Run) (mirrors : List (Option MirrorMap)) (counts : List ℕ) (now : List State) (b : Board) → StartsRun run now b → run.change ≡ b.config.change
+starts_change run mirrors counts now b starts =
+    let h : IsNewRun run mirrors counts now b = starts mirrors counts in
+    sym (ap (λ (c : Setup). c.change) h.running.under_way.heard.config ∙ h.of_run.change)
 
-pub far_stands : (mirror : Option MirrorMap) (count later : ℕ) (b c : Board) (old now : List State) → MayAsk mirror count b old → RunGoesOn mirror count later b c old now → IsNow IsIdle now → MayCommit c now
-far_stands mirror count later b c old now ready far idle =
-    let w = far ready.begun ready.notes ready.sound ready.from ready.under_way in
-    record { start = ready.begun; notes = _; count = later; sound = ready.sound; under_way = w.under_way; idle = idle }
+pub far_stands : (mirrors : List (Option MirrorMap)) (counts later : List ℕ) (b c : Board) (old now : List State) → MayAsk mirrors counts b old → RunGoesOn mirrors counts later b c old now → IsNow IsIdle now → MayCommit c now
+far_stands mirrors counts later b c old now ready far idle =
+    let w = far ready.begun ready.notes ready.sound ready.from ready.running in
+    record { start = ready.begun; notes = _; sound = ready.sound; under_way = w.running.under_way; idle = idle }
 
 -- ---- what a disk tells
 
@@ -79,10 +79,10 @@ still_told tells later files after [] now shown is same told = absurd told
 still_told tells later files after (s ∷ past) [] shown is same told = absurd (let wrong : true ≡ false = sym shown.0 ∙ (sym same ∙ is) in cc)
 still_told tells later files after (s ∷ past) (t ∷ more) shown is same told = tt
 
--- P of the mirror that the first method tells
-for_first : (told : Option MirrorMap) (others : List (Option MirrorMap)) (P : MirrorMap → Type 0) → IfSome told P → ForMirror (told ∷ others) P
+-- P of the mirror that the first method tells, and of whatever others tell it too
+for_first : (told : Option MirrorMap) (others : List (Option MirrorMap)) (P : MirrorMap → Type 0) → ForMirror (told ∷ []) P → ForMirror (told ∷ others) P
 for_first None others P is = tt
-for_first (Some mirror) others P is = λ same. is
+for_first (Some mirror) others P is = λ same. is tt
 
 -- ---- the journal is open
 
@@ -144,10 +144,10 @@ stays_unopened error run before after opened recovers is_settled same =
 
 -- ---- where it stops
 
-is_read : (run : Run) (mirror : Option MirrorMap) (count : ℕ) (entry opened : List State) (b : Board) → IsOpen entry opened → (h : IsNewRun run mirror count opened b) → IsReadFromDisk entry opened (begun_of h.start)
+is_read : (run : Run) (mirror : Option MirrorMap) (count : ℕ) (entry opened : List State) (b : Board) → IsOpen entry opened → (h : IsNewRun run (mirror ∷ []) (count ∷ []) opened b) → IsReadFromDisk entry opened (begun_of h.start)
 is_read run mirror count entry opened b ready_at h = h.read entry (told_as (IsAtRest (installed_now entry)) opened ready_at.opens.rests ready_at.told)
 
-stops_at : (error : RunError) (run : Run) (mirror : Option MirrorMap) (others : List (Option MirrorMap)) (count : ℕ) (entry opened now : List State) (b : Board) → IsOpen entry opened → (h : IsNewRun run mirror count opened b) → IsTold now
+stops_at : (error : RunError) (run : Run) (mirror : Option MirrorMap) (others : List (Option MirrorMap)) (count : ℕ) (entry opened now : List State) (b : Board) → IsOpen entry opened → (h : IsNewRun run (mirror ∷ []) (count ∷ []) opened b) → IsTold now
     → HasProgress error h.start run.together (installed_now entry) opened now → StopsAmongCommits run (mirror ∷ others) entry now
 stops_at error run mirror others count entry opened now b ready_at h told m = record {
   opened = opened;
@@ -161,11 +161,11 @@ stops_at error run mirror others count entry opened now b ready_at h told m = re
   progress = m.progress;
   has = m.has;
   answers = for_first mirror others (λ (w : MirrorMap). Agrees w h.start.parts h.start.config.sources m.has.heard)
-      (subst (λ (o : Option MirrorMap). IfSome o (λ (w : MirrorMap). Agrees w h.start.parts h.start.config.sources m.has.heard)) h.from (m.agrees told));
+      (subst (λ (told : List (Option MirrorMap)). ForMirror told (λ (w : MirrorMap). Agrees w h.start.parts h.start.config.sources m.has.heard)) h.from (m.agrees told));
 }
 
 stays_at : (error : RunError) (run : Run) (mirror mirror' : Option MirrorMap) (others others' : List (Option MirrorMap)) (counts counts' : List ℕ) (count : ℕ) (entry opened now : List State) (b : Board) → (ToldAs IsSynced entry → IsOpen entry opened)
-    → (h : IsNewRun run mirror count opened b) → (IsTold entry → IsTold now) → (IsOpen entry opened → HasProgress error h.start run.together (installed_now entry) opened now)
+    → (h : IsNewRun run (mirror ∷ []) (count ∷ []) opened b) → (IsTold entry → IsTold now) → (IsOpen entry opened → HasProgress error h.start run.together (installed_now entry) opened now)
     → StopsSafely error run (record { trace = entry; mirrors = mirror ∷ others; faults = counts }) (record { trace = now; mirrors = mirror' ∷ others'; faults = counts' })
 unfolding stops_at
 stays_at error run mirror mirror' others others' counts counts' count entry opened now b ready_at h told at = record {
@@ -178,10 +178,6 @@ stays_at error run mirror mirror' others others' counts counts' count entry open
   where
     among : ToldAs IsSynced entry → StopsAmongCommits run (mirror ∷ others) entry now
     among settled = stops_at error run mirror others count entry opened now b (ready_at settled) h (told (was_told IsSynced entry settled)) (at (ready_at settled))
-
-none_heard : (mirror : Option MirrorMap) (parts : PartFiles) (sources : List Source) → IfSome mirror (λ (w : MirrorMap). Agrees w parts sources [])
-none_heard None parts sources = tt
-none_heard (Some mirror) parts sources = tt
 
 -- no set is committed so far
 sets_none : (start : RunStart) (opened : List State) (b : Board) → IsTold opened → b.settled ≡ [] → HasCommittedSets (begun_of start) [] opened opened b
@@ -198,10 +194,10 @@ sets_none start opened b told unsettled = record {
 }
 
 -- within its jobs: one by one among its commits, and together before any
-at_asking : CommittingLaws → (error : RunError) (together : Bool) (mirror : Option MirrorMap) (count : ℕ) (start : RunStart) (lists : Files) (opened now : List State) (b : Board) → IsSoundBegun start → start.mirror ≡ mirror → IsUnderWay start [] count b opened
-    → IsTold opened → IsNow IsIdle opened → b.settled ≡ [] → StopsWhileAsking error mirror count b opened now → (together ≡ true → Since opened now (KeptAtRestSince opened)) → HasProgress error start together lists opened now
-at_asking laws error false mirror count start lists opened now b sound from under told idle unsettled stops bare = stops start [] lists opened sound from under (sets_none start opened b told unsettled)
-at_asking laws error true mirror count start lists opened now b sound from under told idle unsettled stops bare =
+at_asking : CommittingLaws → (error : RunError) (together : Bool) (mirror : Option MirrorMap) (count : ℕ) (start : RunStart) (lists : Files) (opened now : List State) (b : Board) → IsSoundBegun start → start.mirrors ≡ mirror ∷ [] → IsRunning start [] (count ∷ []) b opened
+    → IsTold opened → IsNow IsIdle opened → b.settled ≡ [] → StopsWhileAsking error (mirror ∷ []) (count ∷ []) b opened now → (together ≡ true → Since opened now (KeptAtRestSince opened)) → HasProgress error start together lists opened now
+at_asking laws error false mirror count start lists opened now b sound from running told idle unsettled stops bare = stops start [] lists opened sound from running (sets_none start opened b told unsettled)
+at_asking laws error true mirror count start lists opened now b sound from running told idle unsettled stops bare =
     let made : CommitsMade [] opened now = rests none idle (bare refl) in
     record {
       commits = [];
@@ -209,52 +205,52 @@ at_asking laws error true mirror count start lists opened now b sound from under
       started = 0;
       progress = laws.made [] opened now made;
       whole = λ dry. refl;
-      has = record { heard = []; board = b; reached = under.heard.reached; groups = tt; may = inl refl; in_turn = tt; shape = (omega arith, tt) };
-      agrees = λ told_now. none_heard start.mirror start.parts start.config.sources;
+      has = record { heard = []; board = b; reached = running.under_way.heard.reached; groups = tt; may = inl refl; in_turn = tt; shape = (omega arith, tt) };
+      agrees = λ told_now. for_any start.mirrors (λ (w : MirrorMap). Agrees w start.parts start.config.sources []) (λ w. tt);
       synced = λ rest. settled_made laws [] lists opened now made rest;
     }
 
 pub safe_asking : CommittingLaws → (error : RunError) (run : Run) (mirror mirror' : Option MirrorMap) (others others' : List (Option MirrorMap)) (counts counts' : List ℕ) (count : ℕ) (entry opened now : List State) (b : Board) → (ToldAs IsSynced entry → IsOpen entry opened)
-    → StartsRun run opened b → (IsTold entry → IsTold now) → StopsWhileAsking error mirror count b opened now → (run.together ≡ true → Since opened now (KeptAtRestSince opened))
+    → StartsRun run opened b → (IsTold entry → IsTold now) → StopsWhileAsking error (mirror ∷ []) (count ∷ []) b opened now → (run.together ≡ true → Since opened now (KeptAtRestSince opened))
     → StopsSafely error run (record { trace = entry; mirrors = mirror ∷ others; faults = counts }) (record { trace = now; mirrors = mirror' ∷ others'; faults = counts' })
 safe_asking laws error run mirror mirror' others others' counts counts' count entry opened now b ready_at starts told stops bare =
-    let h : IsNewRun run mirror count opened b = starts mirror count in
+    let h : IsNewRun run (mirror ∷ []) (count ∷ []) opened b = starts (mirror ∷ []) (count ∷ []) in
     stays_at error run mirror mirror' others others' counts counts' count entry opened now b ready_at h told
-    (λ is. at_asking laws error run.together mirror count h.start (installed_now entry) opened now b h.sound h.from h.under_way is.told is.idle h.none stops bare)
+    (λ is. at_asking laws error run.together mirror count h.start (installed_now entry) opened now b h.sound h.from h.running is.told is.idle h.none stops bare)
 
 -- ---- at its end
 
 -- so far it has heard more, and committed its sets
-begun_over : (run : Run) (mirror : Option MirrorMap) (count later : ℕ) (entry opened mid : List State) (b c : Board) → IsOpen entry opened → (h : IsNewRun run mirror count opened b) → (w : RunGoesOnWith h.start [] later b c opened mid)
-    → (run.together ≡ true → c.settled ≡ b.settled) → RunsOverLists run.together h.start ([] ++ w.more) later (installed_now entry) opened mid c
+begun_over : (run : Run) (mirror : Option MirrorMap) (count later : ℕ) (entry opened mid : List State) (b c : Board) → IsOpen entry opened → (h : IsNewRun run (mirror ∷ []) (count ∷ []) opened b) → (w : RunGoesOnWith h.start [] (later ∷ []) b c opened mid)
+    → (run.together ≡ true → c.settled ≡ b.settled) → RunsOverLists run.together h.start ([] ++ w.more) (installed_now entry) opened mid c
 begun_over run mirror count later entry opened mid b c ready_at h w unsettled = record {
   sound = h.sound;
-  under_way = w.under_way;
+  under_way = w.running.under_way;
   first = λ together. unsettled together ∙ h.none;
   sets = w.sets opened (sets_none h.start opened b ready_at.told h.none);
   rest = ready_at.opens.rests;
   over = (is_read run mirror count entry opened b ready_at h).begins;
 }
 
-cleanup_is : (run : Run) (mirror : Option MirrorMap) (count : ℕ) (opened : List State) (b : Board) (cleanup : Bool) → (h : IsNewRun run mirror count opened b) → run.settings.cleanup ≡ cleanup → h.start.config.settings.cleanup ≡ cleanup
+cleanup_is : (run : Run) (mirror : Option MirrorMap) (count : ℕ) (opened : List State) (b : Board) (cleanup : Bool) → (h : IsNewRun run (mirror ∷ []) (count ∷ []) opened b) → run.settings.cleanup ≡ cleanup → h.start.config.settings.cleanup ≡ cleanup
 cleanup_is run mirror count opened b cleanup h switch = ap (λ (s : Settings). s.cleanup) h.of_run.settings ∙ switch
 
 pub safe_ending : (error : RunError) (run : Run) (mirror mirror' : Option MirrorMap) (others others' : List (Option MirrorMap)) (counts counts' : List ℕ) (count later : ℕ) (entry opened mid now : List State) (b c : Board) (cleanup : Bool)
-    → (ToldAs IsSynced entry → IsOpen entry opened) → StartsRun run opened b → (IsTold entry → IsTold now) → run.settings.cleanup ≡ cleanup → RunGoesOn mirror count later b c opened mid → (run.together ≡ true → c.settled ≡ b.settled)
+    → (ToldAs IsSynced entry → IsOpen entry opened) → StartsRun run opened b → (IsTold entry → IsTold now) → run.settings.cleanup ≡ cleanup → RunGoesOn (mirror ∷ []) (count ∷ []) (later ∷ []) b c opened mid → (run.together ≡ true → c.settled ≡ b.settled)
     → StopsWhileEnding error run.together cleanup c mid now
     → StopsSafely error run (record { trace = entry; mirrors = mirror ∷ others; faults = counts }) (record { trace = now; mirrors = mirror' ∷ others'; faults = counts' })
 safe_ending error run mirror mirror' others others' counts counts' count later entry opened mid now b c cleanup ready_at starts told switch far unsettled stops =
-    let h : IsNewRun run mirror count opened b = starts mirror count in
-    let w : RunGoesOnWith h.start [] later b c opened mid = far h.start [] h.sound h.from h.under_way in
+    let h : IsNewRun run (mirror ∷ []) (count ∷ []) opened b = starts (mirror ∷ []) (count ∷ []) in
+    let w : RunGoesOnWith h.start [] (later ∷ []) b c opened mid = far h.start [] h.sound h.from h.running in
     stays_at error run mirror mirror' others others' counts counts' count entry opened now b ready_at h told
-    (λ is. stops h.start ([] ++ w.more) later (installed_now entry) opened (cleanup_is run mirror count opened b cleanup h switch) (begun_over run mirror count later entry opened mid b c is h w unsettled))
+    (λ is. stops h.start ([] ++ w.more) (installed_now entry) opened (cleanup_is run mirror count opened b cleanup h switch) (begun_over run mirror count later entry opened mid b c is h w unsettled))
 
 all_may : (together : Bool) (begun : RunInput) (lists : Files) (b : Board) (groups : List Group) → AreAllGroups begun lists b groups → MayBeCommitted together begun lists b groups
 all_may false begun lists b groups all = inr all
 all_may true begun lists b groups all = inr all
 
 -- all commits are made
-ended_at : CommittingLaws → (error : RunError) (together : Bool) (start : RunStart) (notes : List Note) (lists : Files) (opened mid now : List State) (log : RunLog) → (IsTold now → IfSome start.mirror (λ (w : MirrorMap). Agrees w start.parts start.config.sources notes))
+ended_at : CommittingLaws → (error : RunError) (together : Bool) (start : RunStart) (notes : List Note) (lists : Files) (opened mid now : List State) (log : RunLog) → (IsTold now → ForMirror start.mirrors (λ (w : MirrorMap). Agrees w start.parts start.config.sources notes))
     → HasCommittedAll together start notes lists opened mid now log → HasProgress error start together lists opened now
 ended_at laws error together start notes lists opened mid now log agree e = record {
   commits = e.commits;
@@ -271,26 +267,26 @@ ended_at laws error together start notes lists opened mid now log agree e = reco
     in_turn = e.ran.in_turn;
     shape = e.ran.shape;
   };
-  agrees = λ told. subst (λ (ns : List Note). IfSome start.mirror (λ (w : MirrorMap). Agrees w start.parts start.config.sources ns)) (sym e.same) (agree told);
+  agrees = λ told. subst (λ (ns : List Note). ForMirror start.mirrors (λ (w : MirrorMap). Agrees w start.parts start.config.sources ns)) (sym e.same) (agree told);
   synced = λ rest. settled_made laws (commits_of e.commits) lists opened now e.made rest;
 }
 
 pub safe_ended : CommittingLaws → (run : Run) (mirror mirror' : Option MirrorMap) (others others' : List (Option MirrorMap)) (counts counts' : List ℕ) (count later : ℕ) (entry opened mid now : List State) (b c : Board) (cleanup : Bool) (log : RunLog)
-    → (ToldAs IsSynced entry → IsOpen entry opened) → StartsRun run opened b → (IsTold entry → IsTold now) → (IsTold now → IsTold mid) → run.settings.cleanup ≡ cleanup → RunGoesOn mirror count later b c opened mid
+    → (ToldAs IsSynced entry → IsOpen entry opened) → StartsRun run opened b → (IsTold entry → IsTold now) → (IsTold now → IsTold mid) → run.settings.cleanup ≡ cleanup → RunGoesOn (mirror ∷ []) (count ∷ []) (later ∷ []) b c opened mid
     → (run.together ≡ true → c.settled ≡ b.settled) → CommitsAll run.together cleanup c mid now log
     → SurvivesCrash run (record { trace = entry; mirrors = mirror ∷ others; faults = counts }) (record { trace = now; mirrors = mirror' ∷ others'; faults = counts' })
 safe_ended laws run mirror mirror' others others' counts counts' count later entry opened mid now b c cleanup log ready_at starts told back switch far unsettled ends =
-    let h : IsNewRun run mirror count opened b = starts mirror count in
-    let w : RunGoesOnWith h.start [] later b c opened mid = far h.start [] h.sound h.from h.under_way in
+    let h : IsNewRun run (mirror ∷ []) (count ∷ []) opened b = starts (mirror ∷ []) (count ∷ []) in
+    let w : RunGoesOnWith h.start [] (later ∷ []) b c opened mid = far h.start [] h.sound h.from h.running in
     (stays_at NoMemory run mirror mirror' others others' counts counts' count entry opened now b ready_at h told
-    (λ is. ended_at laws NoMemory run.together h.start ([] ++ w.more) (installed_now entry) opened mid now log (λ told_now. run_agrees h.start ([] ++ w.more) later mid w.under_way.heard (back told_now))
-    (ends h.start ([] ++ w.more) later (installed_now entry) opened (cleanup_is run mirror count opened b cleanup h switch) (begun_over run mirror count later entry opened mid b c is h w unsettled)))).crash
+    (λ is. ended_at laws NoMemory run.together h.start ([] ++ w.more) (installed_now entry) opened mid now log (λ told_now. run_agrees h.start ([] ++ w.more) mid w.running.under_way.heard (back told_now))
+    (ends h.start ([] ++ w.more) (installed_now entry) opened (cleanup_is run mirror count opened b cleanup h switch) (begun_over run mirror count later entry opened mid b c is h w unsettled)))).crash
 
 -- ---- the faults of each method
 
-pub lane_zero : (asks : List Asked) → Each (λ asked. asked.lane ≡ 0) asks → asks_of_lane 0 asks ≡ asks
-lane_zero [] each = refl
-lane_zero (a ∷ asks) each = subst (λ (n : ℕ). (if n == 0 then a ∷ asks_of_lane 0 asks else asks_of_lane 0 asks) ≡ a ∷ asks) (sym each.0) (ap (λ (xs : List Asked). a ∷ xs) (lane_zero asks each.1))
+-- each entry is of the first method
+pub lanes_first : (asks : List Asked) → Each (λ asked. asked.lane < 1) asks → Each (λ asked. asked.lane ≡ 0) asks
+lanes_first asks each = each_more (λ (asked : Asked). asked.lane < 1) (λ (asked : Asked). asked.lane ≡ 0) asks (λ asked few. omega (arith, few)) each
 
 pub lane_other : (lane : ℕ) (asks : List Asked) → Each (λ asked. asked.lane ≡ 0) asks → asks_of_lane (suc lane) asks ≡ []
 lane_other lane [] each = refl
@@ -299,22 +295,26 @@ lane_other lane (a ∷ asks) each =
     subst (λ (n : ℕ). (if n == suc lane then a ∷ asks_of_lane (suc lane) asks else asks_of_lane (suc lane) asks) ≡ []) (sym each.0)
     (subst (λ (t : Bool). (if t then a ∷ asks_of_lane (suc lane) asks else asks_of_lane (suc lane) asks) ≡ []) (sym apart) (lane_other lane asks each.1))
 
-faults_rise : (count later : ℕ) (counts : List ℕ) (asks : List Asked) → CountsUp count later asks → Each (λ asked. asked.lane ≡ 0) asks → FaultsRise (count ∷ counts) (later ∷ counts) asks
-faults_rise count later counts asks up each = record {
-  lanes = each_more (λ (asked : Asked). asked.lane ≡ 0) (λ (asked : Asked). asked.lane < length (count ∷ counts)) asks (λ asked zero_is. omega (arith, zero_is)) each;
+-- those of the first method, and of others that weren't asked
+faults_rise : (count later : ℕ) (counts : List ℕ) (asks : List Asked) → FaultsRise (count ∷ []) (later ∷ []) asks → FaultsRise (count ∷ counts) (later ∷ counts) asks
+faults_rise count later counts asks up = record {
+  lanes = each_more (λ (asked : Asked). asked.lane < 1) (λ (asked : Asked). asked.lane < length (count ∷ counts)) asks (λ asked few. omega (arith, few)) up.lanes;
   counts = by;
 }
   where
     by : (lane first last : ℕ) → slice_get (count ∷ counts) lane ≡ Some first → slice_get (later ∷ counts) lane ≡ Some last → CountsUp first last (asks_of_lane lane asks)
-    by zero first last is at =
-        let same : count ≡ first = cc in
-        let end : later ≡ last = cc in
-        subst (λ (n : ℕ). CountsUp n last (asks_of_lane 0 asks)) same
-        (subst (λ (n : ℕ). CountsUp count n (asks_of_lane 0 asks)) end
-        (subst (CountsUp count later) (sym (lane_zero asks each)) up))
+    by zero first last is at = up.counts 0 first last is at
     by (suc lane) first last is at =
         let same : first ≡ last = cc in
-        subst (CountsUp first last) (sym (lane_other lane asks each)) (omega (arith, same))
+        subst (CountsUp first last) (sym (lane_other lane asks (lanes_first asks up.lanes))) (omega (arith, same))
+
+-- so they are told where it asks no more
+pub faults_told : (run : Run) (mirror : Option MirrorMap) (count later : ℕ) (opened mid : List State) (b c : Board) (log : RunLog) → StartsRun run opened b → RunGoesOn (mirror ∷ []) (count ∷ []) (later ∷ []) b c opened mid → log.asks ≡ c.asks
+    → FaultsRise (count ∷ []) (later ∷ []) log.asks
+faults_told run mirror count later opened mid b c log starts far asks =
+    let h : IsNewRun run (mirror ∷ []) (count ∷ []) opened b = starts (mirror ∷ []) (count ∷ []) in
+    let w : RunGoesOnWith h.start [] (later ∷ []) b c opened mid = far h.start [] h.sound h.from h.running in
+    subst (λ (es : List Asked). FaultsRise (count ∷ []) (later ∷ []) es) (sym asks) (subst (λ (first : List ℕ). FaultsRise first (later ∷ []) c.asks) h.at w.running.counted.faults)
 
 -- only the first method was used
 pub keeps_others : (mirror mirror' : Option MirrorMap) (others : List (Option MirrorMap)) (count later : ℕ) (counts : List ℕ) (entry now : List State) → mirror' ≡ mirror → count ≤ later
@@ -324,29 +324,29 @@ keeps_others mirror mirror' others count later counts entry now same rose = reco
 -- ---- its log
 
 pub logged : CommittingLaws → (run : Run) (mirror mirror' : Option MirrorMap) (others others' : List (Option MirrorMap)) (counts : List ℕ) (count later : ℕ) (entry opened mid now : List State) (b c : Board) (cleanup : Bool) (log : RunLog)
-    → (ToldAs IsSynced entry → IsOpen entry opened) → StartsRun run opened b → (IsTold entry → IsTold now) → (IsTold now → IsTold mid) → run.settings.cleanup ≡ cleanup → RunGoesOn mirror count later b c opened mid
-    → (run.together ≡ true → c.settled ≡ b.settled) → CommitsAll run.together cleanup c mid now log → EndsWithLog cleanup c mid log
+    → (ToldAs IsSynced entry → IsOpen entry opened) → StartsRun run opened b → (IsTold entry → IsTold now) → (IsTold now → IsTold mid) → run.settings.cleanup ≡ cleanup → RunGoesOn (mirror ∷ []) (count ∷ []) (later ∷ []) b c opened mid
+    → (run.together ≡ true → c.settled ≡ b.settled) → CommitsAll run.together cleanup c mid now log → EndsWithLog cleanup c mid log → FaultsRise (count ∷ []) (later ∷ []) log.asks
     → LogIsTrue run (record { trace = entry; mirrors = mirror ∷ others; faults = count ∷ counts }) (record { trace = now; mirrors = mirror' ∷ others'; faults = later ∷ counts }) log
-logged laws run mirror mirror' others others' counts count later entry opened mid now b c cleanup log ready_at starts told back switch far unsettled ended ends =
-    let h : IsNewRun run mirror count opened b = starts mirror count in
-    let w : RunGoesOnWith h.start [] later b c opened mid = far h.start [] h.sound h.from h.under_way in
-    let e : IsLogOfRun h.start ([] ++ w.more) later log = ends h.start ([] ++ w.more) later h.sound (cleanup_is run mirror count opened b cleanup h switch) w.under_way in
+logged laws run mirror mirror' others others' counts count later entry opened mid now b c cleanup log ready_at starts told back switch far unsettled ended ends faults =
+    let h : IsNewRun run (mirror ∷ []) (count ∷ []) opened b = starts (mirror ∷ []) (count ∷ []) in
+    let w : RunGoesOnWith h.start [] (later ∷ []) b c opened mid = far h.start [] h.sound h.from h.running in
+    let tells : IsLogOfBoard (begun_of h.start) ([] ++ w.more) log = ends h.start ([] ++ w.more) h.sound (cleanup_is run mirror count opened b cleanup h switch) w.running.under_way in
     record {
       begun = begun_of h.start;
       of_run = h.of_run;
       heard = [] ++ w.more;
-      tells = e.tells;
+      tells = tells;
       answers = for_first mirror others (λ (m : MirrorMap). AgreesWhereKnown now m h.start.parts h.start.config.sources ([] ++ w.more))
-          (subst (λ (o : Option MirrorMap). IfSome o (λ (m : MirrorMap). AgreesWhereKnown now m h.start.parts h.start.config.sources ([] ++ w.more))) h.from
-          (heard_on mid now h.start.mirror h.start.parts h.start.config.sources ([] ++ w.more) back w.under_way.heard.answers));
-      faults = faults_rise count later counts log.asks (subst (λ (n : ℕ). CountsUp n later log.asks) h.at e.counts) e.lanes;
+          (subst (λ (told : List (Option MirrorMap)). ForMirror told (λ (m : MirrorMap). AgreesWhereKnown now m h.start.parts h.start.config.sources ([] ++ w.more))) h.from
+          (heard_on mid now h.start.mirrors h.start.parts h.start.config.sources ([] ++ w.more) back w.running.under_way.heard.answers));
+      faults = faults_rise count later counts log.asks faults;
       commits = λ settled. finished h w (ready_at settled) (told (was_told IsSynced entry settled));
     }
   where
-    finished : (h : IsNewRun run mirror count opened b) (w : RunGoesOnWith h.start [] later b c opened mid) → IsOpen entry opened → IsTold now → HasFinished run (begun_of h.start) ([] ++ w.more) entry now log
+    finished : (h : IsNewRun run (mirror ∷ []) (count ∷ []) opened b) (w : RunGoesOnWith h.start [] (later ∷ []) b c opened mid) → IsOpen entry opened → IsTold now → HasFinished run (begun_of h.start) ([] ++ w.more) entry now log
     finished h w is tells =
         let e : HasCommittedAll run.together h.start ([] ++ w.more) (installed_now entry) opened mid now log =
-        ended h.start ([] ++ w.more) later (installed_now entry) opened (cleanup_is run mirror count opened b cleanup h switch) (begun_over run mirror count later entry opened mid b c is h w unsettled) in
+        ended h.start ([] ++ w.more) (installed_now entry) opened (cleanup_is run mirror count opened b cleanup h switch) (begun_over run mirror count later entry opened mid b c is h w unsettled) in
         record {
           opened = opened;
           opens = is.opens;
@@ -360,23 +360,14 @@ logged laws run mirror mirror' others others' counts count later entry opened mi
           gone = e.gone;
         }
 
--- each entry is of the first method
-pub lanes_told : (run : Run) (mirror : Option MirrorMap) (count later : ℕ) (opened mid : List State) (b c : Board) (cleanup : Bool) (log : RunLog) → StartsRun run opened b → run.settings.cleanup ≡ cleanup → RunGoesOn mirror count later b c opened mid
-    → EndsWithLog cleanup c mid log → Each (λ asked. asked.lane ≡ 0) log.asks
-lanes_told run mirror count later opened mid b c cleanup log starts switch far ends =
-    let h : IsNewRun run mirror count opened b = starts mirror count in
-    let w : RunGoesOnWith h.start [] later b c opened mid = far h.start [] h.sound h.from h.under_way in
-    let e : IsLogOfRun h.start ([] ++ w.more) later log = ends h.start ([] ++ w.more) later h.sound (cleanup_is run mirror count opened b cleanup h switch) w.under_way in
-    e.lanes
-
 -- a verdict for each source
-pub verdicts_told : (run : Run) (mirror : Option MirrorMap) (count later : ℕ) (opened mid : List State) (b c : Board) (cleanup : Bool) (log : RunLog) → StartsRun run opened b → run.settings.cleanup ≡ cleanup → RunGoesOn mirror count later b c opened mid
+pub verdicts_told : (run : Run) (mirror : Option MirrorMap) (count later : ℕ) (opened mid : List State) (b c : Board) (cleanup : Bool) (log : RunLog) → StartsRun run opened b → run.settings.cleanup ≡ cleanup → RunGoesOn (mirror ∷ []) (count ∷ []) (later ∷ []) b c opened mid
     → EndsWithLog cleanup c mid log → length log.verdicts ≡ length run.plan.sources
 verdicts_told run mirror count later opened mid b c cleanup log starts switch far ends =
-    let h : IsNewRun run mirror count opened b = starts mirror count in
-    let w : RunGoesOnWith h.start [] later b c opened mid = far h.start [] h.sound h.from h.under_way in
-    let e : IsLogOfRun h.start ([] ++ w.more) later log = ends h.start ([] ++ w.more) later h.sound (cleanup_is run mirror count opened b cleanup h switch) w.under_way in
-    ap length e.tells.verdicts ∙ (verdicts_count h.start.config h.start.olds ([] ++ w.more) e.tells.board e.tells.reached ∙ ap length h.of_run.sources)
+    let h : IsNewRun run (mirror ∷ []) (count ∷ []) opened b = starts (mirror ∷ []) (count ∷ []) in
+    let w : RunGoesOnWith h.start [] (later ∷ []) b c opened mid = far h.start [] h.sound h.from h.running in
+    let tells : IsLogOfBoard (begun_of h.start) ([] ++ w.more) log = ends h.start ([] ++ w.more) h.sound (cleanup_is run mirror count opened b cleanup h switch) w.running.under_way in
+    ap length tells.verdicts ∙ (verdicts_count h.start.config h.start.olds ([] ++ w.more) tells.board tells.reached ∙ ap length h.of_run.sources)
 
 -- ---- the first of some methods
 

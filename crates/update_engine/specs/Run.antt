@@ -1,11 +1,12 @@
 -- What is asked of a run, and what it promises.
-use Rattle.std.specs.Prelude.{◌≡◌, ◌≢◌, ◌⊎◌, ℕ, ℤ, ◌<◌, ◌≤◌, ◌-◌, ◌^◌, ◌==◌, Bool, true, false, Contains, IfOk, IfSome, IsTrue, List, [], ◌∷◌, filter, length, map, slice_get, take, Option, Some, None, Result, Err}
-use Rattle.std.specs.List.{flat_map, AllByRecursion as Each}
+use Rattle.std.specs.Prelude.{◌≡◌, ◌≢◌, ◌⊎◌, ℕ, ℤ, ◌-◌, ◌^◌, Bool, true, false, Contains, IfOk, IsTrue, List, [], length, map, slice_get, take, Option, Some, None, Result, Err}
+use Rattle.std.specs.List.{flat_map}
 use Rattle.acq_base.specs.Mirror.{MirrorMap}
 use Rattle.acq_base.specs.Plan.{names_of}
 use Rattle.acq_base.specs.declared.plan.Plan.{Plan}
 use Rattle.acq_base.specs.declared.plan.Source.{Source}
 use Rattle.acq_base.specs.declared.settings.Settings.{Settings}
+use Rattle.acq_outside.specs.Count.{NoneFell}
 use Rattle.acq_outside.specs.Crash.{State, reads}
 use Rattle.acq_outside.specs.States.{From, Since, IsNow, ToldAs}
 use Rattle.acq_outside.specs.declared.disk.Disk.{Ghosts as Disks}
@@ -23,9 +24,9 @@ use Rattle.list_commits.specs.Loose.{IsLoose, NoneIsLoose}
 use Rattle.list_commits.specs.Made.{CommitsMade, after_all}
 use Rattle.lists_dir.specs.Installed.{installed_of}
 use Rattle.release_file.specs.declared.changing.Change.{Change}
-use Rattle.update_model.specs.declared.log.Asked.{Asked}
 use Rattle.update_model.specs.declared.log.RunLog.{RunLog}
-use Rattle.run_jobs.specs.Counting.{CountsUp, counted_on}
+use Rattle.run_jobs.specs.Counting.{BeginsAsTold, FaultsRise}
+use Rattle.run_jobs.specs.Mirrors.{ForMirror}
 use Rattle.run_jobs.specs.OnTheWay.{StaysOnItsWay}
 use Rattle.run_jobs.specs.Running.{AgreesWhereKnown}
 use Rattle.run_jobs.specs.declared.error.RunError.{RunError}
@@ -56,34 +57,10 @@ engine d m disk methods = record { trace = d.trace disk; mirrors = map m.world m
 
 -- ---- the methods
 
--- none of these counts fell
-abbrev pub NoneFell : List ℕ → List ℕ → Type 0
-NoneFell [] [] = Unit {0}
-NoneFell (before ∷ befores) (after ∷ afters) = (before ≤ after) × NoneFell befores afters
-NoneFell befores afters = ⊥
-
 -- the same methods, and none of their counts fell
 pub record KeepsMethods (before after : Engine) : Type 0 where
   pub mirrors : after.mirrors ≡ before.mirrors
   pub counts : NoneFell before.faults after.faults
-
--- P of the mirror that all of them tell, where they tell one
-abbrev pub ForMirror : List (Option MirrorMap) → (MirrorMap → Type 0) → Type 0
-ForMirror [] P = Unit {0}
-ForMirror (told ∷ others) P = IfSome told (λ mirror. Each (λ other. other ≡ Some mirror) others → P mirror)
-
-abbrev pub asks_of_lane : ℕ → List Asked → List Asked
-asks_of_lane lane asks = filter (λ asked. asked.lane == lane) asks
-
--- Each ask was one of these methods', and the faults of each method are told in order, within what it counted.
-pub record FaultsRise (before after : List ℕ) (asks : List Asked) : Type 0 where
-  pub lanes : Each (λ asked. asked.lane < length before) asks
-  pub counts : (lane first last : ℕ) → slice_get before lane ≡ Some first → slice_get after lane ≡ Some last → CountsUp first last (asks_of_lane lane asks)
-
--- of each method just as many fetches were begun as the log tells
-abbrev pub BeginsAsTold : List ℕ → List ℕ → List Asked → Type 0
-BeginsAsTold before after asks =
-    (lane first last : ℕ) → slice_get before lane ≡ Some first → slice_get after lane ≡ Some last → last ≡ counted_on first (length (asks_of_lane lane asks))
 
 -- ---- with what it begins
 

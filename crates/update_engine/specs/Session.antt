@@ -1,5 +1,5 @@
 -- A run between two of its steps, with the commits that it has made.
-use Rattle.std.specs.Prelude.{◌≡◌, ◌<◌, ◌&&◌, ℕ, Bool, true, false, not, if◌then◌else◌, Contains, List, [], ◌∷◌, ◌++◌, filter, map, slice_get, Option, Some, None, IfSome}
+use Rattle.std.specs.Prelude.{◌≡◌, ◌<◌, ◌&&◌, ℕ, Bool, true, false, not, if◌then◌else◌, Contains, List, [], ◌∷◌, ◌++◌, filter, map, slice_get, Option, Some, None}
 use Rattle.std.specs.List.{AllByRecursion as Each, list_all}
 use Rattle.acq_base.specs.Mirror.{MirrorMap}
 use Rattle.acq_base.specs.declared.plan.Source.{Source}
@@ -20,8 +20,8 @@ use Rattle.list_commits.specs.Loose.{NoneIsLoose, removed_names}
 use Rattle.list_commits.specs.Made.{CommitsMade}
 use Rattle.list_commits.specs.RecordLaws.{IsSyncedPart, names_of_group}
 use Rattle.list_commits.specs.SetLaws.{HasPutNames, HaveSums, OwnsChanges}
-use Rattle.run_jobs.specs.Counting.{CountsUp}
-use Rattle.run_jobs.specs.Running.{RunStart, IsSoundBegun, IsUnderWay}
+use Rattle.run_jobs.specs.Mirrors.{ForMirror}
+use Rattle.run_jobs.specs.Running.{RunStart, IsRunning, IsSoundBegun, IsUnderWay}
 use Rattle.run_jobs.specs.declared.error.RunError.{RunError}
 use Rattle.run_jobs.specs.declared.error.RunError.TheVariants.{NoMemory}
 use Rattle.run_model.specs.Begun.{RunInput}
@@ -75,7 +75,7 @@ pub record HasProgress (error : RunError) (start : RunStart) (together : Bool) (
   pub progress : CommitProgress (commits_of commits) acknowledged started opened now
   pub whole : error ≡ NoMemory → acknowledged ≡ started
   pub has : MayBeStopped together (begun_of start) lists commits
-  pub agrees : IsTold now → IfSome start.mirror (λ mirror. Agrees mirror start.parts start.config.sources has.heard)
+  pub agrees : IsTold now → ForMirror start.mirrors (λ mirror. Agrees mirror start.parts start.config.sources has.heard)
   pub synced : IsNow (IsAtRest lists) opened → IsNow IsSynced now
 
 -- ---- between two jobs
@@ -84,9 +84,8 @@ pub record HasProgress (error : RunError) (start : RunStart) (together : Bool) (
 pub record MayCommit (b : Board) (now : List State) : Type 0 where
   pub start : RunStart
   pub notes : List Note
-  pub count : ℕ
   pub sound : IsSoundBegun start
-  pub under_way : IsUnderWay start notes count b now
+  pub under_way : IsUnderWay start notes b now
   pub idle : IsNow IsIdle now
 
 -- a source was settled
@@ -98,41 +97,42 @@ pub record HasSettled (n : ℕ) (before after : Board) : Type 0 where
 pub record OnlySettles (before after : Board) : Type 0 where
   pub config : after.config ≡ before.config
   pub asks : after.asks ≡ before.asks
+  pub out : after.out ≡ before.out
   pub quiet : NoneAsks before → NoneAsks after
 
 -- A run that is under way still is where nothing was heard, and so is its having committed its sets. What lies beside the lists
 -- stays, but for what is on its way of the sources that were installed.
 pub record KeepsRunGoing (before after : Board) (old now : List State) : Type 0 where
-  pub under_way : (start : RunStart) (notes : List Note) (count : ℕ) → IsSoundBegun start → IsUnderWay start notes count before old → IsUnderWay start notes count after now
-  pub sets : (start : RunStart) (notes : List Note) (count : ℕ) (opened : List State) → IsSoundBegun start → IsUnderWay start notes count before old
+  pub under_way : (start : RunStart) (notes : List Note) → IsSoundBegun start → IsUnderWay start notes before old → IsUnderWay start notes after now
+  pub sets : (start : RunStart) (notes : List Note) (opened : List State) → IsSoundBegun start → IsUnderWay start notes before old
       → HasCommittedSets (begun_of start) notes opened old before → HasCommittedSets (begun_of start) notes opened now after
-  pub aside : (start : RunStart) (notes : List Note) (count : ℕ) → IsSoundBegun start → IsUnderWay start notes count before old
+  pub aside : (start : RunStart) (notes : List Note) → IsSoundBegun start → IsUnderWay start notes before old
       → KeepsAside start.config.sources (IsListOf start.config.sources (installed_in after)) [] old now
-  pub more : (start : RunStart) (notes : List Note) (count : ℕ) → IsSoundBegun start → IsUnderWay start notes count before old → (n : ℕ) → Contains (installed_in before) n → Contains (installed_in after) n
+  pub more : (start : RunStart) (notes : List Note) → IsSoundBegun start → IsUnderWay start notes before old → (n : ℕ) → Contains (installed_in before) n → Contains (installed_in after) n
 
 -- and where it stops, its commits have got so far
 abbrev pub StopsBetweenAsks : RunError → Board → List State → List State → Type 0
 StopsBetweenAsks error before old now =
-    (start : RunStart) (notes : List Note) (count : ℕ) (lists : Files) (opened : List State) → IsSoundBegun start → IsUnderWay start notes count before old
+    (start : RunStart) (notes : List Note) (lists : Files) (opened : List State) → IsSoundBegun start → IsUnderWay start notes before old
     → HasCommittedSets (begun_of start) notes opened old before → HasProgress error start false lists opened now
 
 -- ---- over jobs
 
 -- a run that goes on has heard more, and has committed its sets where it had before
-pub record RunGoesOnWith (start : RunStart) (notes : List Note) (later : ℕ) (before after : Board) (old now : List State) : Type 0 where
+pub record RunGoesOnWith (start : RunStart) (notes : List Note) (later : List ℕ) (before after : Board) (old now : List State) : Type 0 where
   pub more : List Note
-  pub under_way : IsUnderWay start (notes ++ more) later after now
+  pub running : IsRunning start (notes ++ more) later after now
   pub sets : (opened : List State) → HasCommittedSets (begun_of start) notes opened old before → HasCommittedSets (begun_of start) (notes ++ more) opened now after
 
--- so does each run that is under way over this mirror
-abbrev pub RunGoesOn : Option MirrorMap → ℕ → ℕ → Board → Board → List State → List State → Type 0
-RunGoesOn mirror count later before after old now =
-    (start : RunStart) (notes : List Note) → IsSoundBegun start → start.mirror ≡ mirror → IsUnderWay start notes count before old → RunGoesOnWith start notes later before after old now
+-- so does each run that goes on over these mirrors
+abbrev pub RunGoesOn : List (Option MirrorMap) → List ℕ → List ℕ → Board → Board → List State → List State → Type 0
+RunGoesOn mirrors counts later before after old now =
+    (start : RunStart) (notes : List Note) → IsSoundBegun start → start.mirrors ≡ mirrors → IsRunning start notes counts before old → RunGoesOnWith start notes later before after old now
 
 -- and where it stops, its commits have got so far
-abbrev pub StopsWhileAsking : RunError → Option MirrorMap → ℕ → Board → List State → List State → Type 0
-StopsWhileAsking error mirror count before old now =
-    (start : RunStart) (notes : List Note) (lists : Files) (opened : List State) → IsSoundBegun start → start.mirror ≡ mirror → IsUnderWay start notes count before old
+abbrev pub StopsWhileAsking : RunError → List (Option MirrorMap) → List ℕ → Board → List State → List State → Type 0
+StopsWhileAsking error mirrors counts before old now =
+    (start : RunStart) (notes : List Note) (lists : Files) (opened : List State) → IsSoundBegun start → start.mirrors ≡ mirrors → IsRunning start notes counts before old
     → HasCommittedSets (begun_of start) notes opened old before → HasProgress error start false lists opened now
 
 -- ---- all together
@@ -162,8 +162,8 @@ abbrev pub groups_for : List NewSource → List (List Change)
 groups_for picks = map (λ p. changes_for p.source p.settled) picks
 
 -- Sources were settled, and these of them came to new sets, in plan order; the next that is ready is behind them.
-pub record HasGatheredChanges (start : RunStart) (notes : List Note) (count : ℕ) (now : List State) (before after : Board) (groups : List (List Change)) : Type 0 where
-  pub under_way : IsUnderWay start notes count after now
+pub record HasGatheredChanges (start : RunStart) (notes : List Note) (now : List State) (before after : Board) (groups : List (List Change)) : Type 0 where
+  pub under_way : IsUnderWay start notes after now
   pub picks : List NewSource
   pub are : groups ≡ groups_for picks
   pub each : Each (IsNewSource start notes now) picks
@@ -174,8 +174,8 @@ pub record HasGatheredChanges (start : RunStart) (notes : List Note) (count : �
 -- so they are of each run that is under way
 abbrev pub GathersChanges : Board → Board → List (List Change) → Type 0
 GathersChanges before after groups =
-    (start : RunStart) (notes : List Note) (count : ℕ) (now : List State) → IsSoundBegun start → IsUnderWay start notes count before now
-    → HasGatheredChanges start notes count now before after groups
+    (start : RunStart) (notes : List Note) (now : List State) → IsSoundBegun start → IsUnderWay start notes before now
+    → HasGatheredChanges start notes now before after groups
 
 -- one source was settled, and its changes are one more group where it came to a new set
 pub record GathersChangesOf (n : ℕ) (before after : Board) (groups later : List (List Change)) : Type 0 where
@@ -218,8 +218,8 @@ pub record HasCommittedAllBut (together : Bool) (start : RunStart) (notes : List
   pub aside : KeepsAside start.config.sources (IsListOf start.config.sources (installed_in b)) notes opened now
 
 -- what is left to be committed of a run that is under way: the changes of these sources
-pub record HasUncommitted (together : Bool) (start : RunStart) (notes : List Note) (count : ℕ) (before : Board) (old now : List State) (b : Board) (groups : List (List Change)) : Type 0 where
-  pub under_way : IsUnderWay start notes count b now
+pub record HasUncommitted (together : Bool) (start : RunStart) (notes : List Note) (before : Board) (old now : List State) (b : Board) (groups : List (List Change)) : Type 0 where
+  pub under_way : IsUnderWay start notes b now
   pub picks : List NewSource
   pub are : groups ≡ groups_for picks
   pub each : Each (IsNewSource start notes now) picks
@@ -230,13 +230,13 @@ pub record HasUncommitted (together : Bool) (start : RunStart) (notes : List Not
 -- so is it of each run that is under way
 abbrev pub LeavesUncommitted : Bool → Board → Board → List State → List State → List (List Change) → Type 0
 LeavesUncommitted together before after old now groups =
-    (start : RunStart) (notes : List Note) (count : ℕ) → IsSoundBegun start → IsUnderWay start notes count before old → HasUncommitted together start notes count before old now after groups
+    (start : RunStart) (notes : List Note) → IsSoundBegun start → IsUnderWay start notes before old → HasUncommitted together start notes before old now after groups
 
 -- A run that is under way began over these lists, at rest when the journal was open, and has committed its sets; together it
 -- has settled nothing.
-pub record RunsOverLists (together : Bool) (start : RunStart) (notes : List Note) (count : ℕ) (lists : Files) (opened now : List State) (b : Board) : Type 0 where
+pub record RunsOverLists (together : Bool) (start : RunStart) (notes : List Note) (lists : Files) (opened now : List State) (b : Board) : Type 0 where
   pub sound : IsSoundBegun start
-  pub under_way : IsUnderWay start notes count b now
+  pub under_way : IsUnderWay start notes b now
   pub first : together ≡ true → b.settled ≡ []
   pub sets : HasCommittedSets (begun_of start) notes opened now b
   pub rest : IsNow (IsAtRest lists) opened
@@ -245,8 +245,8 @@ pub record RunsOverLists (together : Bool) (start : RunStart) (notes : List Note
 -- where each such run stops at its end, its commits have got so far
 abbrev pub StopsWhileEnding : RunError → Bool → Bool → Board → List State → List State → Type 0
 StopsWhileEnding error together cleanup b old now =
-    (start : RunStart) (notes : List Note) (count : ℕ) (lists : Files) (opened : List State) → start.config.settings.cleanup ≡ cleanup
-    → RunsOverLists together start notes count lists opened old b → HasProgress error start together lists opened now
+    (start : RunStart) (notes : List Note) (lists : Files) (opened : List State) → start.config.settings.cleanup ≡ cleanup
+    → RunsOverLists together start notes lists opened old b → HasProgress error start together lists opened now
 
 -- all commits of a run over these lists are made, and this is its log; what lies beside the lists stays, at its end and all in
 -- all, but for what was taken
@@ -262,34 +262,27 @@ pub record HasCommittedAll (together : Bool) (start : RunStart) (notes : List No
 -- so are those of each such run
 abbrev pub CommitsAll : Bool → Bool → Board → List State → List State → RunLog → Type 0
 CommitsAll together cleanup b old now log =
-    (start : RunStart) (notes : List Note) (count : ℕ) (lists : Files) (opened : List State) → start.config.settings.cleanup ≡ cleanup
-    → RunsOverLists together start notes count lists opened old b → HasCommittedAll together start notes lists opened old now log
+    (start : RunStart) (notes : List Note) (lists : Files) (opened : List State) → start.config.settings.cleanup ≡ cleanup
+    → RunsOverLists together start notes lists opened old b → HasCommittedAll together start notes lists opened old now log
 
--- The log is that of the run's board, which is finished, with what the clean-up removed. Faults are those that the method
--- counted, and all answers are those of the first method.
-pub record IsLogOfRun (start : RunStart) (notes : List Note) (count : ℕ) (log : RunLog) : Type 0 where
-  pub tells : IsLogOfBoard (begun_of start) notes log
-  pub counts : CountsUp start.count count log.asks
-  pub lanes : Each (λ asked. asked.lane ≡ 0) log.asks
-
--- so it is of each run that is under way
+-- the log is that of the board of each run that is under way, which is finished, with what the clean-up removed
 abbrev pub EndsWithLog : Bool → Board → List State → RunLog → Type 0
 EndsWithLog cleanup b old log =
-    (start : RunStart) (notes : List Note) (count : ℕ) → IsSoundBegun start → start.config.settings.cleanup ≡ cleanup → IsUnderWay start notes count b old → IsLogOfRun start notes count log
+    (start : RunStart) (notes : List Note) → IsSoundBegun start → start.config.settings.cleanup ≡ cleanup → IsUnderWay start notes b old → IsLogOfBoard (begun_of start) notes log
 
 -- ---- the beginning
 
--- A run over this mirror and count begins: its board is new, and over a disk that is at rest it begins with what was read.
-pub record IsNewRun (run : Run) (mirror : Option MirrorMap) (count : ℕ) (now : List State) (b : Board) : Type 0 where
+-- A run over these mirrors and counts begins: its board is new, and over a disk that is at rest it begins with what was read.
+pub record IsNewRun (run : Run) (mirrors : List (Option MirrorMap)) (counts : List ℕ) (now : List State) (b : Board) : Type 0 where
   pub start : RunStart
-  pub from : start.mirror ≡ mirror
-  pub at : start.count ≡ count
+  pub from : start.mirrors ≡ mirrors
+  pub at : start.counts ≡ counts
   pub sound : IsSoundBegun start
   pub of_run : IsConfiguredBy run (begun_of start)
-  pub under_way : IsUnderWay start [] count b now
+  pub running : IsRunning start [] counts b now
   pub none : b.settled ≡ []
   pub read : (entry : List State) → ToldAs (IsAtRest (installed_now entry)) now → IsReadFromDisk entry now (begun_of start)
 
 -- so does each run
 abbrev pub StartsRun : Run → List State → Board → Type 0
-StartsRun run now b = (mirror : Option MirrorMap) (count : ℕ) → IsNewRun run mirror count now b
+StartsRun run now b = (mirrors : List (Option MirrorMap)) (counts : List ℕ) → IsNewRun run mirrors counts now b

@@ -1,5 +1,5 @@
 //! The loop of a run over one method.
-ghost use Rattle.std.specs.Prelude.{◌≡◌, ◌≢◌, ℕ, false, true, Err, IfErr, None, OnOk};
+ghost use Rattle.std.specs.Prelude.{◌≡◌, ◌≢◌, ◌∷◌, [], ℕ, false, true, Err, IfErr, None, OnOk};
 ghost use Rattle.acq_outside.specs.Fetches.{Fetches};
 ghost use Rattle.acq_outside.specs.States.{Since, IsNow};
 ghost use Rattle.acq_outside.specs.Stays.{StaysCounting};
@@ -33,7 +33,7 @@ pub fn ask_until_done<D: Disk, M: Method>(
     method: &mut M,
     board: &mut Board,
 ) -> Result<(), RunError>
-    requires ready { MayAsk (M.world method.old) (M.faults method.old) (board_of board.old) (D.trace disk.old) }
+    requires ready { MayAsk (M.world method.old ∷ []) (M.faults method.old ∷ []) (board_of board.old) (D.trace disk.old) }
     requires change { judge.now.change ≡ (board_of board.old).config.change }
 
     ensures frame { StaysCounting RunError.DiskFault D.Disk disk.old disk.new result }
@@ -47,8 +47,9 @@ pub fn ask_until_done<D: Disk, M: Method>(
 
     ensures bare { together ≡ true → Since (D.trace disk.old) (D.trace disk.new) (KeptAtRestSince (D.trace disk.old)) }
     ensures idle { OnOk result (IsNow IsIdle (D.trace disk.new)) }
-    ensures stops { IfErr result (λ error. StopsWhileAsking error (M.world method.old) (M.faults method.old) (board_of board.old) (D.trace disk.old) (D.trace disk.new)) }
-    ensures goes { OnOk result (RunGoesOn (M.world method.old) (M.faults method.old) (M.faults method.new)
+    ensures stops { IfErr result (λ error. StopsWhileAsking error (M.world method.old ∷ []) (M.faults method.old ∷ [])
+        (board_of board.old) (D.trace disk.old) (D.trace disk.new)) }
+    ensures goes { OnOk result (RunGoesOn (M.world method.old ∷ []) (M.faults method.old ∷ []) (M.faults method.new ∷ [])
         (board_of board.old) (board_of board.new) (D.trace disk.old) (D.trace disk.new)) }
 {
     'asks: loop {

@@ -6,9 +6,10 @@ use Rattle.acq_base.specs.Mirror.{MirrorMap}
 use Rattle.acq_base.specs.declared.plan.Source.{Source}
 use Rattle.board_model.specs.RunLaws.{HasSet}
 use Rattle.journal_model.specs.Reopen.{installed_now}
+use Rattle.run_jobs.specs.Mirrors.{ForMirror}
 use Rattle.run_model.proofs.Counting.{there_too, verdicts_count}
 use Rattle.run_promises.specs.Claims.{Serves, TellsServed, TellsServedOverMirror}
-use Rattle.update_engine.specs.Run.{Engine, ForMirror, LogIsTrue, Run}
+use Rattle.update_engine.specs.Run.{Engine, LogIsTrue, Run}
 use Rattle.update_model.specs.declared.log.RunLog.{RunLog}
 use Rattle.update_model.specs.declared.settled.Held.{Held}
 use Rattle.update_model.specs.declared.settled.Verdict2.{Verdict2}

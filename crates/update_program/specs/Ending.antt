@@ -11,7 +11,8 @@ use Rattle.configuration.specs.declared.error.ConfigurationError.{ConfigurationE
 use Rattle.journal_model.specs.Rest.{IsSynced}
 use Rattle.report_text.specs.Refused.{line_of}
 use Rattle.report_text.specs.declared.fault.FaultLine.TheVariants.{Words, Journal, Disk, Memory, Held, Etc}
-use Rattle.update_engine.specs.Run.{BeginsAsTold, Run, LogIsTrue, StopsForMemory, SurvivesCrash}
+use Rattle.run_jobs.specs.Counting.{BeginsAsTold}
+use Rattle.update_engine.specs.Run.{Run, LogIsTrue, StopsForMemory, SurvivesCrash}
 use Rattle.update_model.specs.declared.log.RunLog.{RunLog}
 use Rattle.update_program.specs.Asked.{GivesConfiguration, run_for}
 use Rattle.update_program.specs.Objects.{Objects, Span}

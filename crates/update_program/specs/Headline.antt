@@ -6,9 +6,10 @@ use Rattle.command_words.specs.declared.request.Options.{Options}
 use Rattle.commit_journal.specs.Opening.{damage_of}
 use Rattle.configuration.specs.declared.error.ConfigurationError.{ConfigurationError}
 use Rattle.journal_model.specs.Reopen.{installed_now}
+use Rattle.run_jobs.specs.Mirrors.{ForMirror}
 use Rattle.run_promises.specs.Claims.{Serves, ShowsRun, StopsOnSameLists, StopsUndamaged, TellsServedOverMirror}
 use Rattle.run_promises.specs.Promise.{ListsMatchLog, EndsOverMirror, NoneIsGivenUp, StopsOverMirror, StopKeepsSets, WasSynced}
-use Rattle.update_engine.specs.Run.{Engine, ForMirror, Run}
+use Rattle.update_engine.specs.Run.{Engine, Run}
 use Rattle.update_model.specs.declared.log.RunLog.{RunLog}
 use Rattle.update_program.specs.Asked.{AsksForRun, GivesConfiguration}
 use Rattle.update_program.specs.Ending.{IsNoRun}

@@ -5,7 +5,7 @@ use Rattle.update_core.specs.BoardRefinement.{board_of}
 use Rattle.update_engine.proofs.Committing.{handed_on, on_err}
 use Rattle.update_engine.proofs.Known.{commits_known}
 use Rattle.update_engine.proofs.Begins.{begins_more, begins_same}
-use Rattle.update_engine.proofs.Stepping.{bare_aside, bare_round, far_aside, far_asked, far_stops, far_stops_asking, idle_after, ready_aside, ready_asked, smaller, stands_ready}
+use Rattle.update_engine.proofs.Stepping.{bare_aside, bare_round, far_aside, far_asked, far_stops, far_stops_asking, idle_after, one_mirror, ready_aside, ready_asked, smaller, stands_ready}
 use Rattle.update_engine.proofs.looping.ask_until_done.Goals as goal
 
 pub returns-in_err-install_between-clause-stops : goal.returns-in_err-install_between-clause-stops
@@ -18,12 +18,12 @@ pub install_between-requires : goal.install_between-requires
 install_between-requires g c = stands_ready _ _ _ _ c.asks.invariant.ready
 
 pub ask_one-requires-clause-ready : goal.ask_one-requires-clause-ready
-ask_one-requires-clause-ready g c = ready_aside _ _ (board_of c.asks.board) _ _ _ c.asks.invariant.ready c.in_ok-install_between.ensures.goes c.in_ok-install_between.ensures.idle
+ask_one-requires-clause-ready g c = ready_aside _ _ (board_of c.asks.board) _ _ _ c.asks.invariant.ready c.in_ok-install_between.ensures.goes c.in_ok-install_between.ensures.only c.in_ok-install_between.ensures.idle
 
 pub returns-in_err-ask_one-clause-stops : goal.returns-in_err-ask_one-clause-stops
 returns-in_err-ask_one-clause-stops g c = on_err _ _
     (λ error. far_stops_asking commits_known error _ _ _ _ (board_of c.install_between.new.board) _ _ _
-    (far_aside _ _ _ _ (board_of c.asks.board) _ _ _ _ c.asks.invariant.goes c.in_ok-install_between.ensures.goes) c.in_ok-install_between.ensures.idle c.ask_one.ensures.moments)
+    (far_aside _ _ _ _ (board_of c.asks.board) _ _ _ _ c.asks.invariant.goes c.in_ok-install_between.ensures.goes c.in_ok-install_between.ensures.only) c.in_ok-install_between.ensures.idle c.ask_one.ensures.moments)
 
 pub returns-in_err-ask_one-clause-bare : goal.returns-in_err-ask_one-clause-bare
 returns-in_err-ask_one-clause-bare g c = λ together. bare_round _ _ _ _ (c.asks.invariant.bare together) (c.install_between.ensures.bare together) c.ask_one.ensures.moments
@@ -35,17 +35,17 @@ pub returns-then-not-branch-clause-idle : goal.returns-then-not-branch-clause-id
 returns-then-not-branch-clause-idle g c = idle_after _ _ c.in_ok-install_between.ensures.idle c.ask_one.ensures.moments
 
 pub returns-then-not-branch-clause-goes : goal.returns-then-not-branch-clause-goes
-returns-then-not-branch-clause-goes g c = far_asked commits_known _ _ _ _ _ _ (board_of c.install_between.new.board) _ _ _ _ c.asks.invariant.method.same
-    (far_aside _ _ _ _ (board_of c.asks.board) _ _ _ _ c.asks.invariant.goes c.in_ok-install_between.ensures.goes) c.in_ok-install_between.ensures.idle c.ask_one.ensures.moments
+returns-then-not-branch-clause-goes g c = far_asked commits_known _ _ _ _ _ _ (board_of c.install_between.new.board) _ _ _ _ (one_mirror c.asks.invariant.method.same)
+    (far_aside _ _ _ _ (board_of c.asks.board) _ _ _ _ c.asks.invariant.goes c.in_ok-install_between.ensures.goes c.in_ok-install_between.ensures.only) c.in_ok-install_between.ensures.idle c.ask_one.ensures.moments
     c.ask_one.ensures.others c.in_ok-ask_one.ensures.same c.in_ok-ask_one.ensures.goes
 
 pub asks-preserved : goal.asks-preserved
 asks-preserved g c = record {
-  goes = far_asked commits_known _ _ _ _ _ _ (board_of c.install_between.new.board) _ _ _ _ c.asks.invariant.method.same
-      (far_aside _ _ _ _ (board_of c.asks.board) _ _ _ _ c.asks.invariant.goes c.in_ok-install_between.ensures.goes) c.in_ok-install_between.ensures.idle c.ask_one.ensures.moments
+  goes = far_asked commits_known _ _ _ _ _ _ (board_of c.install_between.new.board) _ _ _ _ (one_mirror c.asks.invariant.method.same)
+      (far_aside _ _ _ _ (board_of c.asks.board) _ _ _ _ c.asks.invariant.goes c.in_ok-install_between.ensures.goes c.in_ok-install_between.ensures.only) c.in_ok-install_between.ensures.idle c.ask_one.ensures.moments
       c.ask_one.ensures.others c.in_ok-ask_one.ensures.same c.in_ok-ask_one.ensures.goes;
-  ready = ready_asked _ _ _ _ _ _ _ _ c.ask_one.ensures.method.same
-      (ready_aside _ _ (board_of c.asks.board) _ _ _ c.asks.invariant.ready c.in_ok-install_between.ensures.goes c.in_ok-install_between.ensures.idle) c.ask_one.ensures.moments c.in_ok-ask_one.ensures.goes;
+  ready = ready_asked _ _ _ _ _ _ _ _ (one_mirror c.ask_one.ensures.method.same)
+      (ready_aside _ _ (board_of c.asks.board) _ _ _ c.asks.invariant.ready c.in_ok-install_between.ensures.goes c.in_ok-install_between.ensures.only c.in_ok-install_between.ensures.idle) c.ask_one.ensures.moments c.in_ok-ask_one.ensures.goes;
   bare = λ together. bare_round _ _ _ _ (c.asks.invariant.bare together) (c.install_between.ensures.bare together) c.ask_one.ensures.moments;
   unsettled = λ together. c.in_ok-ask_one.ensures.same.settled ∙ (c.in_ok-install_between.ensures.unsettled together ∙ c.asks.invariant.unsettled together);
   config = c.in_ok-ask_one.ensures.same.config ∙ (c.in_ok-install_between.ensures.only.config ∙ c.asks.invariant.config);
@@ -56,8 +56,8 @@ asks-preserved g c = record {
 
 pub asks-smaller : goal.asks-smaller
 asks-smaller g c = smaller asks_are_few _ _ (board_of c.asks.board) (board_of c.install_between.new.board) (board_of c.ask_one.new.board) _
-    (ready_asked _ _ _ _ _ _ _ _ c.ask_one.ensures.method.same
-    (ready_aside _ _ (board_of c.asks.board) _ _ _ c.asks.invariant.ready c.in_ok-install_between.ensures.goes c.in_ok-install_between.ensures.idle) c.ask_one.ensures.moments c.in_ok-ask_one.ensures.goes)
+    (ready_asked _ _ _ _ _ _ _ _ (one_mirror c.ask_one.ensures.method.same)
+    (ready_aside _ _ (board_of c.asks.board) _ _ _ c.asks.invariant.ready c.in_ok-install_between.ensures.goes c.in_ok-install_between.ensures.only c.in_ok-install_between.ensures.idle) c.ask_one.ensures.moments c.in_ok-ask_one.ensures.goes)
     c.in_ok-install_between.ensures.only.asks c.in_ok-install_between.ensures.only.config c.in_ok-ask_one.ensures.same.config (c.in_ok-ask_one.ensures.more c.if-not-branch.false)
 
 pub returns-then-not-branch-clause-unsettled : goal.returns-then-not-branch-clause-unsettled

@@ -1,4 +1,4 @@
-use Rattle.std.proofs.Common.{◌≡◌, true, ◌-◌, length}
+use Rattle.std.proofs.Common.{◌≡◌, true, ◌-◌, [], ◌∷◌, length}
 use Rattle.acq_outside.specs.Fetches.{Fetches}
 use Rattle.acq_outside.specs.States.{Since}
 use Rattle.acq_outside.specs.Stays.{HasStayed}
@@ -12,8 +12,8 @@ use Rattle.update_engine.proofs.looping.ask_until_done.Given as goal
 
 abbrev pub invariant-asks : goal.invariant-asks
 invariant-asks g l = record {
-  goes : RunGoesOn (g.M.Method.world l.fn.method) (g.M.Method.faults l.fn.method) (g.M.Method.faults l.method) (board_of l.fn.board) (board_of l.board) (g.D.Disk.trace l.fn.disk) (g.D.Disk.trace l.disk);
-  ready : MayAsk (g.M.Method.world l.method) (g.M.Method.faults l.method) (board_of l.board) (g.D.Disk.trace l.disk);
+  goes : RunGoesOn (g.M.Method.world l.fn.method ∷ []) (g.M.Method.faults l.fn.method ∷ []) (g.M.Method.faults l.method ∷ []) (board_of l.fn.board) (board_of l.board) (g.D.Disk.trace l.fn.disk) (g.D.Disk.trace l.disk);
+  ready : MayAsk (g.M.Method.world l.method ∷ []) (g.M.Method.faults l.method ∷ []) (board_of l.board) (g.D.Disk.trace l.disk);
   bare : l.together ≡ true → Since (g.D.Disk.trace l.fn.disk) (g.D.Disk.trace l.disk) (KeptAtRestSince (g.D.Disk.trace l.fn.disk));
   unsettled : l.together ≡ true → (board_of l.board).settled ≡ (board_of l.fn.board).settled;
   config : (board_of l.board).config ≡ (board_of l.fn.board).config;
