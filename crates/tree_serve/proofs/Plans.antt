@@ -7,7 +7,7 @@ use Rattle.acq_outside.specs.Tree.{TreeFiles}
 use Rattle.http_requests.specs.Asked.{fields_of, is_last, is_proper, method_of, part_asked, path_of, request_of}
 use Rattle.http_requests.specs.declared.request.Request.{Request}
 use Rattle.tree_serve.specs.Answers.{IsAnswerBy, IsOf, answer_by, answer_to, closes_by, size_at}
-use Rattle.tree_serve.specs.Planned.{IsPlanFor, IsPlanOf, IsWithin, part_at, planned_by}
+use Rattle.tree_serve.specs.Planned.{IsPlanFor, IsPlanOf, IsSmall, IsWithin, part_at, planned_by}
 use Rattle.tree_serve.specs.Texts.{body_length, body_of, body_start, content_at, head_text, is_bare, response_text, response_to}
 use Rattle.tree_serve.specs.declared.answer.Answer.{Answer}
 use Rattle.tree_serve.specs.declared.planned.Planned.{Planned}
@@ -45,10 +45,10 @@ left_within files path answer true of = start_within (content_at files path) ans
 left_within files path answer false of = body_within (content_at files path) answer of
 
 -- of the request's head
-plan_of_head : (files : TreeFiles) (root : List ℕ) (number : ℕ) (h : RequestHead) (answer : Answer) → IsOf (content_at files (root ++ path_of h.target)) answer → answer ≡ answer_to files root h
+plan_of_head : (files : TreeFiles) (root : List ℕ) (number : ℕ) (h : RequestHead) (answer : Answer) → IsOf (content_at files (root ++ path_of h.target)) answer → IsSmall answer → answer ≡ answer_to files root h
     → IsPlanOf files root number h (planned_by (head_text answer (closes_by answer (is_last h.minor (fields_of h)) number)) (root ++ path_of h.target) answer (is_bare (method_of h.method)) (not (closes_by answer (is_last h.minor (fields_of h)) number)))
 unfolding response_to
-plan_of_head files root number h answer of is =
+plan_of_head files root number h answer of small is =
     let path = root ++ path_of h.target in
     let file = content_at files path in
     let last = is_last h.minor (fields_of h) in
@@ -57,13 +57,14 @@ plan_of_head files root number h answer of is =
       sends = ap (λ b. head_text answer (closes_by answer last number) ++ b) (sent_behind files path answer bare of) ∙ ap (λ a. response_text file a (closes_by a last number) bare) is;
       keep = ap (λ a. not (closes_by a last number)) is;
       within = left_within files path answer bare of;
+      small = subst IsSmall is small;
     }
 
 pub plan_for : (files : TreeFiles) (root : List ℕ) (number : ℕ) (request : Request) (h : RequestHead) (answer : Answer) (close : Bool) (head path : List ℕ) (bare : Bool)
-    → request ≡ request_of h → path ≡ root ++ request.path → IsOf (content_at files path) answer → IsAnswerBy (size_at files path) request answer
+    → request ≡ request_of h → path ≡ root ++ request.path → IsOf (content_at files path) answer → IsSmall answer → IsAnswerBy (size_at files path) request answer
     → close ≡ closes_by answer request.last number → head ≡ head_text answer close → bare ≡ is_bare request.method
     → IsPlanOf files root number h (planned_by head path answer bare (not close))
-plan_for files root number request h answer close head path bare asks path_is of answers close_is head_is bare_is =
+plan_for files root number request h answer close head path bare asks path_is of small answers close_is head_is bare_is =
     let asked = part_asked (method_of h.method) (fields_of h) in
     let last = is_last h.minor (fields_of h) in
     let path_so : path ≡ root ++ path_of h.target = path_is ∙ ap (λ r. root ++ r.path) asks in
@@ -79,16 +80,16 @@ plan_for files root number request h answer close head path bare asks path_is of
     ∙ ap (λ p. planned_by (head_text answer (closes_by answer last number)) p answer bare (not close)) path_so
     ∙ ap (λ b. planned_by (head_text answer (closes_by answer last number)) (root ++ path_of h.target) answer b (not close)) bare_so
     ∙ ap (λ c. planned_by (head_text answer (closes_by answer last number)) (root ++ path_of h.target) answer (is_bare (method_of h.method)) (not c)) close_so in
-    subst (IsPlanOf files root number h) (sym planned_so) (plan_of_head files root number h answer (subst (λ p. IsOf (content_at files p) answer) path_so of) answer_so)
+    subst (IsPlanOf files root number h) (sym planned_so) (plan_of_head files root number h answer (subst (λ p. IsOf (content_at files p) answer) path_so of) small answer_so)
 
 -- where the tree tells its files
 pub planned_in : (told : Option TreeFiles) (root : List ℕ) (number : ℕ) (request : Request) (answer : Answer) (close : Bool) (head path : List ℕ) (bare : Bool) (planned : Planned)
-    → path ≡ root ++ request.path → IfSome told (λ files. IsOf (content_at files path) answer) → IfSome told (λ files. IsAnswerBy (size_at files path) request answer)
+    → path ≡ root ++ request.path → IfSome told (λ files. IsOf (content_at files path) answer) → IsSmall answer → IfSome told (λ files. IsAnswerBy (size_at files path) request answer)
     → close ≡ closes_by answer request.last number → head ≡ head_text answer close → bare ≡ is_bare request.method → planned ≡ planned_by head path answer bare (not close)
     → IfSome told (λ files. IsPlanFor files root number request planned)
-planned_in None root number request answer close head path bare planned path_is of answers close_is head_is bare_is is = tt
-planned_in (Some files) root number request answer close head path bare planned path_is of answers close_is head_is bare_is is = λ h asks.
-    subst (IsPlanOf files root number h) (sym is) (plan_for files root number request h answer close head path bare asks path_is of answers close_is head_is bare_is)
+planned_in None root number request answer close head path bare planned path_is of small answers close_is head_is bare_is is = tt
+planned_in (Some files) root number request answer close head path bare planned path_is of small answers close_is head_is bare_is is = λ h asks.
+    subst (IsPlanOf files root number h) (sym is) (plan_for files root number request h answer close head path bare asks path_is of small answers close_is head_is bare_is)
 
 -- the file has what is to be sent of it
 pub within_in : (told : Option TreeFiles) (answer : Answer) (close : Bool) (head path : List ℕ) (bare : Bool) (planned : Planned) → IfSome told (λ files. IsOf (content_at files path) answer) → planned ≡ planned_by head path answer bare (not close)

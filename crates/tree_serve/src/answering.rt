@@ -3,6 +3,7 @@ ghost use Rattle.std.specs.Prelude.{◌≡◌, ℕ, Option, IfOk, IfSome, option
 ghost use Rattle.acq_outside.specs.Frame.{LooksBy};
 ghost use Rattle.http_requests.specs.Asked.{capped};
 ghost use Rattle.tree_serve.specs.Answers as spec;
+ghost use Rattle.tree_serve.specs.Planned.{IsSmall};
 ghost use Rattle.tree_serve.specs.Texts.{content_at};
 
 use crate::Answer;
@@ -19,6 +20,7 @@ pub const MOST_RESPONSES: u64 = 10_000;
 pub fn answer<T: Tree>(tree: &mut T, path: &Text, request: &Request) -> Result<Answer, Fault>
     ensures frame { LooksBy T.faults T.files tree.old tree.new result }
     ensures sound { IfOk result spec.IsSound }
+    ensures small { IfOk result IsSmall }
     ensures of { IfSome (T.files tree.old) (λ files. IfOk result (spec.IsOf (content_at files path.now))) }
     ensures told { IfSome (T.files tree.old) (λ files. IfOk result (spec.IsAnswerBy (spec.size_at files path.now) request.now)) }
 {
@@ -35,6 +37,7 @@ pub fn answer<T: Tree>(tree: &mut T, path: &Text, request: &Request) -> Result<A
 fn file_answer<T: Tree>(tree: &mut T, path: &Text, request: &Request) -> Result<Answer, Fault>
     ensures frame { LooksBy T.faults T.files tree.old tree.new result }
     ensures sound { IfOk result spec.IsSound }
+    ensures small { IfOk result IsSmall }
     ensures of { IfSome (T.files tree.old) (λ files. IfOk result (spec.IsOf (content_at files path.now))) }
     ensures told { IfSome (T.files tree.old) (λ files.
         IfOk result (spec.IsFileAnswer (spec.size_at files path.now) request.now.path request.now.from)) }
@@ -49,6 +52,7 @@ fn file_answer<T: Tree>(tree: &mut T, path: &Text, request: &Request) -> Result<
 /// What is sent of a file of so many bytes.
 fn of_size(size: Option<u64>, from: Option<u64>) -> Answer
     ensures sound { spec.IsSound result }
+    ensures small { IsSmall result }
     ensures value { result ≡ spec.of_size size from }
     ensures capped { (asked : Option ℕ) → from ≡ option_map capped asked → result ≡ spec.of_size size asked }
 {
