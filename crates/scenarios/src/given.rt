@@ -47,6 +47,14 @@ pub struct Configured {
     pub content: Bytes,
 }
 
+/// A server of the tree over HTTP: of its files below a root, at a host's port.
+#[derive(Drop)]
+pub struct Server {
+    pub root: Text,
+    pub host: Text,
+    pub port: u16,
+}
+
 /// Rows that are given to each run until lines of a further run give others.
 #[derive(Drop)]
 pub struct Kept<T> {
@@ -153,6 +161,8 @@ pub struct Given {
     pub kind: Kind,
     /// The files that a tree serves.
     pub tree: Kept<(Text, Bytes)>,
+    /// By what they are served over HTTP, if they are.
+    pub server: Option<Server>,
     /// What the peer of each connection says, piece by piece.
     pub peers: Kept<Row<Bytes>>,
     /// The lists folder before the run.
@@ -178,6 +188,7 @@ impl Given {
             faulty: Kept::new(alloc),
             kind: Kind::Call,
             tree: Kept::new(alloc),
+            server: None,
             peers: Kept::new(alloc),
             disk: BTreeMap::new(alloc),
             former: false,

@@ -1,6 +1,6 @@
 //! The lines of a scenario.
 
-use crate::given::{Configured, Fails, Given, Has, Kind, Stop, Tell};
+use crate::given::{Configured, Fails, Given, Has, Kind, Server, Stop, Tell};
 use crate::quoted::{read_bytes, read_named, read_pieces};
 use crate::refused::{Refused, said, utf8};
 use acq_base::{Bytes, Row, Text};
@@ -28,6 +28,7 @@ fn take_way(alloc: Global, given: &mut Given, kind: &str, rest: &str) -> Result<
     match kind {
         "now" => given.now = said(rest.parse::<i64>())?,
         "methods" => given.methods = said(rest.parse::<u8>())?,
+        "server" => given.server = Some(read_server(alloc, rest)?),
         "fails" => take_fails(&mut given.fails, rest)?,
         "stop" => given.stop = read_stop(alloc, rest)?,
         "tell" => take_tell(&mut given.tell, rest)?,
@@ -106,6 +107,17 @@ fn read_has(alloc: Global, rest: &str) -> Result<Has, Refused> {
 fn read_file(alloc: Global, rest: &str) -> Result<(Text, Bytes), Refused> {
     let (path, content) = read_named(alloc, rest)?;
     Ok((Text::from_bytes(alloc, path.as_bytes())?, content))
+}
+
+/// The root of a server, its host and its port.
+fn read_server(alloc: Global, rest: &str) -> Result<Server, Refused> {
+    let (root, place) = halves(rest);
+    let (host, port) = halves(place);
+    Ok(Server {
+        root: Text::from_bytes(alloc, root.as_bytes())?,
+        host: Text::from_bytes(alloc, host.as_bytes())?,
+        port: said(port.parse::<u16>())?,
+    })
 }
 
 fn take_file(alloc: Global, given: &mut Given, rest: &str) -> Result<(), Refused> {

@@ -13,6 +13,7 @@
 //! | `mirror URI served "B"`, `letters N` | what a mirror has: a file, or one of so many letters `a` |
 //! | `mirror URI moved URI`, `moved -`, `absent N` | a move, one to no URI of this profile, or a refusal with this status |
 //! | `tree PATH "B"` | a file of a tree, in place of a mirror |
+//! | `server ROOT HOST PORT` | the tree's files below ROOT are asked for over HTTP, of the program's own server at this place |
 //! | `peer "B" "B" ..` | what the peer of the next connection says, piece by piece, in place of a mirror |
 //! | `methods N` | how many methods there are |
 //! | `disk NAME "B"` | a file of the lists folder before |

@@ -4,7 +4,7 @@ ghost use Rattle.std.specs.Prelude.{IfOk};
 ghost use Rattle.acq_base.specs.Fetch.{IsSoundAnswer};
 ghost use Rattle.acq_memory.specs.MapMethod.{HasSoundAnswers};
 
-use crate::given::{Configured, Folder, Given, Has};
+use crate::given::{Configured, Folder, Given, Has, Server};
 use crate::refused::Refused;
 use acq_base::{Answer, Bytes, Mirror, NoMemory, Row, Text, TryCopy};
 use acq_memory::{MapMethod, MemDisk, MemEtc, MemTree};
@@ -12,8 +12,12 @@ use acq_net::ScriptLink;
 use acq_outside::Place;
 use file_method::FileMethod;
 use http_method::HttpMethod;
+use served_link::ServedLink;
 use std::alloc::Global;
 use uri_names::read_uri;
+
+/// A method over HTTP whose peer is a server in memory.
+pub type Served = HttpMethod<ServedLink<MemTree>>;
 
 fn letters(alloc: Global, size: u64) -> Result<Bytes, NoMemory> {
     let mut bytes = Bytes::new(alloc);
@@ -64,6 +68,15 @@ fn named(alloc: Global, name: &Text, content: &Bytes) -> Result<(Text, Bytes), N
 pub fn file_method(alloc: Global, given: &Given) -> Result<FileMethod<MemTree>, Refused> {
     let failing = given.fails.tree.copy(alloc)?;
     Ok(FileMethod::new(tree(alloc, given.tree.as_slice(), failing)?))
+}
+
+/// A method that asks the server of the tree's files.
+pub fn served_method(alloc: Global, given: &Given, server: &Server) -> Result<Served, Refused> {
+    let failing = given.fails.tree.copy(alloc)?;
+    let tree = tree(alloc, given.tree.as_slice(), failing)?;
+    let root = server.root.copy(alloc)?;
+    let host = server.host.copy(alloc)?;
+    Ok(HttpMethod::new(ServedLink::new(alloc, tree, root, host, server.port)))
 }
 
 /// A tree of these files.

@@ -1,12 +1,14 @@
 //! Runs the top call over what is given.
 
-use crate::given::Given;
-use crate::objects::{etc_of, file_method, http_method, map_method};
+use crate::given::{Given, Server};
+use crate::objects::{Served, etc_of, file_method, http_method, map_method, served_method};
 use crate::refused::Refused;
 use crate::watch::Watch;
 use acq_base::TryCopy;
-use acq_memory::{MemDisk, MemSink};
+use acq_memory::{MemDisk, MemEtc, MemSink};
 use acq_outside::Method;
+use served_update::update_served;
+use std::alloc::Global;
 use std::sync::Wait;
 use std::thread::Threads;
 use update_model::RunLog;
@@ -31,6 +33,36 @@ impl Came {
     }
 }
 
+/// What a call is lent beside the lists folder and the methods.
+#[derive(Drop)]
+struct Lent {
+    etc: MemEtc,
+    clock: Watch,
+    out: MemSink,
+}
+
+impl Lent {
+    /// Objects of what is given.
+    fn new(alloc: Global, given: &Given) -> Result<Lent, Refused> {
+        Ok(Lent {
+            etc: etc_of(alloc, given)?,
+            clock: Watch::new(given.now),
+            out: MemSink::new(alloc, given.fails.sink.copy(alloc)?),
+        })
+    }
+
+    /// What a call that was lent them came to.
+    fn came(self, ran: Ran, faults: u64) -> Came {
+        Came {
+            status: ran.status.0,
+            moments: self.clock.given(),
+            out: self.out,
+            log: ran.log,
+            faults,
+        }
+    }
+}
+
 /// Carries the words out over a lists folder and these methods.
 fn called<R, M>(
     rt: &R,
@@ -45,26 +77,45 @@ where
     if methods.is_empty() || methods.len() > 9 {
         return Err(Refused::Methods);
     }
-    let alloc = rt.alloc();
-    let mut etc = etc_of(alloc, given)?;
-    let mut clock = Watch::new(given.now);
-    let mut out = MemSink::new(alloc, given.fails.sink.copy(alloc)?);
-    let Ran { status, log } = update_call(
+    let mut lent = Lent::new(rt.alloc(), given)?;
+    let words = given.words.as_slice();
+    let ran = update_call(
         rt,
-        given.words.as_slice(),
-        &mut etc,
+        words,
+        &mut lent.etc,
         disk,
         methods,
-        &mut clock,
-        &mut out,
+        &mut lent.clock,
+        &mut lent.out,
     );
-    Ok(Came {
-        status: status.0,
-        out,
-        log,
-        faults: faults_of(methods.as_slice()),
-        moments: clock.given(),
-    })
+    Ok(lent.came(ran, faults_of(methods.as_slice())))
+}
+
+/// The same over methods whose peer is a server in memory.
+fn called_served<R>(
+    rt: &R,
+    given: &Given,
+    disk: &mut MemDisk,
+    methods: &mut Vec<Served>,
+) -> Result<Came, Refused>
+where
+    R: AllocGlobal + Threads + Wait + Copy + Send + 'static,
+{
+    if methods.is_empty() || methods.len() > 9 {
+        return Err(Refused::Methods);
+    }
+    let mut lent = Lent::new(rt.alloc(), given)?;
+    let words = given.words.as_slice();
+    let ran = update_served(
+        rt,
+        words,
+        &mut lent.etc,
+        disk,
+        methods,
+        &mut lent.clock,
+        &mut lent.out,
+    );
+    Ok(lent.came(ran, faults_of(methods.as_slice())))
 }
 
 /// How often methods failed.
@@ -76,7 +127,8 @@ fn faults_of<M: Method>(methods: &[M]) -> u64 {
     faults
 }
 
-/// Carries the words out over a lists folder: from peers or a tree where there are any, else from the mirror.
+/// Carries the words out over a lists folder: from peers or a tree, by its server if it has one, where there are any, else
+/// from the mirror.
 pub fn came_to<R>(rt: &R, given: &Given, disk: &mut MemDisk) -> Result<Came, Refused>
 where
     R: AllocGlobal + Threads + Wait + Copy + Send + 'static,
@@ -109,11 +161,30 @@ fn over_tree<R>(rt: &R, given: &Given, disk: &mut MemDisk) -> Result<Came, Refus
 where
     R: AllocGlobal + Threads + Wait + Copy + Send + 'static,
 {
+    if let Some(server) = &given.server {
+        return over_server(rt, given, server, disk);
+    }
     let mut methods = Vec::new(rt.alloc());
     for _ in 0..given.methods {
         methods.push(file_method(rt.alloc(), given)?)?;
     }
     called(rt, given, disk, &mut methods)
+}
+
+fn over_server<R>(
+    rt: &R,
+    given: &Given,
+    server: &Server,
+    disk: &mut MemDisk,
+) -> Result<Came, Refused>
+where
+    R: AllocGlobal + Threads + Wait + Copy + Send + 'static,
+{
+    let mut methods = Vec::new(rt.alloc());
+    for _ in 0..given.methods {
+        methods.push(served_method(rt.alloc(), given, server)?)?;
+    }
+    called_served(rt, given, disk, &mut methods)
 }
 
 fn over_peers<R>(rt: &R, given: &Given, disk: &mut MemDisk) -> Result<Came, Refused>

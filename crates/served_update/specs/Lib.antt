@@ -1,0 +1,2 @@
+-- Cited by public clauses.
+pub mod Served
