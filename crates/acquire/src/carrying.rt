@@ -7,7 +7,7 @@ ghost use Rattle.acquire.specs.Carried.{CarriesOut};
 
 use crate::exit_code;
 use crate::outside::{open, open_aside};
-use crate::place::place_for;
+use crate::place::{partial_to_make, place_for, remove_made};
 use acq_net::{Port, TcpPort};
 use acq_outside::{Clock, Disk, Etc, Files, Inlet, Method, Sink, Tree};
 use acq_real::{RealClock, RealDisk, RealEtc, RealFiles, RealSink, RealTree};
@@ -22,6 +22,7 @@ use update_program::{Status, program_call};
 
 /// Reads the words and the folders that the environment names, and carries the words out over these folders, one method and an
 /// input.
+/// The folder `partial` that a download made is removed where it is empty in the end.
 /// It answers the status of that call, or of the refusal where words or a variable can't be read.
 pub fn carry_out<V, R, M, I>(
     rt: R,
@@ -63,6 +64,7 @@ where
     let Ok(mut aside) = open_aside(rt, input, place.as_str()) else {
         return exit_code(Status(write_refusal(Refused::NoMemory, out)));
     };
+    let partial = partial_to_make(rt.alloc(), &rt, place.as_str(), start.words.as_slice());
     let ran = program_call(
         &rt,
         start.words.as_slice(),
@@ -73,5 +75,6 @@ where
         out,
         &mut aside,
     );
+    remove_made(&rt, partial);
     exit_code(ran.status)
 }

@@ -4,6 +4,7 @@
 //! A line is an object, a call and its arguments, with one blank between them. `disk`, `etc`, `tree`, `written`, `clock`,
 //! `input`, `sink`, `link` and `port` are the objects of the operating system that `acq_real` and `acq_net` have; `files` is
 //! the system itself, by which something is put or taken away behind their backs, and `peer` the other side of the link.
+//! `loopback serve FOLDER PATH` serves a folder in one thread and asks for a path over TCP in another.
 //! `memory` is a lists folder in memory, and `memory-written`, `memory-input` and `memory-port` are written files, an input
 //! and a port in memory. The program's own standard input holds the lines, so `input` reads a file in its place. In an
 //! argument `\n` and `\r` are line ends, `\x20` is the byte of that number, and `""` is the empty text. An empty line and one
@@ -12,6 +13,7 @@
 
 use objects::Objects;
 use page::Page;
+use std::thread::Threads;
 use std::{env, fs, io, process};
 
 mod answers;
@@ -20,6 +22,7 @@ mod etc;
 mod files;
 mod folder;
 mod input;
+mod loopback;
 mod memory;
 mod network;
 mod objects;
@@ -34,7 +37,7 @@ mod written;
 fn main(rt: HostRuntime) -> io::Result<()> {
     let own = own_folder(&rt)?;
     fs::create_dir(&rt, own.as_str())?;
-    let ran = answer_all(rt, own.as_str());
+    let ran = answer_all(&rt, rt, own.as_str());
     fs::remove_dir_all(&rt, own.as_str())?;
     ran
 }
@@ -47,22 +50,31 @@ fn own_folder(rt: &HostRuntime) -> io::Result<String> {
     Ok(format!(in alloc; "{}/object_calls_{id}", temporary.as_str())?)
 }
 
-/// Answers each line.
-fn answer_all(rt: HostRuntime, own: &str) -> io::Result<()> {
+/// Answers each line. The threads are those of the system.
+fn answer_all<T: Threads>(threads: &T, rt: HostRuntime, own: &str) -> io::Result<()> {
     let mut objects = Objects::new(rt, own)?;
     for line in rt.lines(rt.alloc()) {
-        answer(rt, &mut objects, line?.as_str())?;
+        answer(threads, rt, own, &mut objects, line?.as_str())?;
     }
     Ok(())
 }
 
 /// Prints a line, behind a call what it answers.
-fn answer(rt: HostRuntime, objects: &mut Objects, line: &str) -> io::Result<()> {
+fn answer<T: Threads>(
+    threads: &T,
+    rt: HostRuntime,
+    own: &str,
+    objects: &mut Objects,
+    line: &str,
+) -> io::Result<()> {
     if line.is_empty() || line.starts_with('#') {
         return println!(rt; "{line}");
     }
     let mut page = Page::new(rt.alloc());
-    let answered = objects.answer(&mut page, line);
+    let answered = match line.strip_prefix("loopback serve ") {
+        Some(words) => loopback::answer(threads, rt, &mut page, own, words),
+        None => objects.answer(&mut page, line),
+    };
     match (answered, page.text()) {
         (Ok(()), Ok(text)) => println!(rt; "{line} -> {text}"),
         (Err(refused), _) | (_, Err(refused)) => println!(rt; "{line} -> {refused}"),

@@ -75,7 +75,7 @@ impl Network {
 }
 
 /// A number at which nobody listens.
-fn free_number(rt: &HostRuntime) -> Result<u16, Refused> {
+pub fn free_number(rt: &HostRuntime) -> Result<u16, Refused> {
     Ok(TcpListener::bind(rt, "127.0.0.1:0")?.local_addr()?.port())
 }
 

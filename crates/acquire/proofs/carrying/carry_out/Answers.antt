@@ -9,8 +9,8 @@ returns g c =
     let begun = c.in-Ok.ensures in
     let call = c.program_call-ran.ensures in
     inr (inr (record {
-      words = c.as_slice-2.result.now;
-      words_are = rw c.as_slice-2.ensures.value begun.words;
+      words = c.as_slice-3.result.now;
+      words_are = rw c.as_slice-3.ensures.value begun.words;
       folders_are = begun.folders;
       etc = c.in-Ok-open.outside.etc;
       etc_is = named_by _ _ _ etc_of c.in-Ok-open.ensures.etc begun.etc;
@@ -35,7 +35,7 @@ returns g c =
       serves = rw begun.untouched at call.serves;
       place = c.in-Ok-open_aside.aside.place;
       place' = c.program_call-ran.new.aside.place;
-      place_is = rw c.as_slice-2.ensures.value (place_by _ _ _ (map string_bytes c.in-Ok.start.words.items) (c.in-Ok-open_aside.ensures.place ∙ c.as_str.ensures.value) (rw c.as_slice.ensures.value at c.in-Ok-place_for.ensures.place));
+      place_is = rw c.as_slice-3.ensures.value (place_by _ _ _ (map string_bytes c.in-Ok.start.words.items) (c.in-Ok-open_aside.ensures.place ∙ c.as_str.ensures.value) (rw c.as_slice.ensures.value at c.in-Ok-place_for.ensures.place));
       downloads = rw begun.untouched at call.downloads;
     }))
 
