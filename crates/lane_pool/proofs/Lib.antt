@@ -1,6 +1,8 @@
 pub mod Counts
 pub mod Rows
 pub mod Rules
+pub mod JobRules
+pub mod Counted
 pub mod Heard
 pub mod Slots
 pub mod Standing

@@ -16,8 +16,8 @@ use Rattle.lane_pool.proofs.Rows.{get_snoc_or, get_last_or}
 module _ {M : Type 0} (world : M → Option MirrorMap) where
   -- one lane more
   pub opened : (replies replies' : Replies) (lanes : List (Lane M)) (p : Lane M) (w : Option MirrorMap) (count number : ℕ) → AreLanes world replies lanes → replies'.sends ≡ replies.sends
-      → view replies'.pass ≡ with_lane w count (view replies.pass) → p.worker.lane ≡ number → number ≡ length lanes + 1 → sends_on p.worker.sends.value ≡ sends_on replies.sends
-      → w ≡ world p.worker.method.value → p.last ≡ count → AreLanes world replies' (lanes ++ p ∷ [])
+      → view replies'.pass ≡ with_lane w count (view replies.pass) → p.worker.promise.lane ≡ number → number ≡ length lanes + 1 → sends_on p.worker.promise.sends.value ≡ sends_on replies.sends
+      → w ≡ world p.worker.promise.method.value → p.last ≡ count → AreLanes world replies' (lanes ++ p ∷ [])
   opened replies replies' lanes p w count number s e v lane is on mirror last =
       let u : View = view replies.pass in
       let grown : length (lanes ++ p ∷ []) ≡ length lanes + 1 = length-append lanes (p ∷ []) in

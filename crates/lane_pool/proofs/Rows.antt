@@ -1,6 +1,11 @@
 -- Rows that grow at their end, and rows in which one place changes.
-use Rattle.std.proofs.Common.{◌≡◌, ℕ, zero, suc, ◌-◌, ◌<◌, ◌≤◌, List, [], ◌∷◌, ◌++◌, map, length, set, get_or, Some, refl, ap, ◌∙◌, arith}
+use Rattle.std.proofs.Common.{◌≡◌, ◌≢◌, ℕ, zero, suc, ◌-◌, ◌<◌, ◌≤◌, List, [], ◌∷◌, ◌++◌, map, length, set, get_or, Some, sym, refl, ap, ◌∙◌, subst, ⊎_elim, arith}
+use mathlib.Core.Option.{some, some-ne-none}
+use mathlib.Core.Logic.{dite}
+use native.Mathlib.Decide.{ℕ_discrete}
+use lib.ListN.{get_elem?}
 use Rattle.std.specs.List.{slice_get}
+use Rattle.atomic_table.proofs.Lists.{at_set, at_snoc}
 use Rattle.std.proofs.lemmas.List.{get_or-map, map-set}
 use Rattle.acq_outside.specs.Count.{NoneFell}
 
@@ -32,6 +37,31 @@ slice_get_map f (x ∷ xs) (suc k) d h = slice_get_map f xs k d (omega arith)
 pub slice_get_behind : {A B : Type 0} (f : A → B) (b : B) (xs : List A) (d : A) (lane : ℕ) → 0 < lane → lane - 1 < length xs → slice_get (b ∷ map f xs) lane ≡ Some (f (get_or xs (lane - 1) d))
 slice_get_behind f b xs d zero h there = absurd (omega arith)
 slice_get_behind f b xs d (suc k) h there = slice_get_map f xs k d (omega arith) ∙ ap (λ (n : ℕ). Some (f (get_or xs n d))) (omega arith)
+
+-- views of a rule, each with its pass
+pub inside : {A : Type 0} (l : List A) (j : ℕ) (b : A) → get_elem? l j ≡ some b → j < length l
+inside [] j b e = absurd (some-ne-none b (sym e))
+inside (x ∷ xs) zero b e = omega arith
+inside (x ∷ xs) (suc j) b e = let h = inside xs j b e in omega arith
+
+pub all_set : {A : Type 0} (F : ℕ → A → Type 0) (views : List A) (pass : ℕ) (w : A) → F pass w → ((j : ℕ) (u : A) → j ≢ pass → get_elem? views j ≡ some u → F j u)
+    → (j : ℕ) (u : A) → get_elem? (set views pass w) j ≡ some u → F j u
+all_set {A} F views pass w mine others j u e = ⊎_elim
+    (λ (x : (j ≡ pass) × (w ≡ u)). subst (λ (y : ℕ × A). F y.0 y.1) (λ i. (sym x.0 i, x.1 i)) mine)
+    (λ (x : (j ≢ pass) × (get_elem? views j ≡ some u)). others j u x.0 x.1) (at_set views pass j w u e)
+
+pub all_snoc : {A : Type 0} (F : ℕ → A → Type 0) (views : List A) (w : A) → F (length views) w → ((j : ℕ) (u : A) → get_elem? views j ≡ some u → F j u)
+    → (j : ℕ) (u : A) → get_elem? (views ++ w ∷ []) j ≡ some u → F j u
+all_snoc {A} F views w mine old j u e = dite (ℕ_discrete j (length views))
+    (λ (is : j ≡ length views). ⊎_elim (λ (x : get_elem? views j ≡ some u). absurd (let h = inside views j u x in omega arith))
+    (λ (x : w ≡ u). subst (λ (y : ℕ × A). F y.0 y.1) (λ i. (sym is i, x i)) mine) (at_snoc views w u j e))
+    (λ (no : j ≢ length views). old j u (from_snoc views w u j no e))
+  where
+    from_snoc : (l : List A) (a b : A) (j : ℕ) → j ≢ length l → get_elem? (l ++ a ∷ []) j ≡ some b → get_elem? l j ≡ some b
+    from_snoc [] a b zero n e = absurd (n refl)
+    from_snoc [] a b (suc j) n e = e
+    from_snoc (x ∷ xs) a b zero n e = e
+    from_snoc (x ∷ xs) a b (suc j) n e = from_snoc xs a b j (λ h. n (ap suc h)) e
 
 -- counts that don't fall
 pub none_fell_refl : (xs : List ℕ) → NoneFell xs xs

@@ -14,7 +14,7 @@ use Rattle.lane_pool.specs.declared.rule.View.{View}
 use Rattle.lane_pool.specs.Words.{count_after, IsWordTo, IsInOrder}
 use Rattle.lane_pool.specs.Rule.{worker, gone, fresh, with_lane, worker_of, with_note, after_receive, IsSent, IsReceived, AreBounded, FitsWaiting, FitsCoordinator, FitsWorker, FitsView, IsKept}
 use Rattle.lane_pool.proofs.Counts.{rises_to, tells_within}
-use Rattle.lane_pool.proofs.Rows.{get_snoc_or, get_last_or}
+use Rattle.lane_pool.proofs.Rows.{get_snoc_or, get_last_or, all_set, all_snoc}
 
 -- f, but b at a
 abbrev put : {A : Type 0} → (ℕ → A) → ℕ → A → ℕ → A
@@ -25,11 +25,6 @@ put_here f a b l e = ap (λ t. cond t b (f l)) (eq-eqb l a e)
 
 put_else : {A : Type 0} (f : ℕ → A) (a : ℕ) (b : A) (l : ℕ) → l ≢ a → put f a b l ≡ f l
 put_else f a b l e = ap (λ t. cond t b (f l)) (ne_eqb l a e)
-
-inside : (l : List View) (j : ℕ) (b : View) → get_elem? l j ≡ some b → j < length l
-inside [] j b e = absurd (some-ne-none b (sym e))
-inside (x ∷ xs) zero b e = omega arith
-inside (x ∷ xs) (suc j) b e = let h = inside xs j b e in omega arith
 
 get_snoc : (l : List ℕ) (a j : ℕ) → j < length l → get_or (l ++ a ∷ []) j 0 ≡ get_or l j 0
 get_snoc l a j h = get_snoc_or l a 0 j h
@@ -48,22 +43,10 @@ Each F views = (pass : ℕ) (v : View) → get_elem? views pass ≡ some v → v
 
 each_set : (F : ℕ → View → Type 0) (views : List View) (pass : ℕ) (w : View) → (w.live ≡ true → F pass w)
     → ((j : ℕ) (u : View) → j ≢ pass → get_elem? views j ≡ some u → u.live ≡ true → F j u) → Each F (set views pass w)
-each_set F views pass w mine others j u e live = ⊎_elim
-    (λ (x : (j ≡ pass) × (w ≡ u)). subst (λ (y : ℕ × View). F y.0 y.1) (λ i. (sym x.0 i, x.1 i)) (mine (ap (λ (y : View). y.live) x.1 ∙ live)))
-    (λ (x : (j ≢ pass) × (get_elem? views j ≡ some u)). others j u x.0 x.1 live) (at_set views pass j w u e)
+each_set F views pass w mine others = all_set (λ j (u : View). u.live ≡ true → F j u) views pass w mine others
 
 each_snoc : (F : ℕ → View → Type 0) (views : List View) (w : View) → (w.live ≡ true → F (length views) w) → Each F views → Each F (views ++ w ∷ [])
-each_snoc F views w mine old j u e live = dite (ℕ_discrete j (length views))
-    (λ (is : j ≡ length views). ⊎_elim (λ (x : get_elem? views j ≡ some u). absurd (let h = inside views j u x in omega arith))
-    (λ (x : w ≡ u). subst (λ (y : ℕ × View). F y.0 y.1) (λ i. (sym is i, x i)) (mine (ap (λ (y : View). y.live) x ∙ live))) (at_snoc views w u j e))
-    (λ (no : j ≢ length views). ⊎_elim (λ (x : get_elem? views j ≡ some u). old j u x live)
-    (λ (x : w ≡ u). old j u (from_snoc views w u j no e) live) (at_snoc views w u j e))
-  where
-    from_snoc : (l : List View) (a b : View) (j : ℕ) → j ≢ length l → get_elem? (l ++ a ∷ []) j ≡ some b → get_elem? l j ≡ some b
-    from_snoc [] a b zero n e = absurd (n refl)
-    from_snoc [] a b (suc j) n e = e
-    from_snoc (x ∷ xs) a b zero n e = e
-    from_snoc (x ∷ xs) a b (suc j) n e = from_snoc xs a b j (λ h. n (ap suc h)) e
+each_snoc F views w mine old = all_snoc (λ j (u : View). u.live ≡ true → F j u) views w mine old
 
 none_dead : {P : Type 0} → false ≡ true → P
 none_dead e = absurd (true≢false (sym e))

@@ -1,6 +1,7 @@
 //! Ending the workers.
 ghost use Rattle.std.specs.Prelude.{◌≡◌, ◌<◌, map, vec_len, vec_capacity};
 ghost use Rattle.acq_outside.specs.Count.{NoneFell};
+ghost use Rattle.lane_pool.specs.Counting.{BegunAsHanded};
 ghost use Rattle.lane_pool.specs.Refinement.{AreBack, AreLanes};
 
 use crate::Lanes;
@@ -17,6 +18,7 @@ impl<M: Method + Send + 'static> Lanes<M> {
     pub fn finish<R: Threads + Wait>(mut self, rt: &R) -> Vec<M>
         ensures worlds { map M.world result.items ≡ self.worlds }
         ensures counts { NoneFell self.counts (map M.faults result.items) }
+        ensures begins { BegunAsHanded self.begins (map M.begins result.items) }
     {
         self.drain(rt);
         let Lanes {
@@ -39,6 +41,7 @@ impl<M: Method + Send + 'static> Lanes<M> {
     fn drain<R: Wait>(&mut self, rt: &R)
         ensures worlds { self.new.worlds ≡ self.old.worlds }
         ensures counts { NoneFell self.old.counts self.new.counts }
+        ensures begins { self.new.begins ≡ self.old.begins }
     {
         for _ in rt.forever() {
             if !self.has_out() || self.take(rt).is_none() {
@@ -49,7 +52,7 @@ impl<M: Method + Send + 'static> Lanes<M> {
 }
 
 /// Ends the workers in the order of their lanes, and adds their methods.
-fn join_all<M: Method + Send + 'static, R: Threads>(
+fn join_all<M: Method + Send + 'static, R: Threads + Wait>(
     rt: &R,
     replies: Replies,
     lanes: Vec<Lane<M>>,
@@ -57,13 +60,13 @@ fn join_all<M: Method + Send + 'static, R: Threads>(
 ) -> Vec<M>
     requires lanes { AreLanes M.world replies lanes.items }
     requires room { (vec_len all ≡ 1) × (vec_len lanes < vec_capacity all) }
-    ensures { AreBack M.world M.faults all.items lanes.items result.items }
+    ensures { AreBack M.world M.faults M.begins all.items lanes.items result.items }
 {
     let mut desk = replies.close();
     for lane in lanes {
-        let returned = lane.worker.join(rt);
-        desk.take_back(returned.pass);
-        let Ok(()) = all.push(returned.method) else {
+        let ended = lane.worker.join(rt);
+        desk.take_back(ended.pass);
+        let Ok(()) = all.push(ended.method) else {
             unreachable!()
         };
     }

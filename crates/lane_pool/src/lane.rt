@@ -1,5 +1,5 @@
 //! A worker's lane, as the coordinator keeps it.
-ghost use Rattle.std.specs.Prelude.{◌≡◌, ◌<◌, ◌↔◌, false, length, None, Some, IfSome, IfNone, IsTrue, MatchResult};
+ghost use Rattle.std.specs.Prelude.{◌≡◌, ◌<◌, ◌↔◌, ◌+◌, false, length, None, Some, IfSome, IfNone, IsTrue, MatchResult};
 ghost use Rattle.acq_base.specs.Uri.{IsSound};
 ghost use Rattle.acq_outside.specs.Word.{CanBegin, IsWithinLimit, after_word, begun};
 ghost use Rattle.crossbeam_channel.specs.Claims.{view};
@@ -9,14 +9,13 @@ ghost use Rattle.lane_pool.specs.Slot.{IsChecked, PassesTest};
 ghost use Rattle.lane_pool.specs.Words.{count_after, fetch_at, IsInOrder, StandsAt};
 
 use crate::Told;
+use crate::jobs::JobChannel;
 use crate::replies::Replies;
 use crate::rule::ReplySender;
 use crate::slot::FetchOut;
-use crate::work::Sent;
 use crate::worker::{Worker, hire};
 use acq_base::{Job, NotServed};
 use acq_outside::{Method, Word};
-use crossbeam_channel::{Receiver, Sender};
 use std::alloc::Global;
 use std::marker::Brand;
 use std::sync::Wait;
@@ -33,7 +32,7 @@ pub struct Lane<M: Method> {
 /// What a lane needs beside its method. All of its memory is taken here.
 #[derive(Drop)]
 pub struct Kit {
-    pub jobs: (Sender<Sent>, Receiver<Sent>),
+    pub jobs: JobChannel,
     pub sends: ReplySender,
     pub slot: FetchOut,
 }
@@ -51,9 +50,10 @@ pub fn open_lane<M: Method + Send + 'static, R: Threads + Wait + Copy + Send + '
     requires number { (number ≡ length (view replies.old.pass).taken) × (0 < number) }
     ensures sends { replies.new.sends ≡ replies.old.sends }
     ensures view { view replies.new.pass ≡ with_lane (M.world method) (M.faults method) (view replies.old.pass) }
-    ensures number { result.worker.lane ≡ number }
-    ensures on { sends_on result.worker.sends.value ≡ sends_on replies.old.sends }
-    ensures method { result.worker.method.value ≡ method }
+    ensures number { result.worker.promise.lane ≡ number }
+    ensures on { sends_on result.worker.promise.sends.value ≡ sends_on replies.old.sends }
+    ensures method { result.worker.promise.method.value ≡ method }
+    ensures handed { result.worker.handed ≡ 0 }
     ensures last { result.last ≡ M.faults method }
     ensures slot { result.slot ≡ kit.slot }
 {
@@ -72,9 +72,10 @@ impl<M: Method> Lane<M> {
     pub fn give<R: Wait>(&mut self, rt: &R, job: Job) -> Result<(), Job>
         requires sound { IsSound job.uri }
         requires from { CanBegin job }
-        ensures worker { self.new.worker ≡ self.old.worker }
+        ensures promise { self.new.worker.promise ≡ self.old.worker.promise }
         ensures last { self.new.last ≡ self.old.last }
         ensures out { MatchResult result (λ _. (self.old.slot ≡ None) × (self.new.slot ≡ Some (begun job))) (λ back. (back ≡ job) × (self.new.slot ≡ self.old.slot)) }
+        ensures handed { MatchResult result (λ _. self.new.worker.handed ≡ self.old.worker.handed + 1) (λ back. self.new.worker.handed ≡ self.old.worker.handed) }
     {
         if self.slot.is_out() {
             return Err(job);

@@ -1,9 +1,9 @@
 //! The lanes: jobs go out, and words come back.
-ghost use Rattle.std.specs.Prelude.{◌≡◌, ◌<◌, ℕ, None, Some, slice_get, slice_set, vec_len, vec_capacity, IfSome, IfNone, IfErr, IsSome, OnErr, OnOk};
+ghost use Rattle.std.specs.Prelude.{◌≡◌, ◌<◌, ℕ, None, Some, slice_get, slice_index, slice_set, vec_len, vec_capacity, IfSome, IfNone, IfErr, IsSome, MatchResult, OnErr, OnOk};
 ghost use Rattle.acq_base.specs.Uri.{IsSound};
 ghost use Rattle.acq_outside.specs.Word.{CanBegin, IsSoundWord, IsWord, begun};
-ghost use Rattle.acq_outside.specs.Count.{NoneFell};
-ghost use Rattle.lane_pool.specs.Pool.{IsWordTaken, OthersStay, own_count, own_fetch, own_world};
+ghost use Rattle.acq_outside.specs.Count.{NoneFell, one_more};
+ghost use Rattle.lane_pool.specs.Pool.{IsWordTaken, OthersStay, own_begins, own_count, own_fetch, own_world};
 ghost use Rattle.lane_pool.specs.Refinement.{AreLanes, pool_of};
 
 use crate::Told;
@@ -16,7 +16,8 @@ use std::marker::Model;
 use std::sync::Wait;
 
 /// The coordinator's own method, and the workers with theirs. Contracts see, by lane, the mirror that its method tells, its
-/// last count of faults, and the fetch that is out on it.
+/// last count of faults, the fetch that is out on it, and how many fetches were begun: of lane 0 just how many its method
+/// began, and of a worker's lane at most how many, a job that was handed out counting as one.
 ///
 /// It can't be dropped: `finish` ends the workers and gives the methods back.
 pub struct Lanes<M: Method> {
@@ -35,7 +36,7 @@ impl<M: Method> Model for Lanes<M> {
 
     ghost Value = { Pool };
 
-    ghost view = { λ s. pool_of M.world M.faults M.under s.own s.lanes.items };
+    ghost view = { λ s. pool_of M.world M.faults M.under M.begins s.own s.lanes.items };
 
     ghost invariant = { λ s. HasReplies M.world s.replies s.lanes.items × (vec_len s.room ≡ 0) × (vec_len s.lanes < vec_capacity s.room) × (vec_len s.lanes ≤ 8) };
 }
@@ -52,6 +53,7 @@ impl<M: Method + Send + 'static> Lanes<M> {
         ensures out { OnOk result (self.new.outs ≡ slice_set self.old.outs lane (Some (begun job))) }
         ensures back { IfErr result (λ back. back ≡ job) }
         ensures refused { OnErr result (self.new.outs ≡ self.old.outs) }
+        ensures begins { MatchResult result (λ _. self.new.begins ≡ slice_set self.old.begins lane (one_more (slice_index self.old.begins lane))) (λ _. self.new.begins ≡ self.old.begins) }
     {
         if lane == 0 || lane as usize > self.lanes.len() {
             return Err(job);
@@ -67,6 +69,7 @@ impl<M: Method + Send + 'static> Lanes<M> {
     pub fn take<R: Wait>(&mut self, rt: &R) -> Option<Told>
         ensures worlds { self.new.worlds ≡ self.old.worlds }
         ensures counts { NoneFell self.old.counts self.new.counts }
+        ensures begins { self.new.begins ≡ self.old.begins }
         ensures told { IfSome result (λ told. IsWordTaken self.old told self.new) }
         ensures none { IfNone result (self.new ≡ self.old) }
     {
@@ -89,6 +92,7 @@ impl<M: Method + Send + 'static> Lanes<M> {
         requires from { CanBegin job.now }
         ensures frame { OthersStay self.old self.new }
         ensures sound { IsSoundWord result }
+        ensures begins { own_begins self.new ≡ one_more (own_begins self.old) }
         ensures word { IsWord (own_count self.old) (own_count self.new) (own_world self.old) (begun job.now) (own_fetch self.new) result }
     {
         self.own.begin(alloc, job)
@@ -99,6 +103,7 @@ impl<M: Method + Send + 'static> Lanes<M> {
         requires { IsSome (own_fetch self.old) }
         ensures frame { OthersStay self.old self.new }
         ensures sound { IsSoundWord result }
+        ensures begins { self.new.begins ≡ self.old.begins }
         ensures word { IfSome (own_fetch self.old) (λ fetch. IsWord (own_count self.old) (own_count self.new) (own_world self.old) fetch (own_fetch self.new) result) }
     {
         self.own.more(alloc)
@@ -115,7 +120,7 @@ fn take_from<M: Method, R: Wait>(
     requires { AreLanes M.world replies.old lanes.old.items }
     ensures lanes { AreLanes M.world replies.new lanes.new.items }
     ensures len { vec_len lanes.new ≡ vec_len lanes.old }
-    ensures told { (own : M) → IfSome result (λ told. IsWordTaken (pool_of M.world M.faults M.under own lanes.old.items) told (pool_of M.world M.faults M.under own lanes.new.items)) }
+    ensures told { (own : M) → IfSome result (λ told. IsWordTaken (pool_of M.world M.faults M.under M.begins own lanes.old.items) told (pool_of M.world M.faults M.under M.begins own lanes.new.items)) }
     ensures none { IfNone result (lanes.new.items ≡ lanes.old.items) }
 {
     let told = replies.receive(rt, waits)?;

@@ -7,8 +7,10 @@
 //!
 //! `start` takes the methods, `give` hands a job out or back (`back`), `take` gives a word that is its lane's
 //! method's to the very job that is out there (`told`), or none, `own` and `own_more` are the coordinator's own
-//! fetch, and `finish` hands the methods back, in their order, with their mirrors. Faults of one lane don't overlap
-//! (`faults_are_apart`, a law). That a word comes, and when, is claimed nowhere.
+//! fetch, and `finish` hands the methods back, in their order, with their mirrors. The own method begins one fetch for each
+//! `own`, and a worker's no more than one for each job that it was handed (`begins`): a second channel, of a lane's jobs, has
+//! a rule that counts them. Faults of one lane don't overlap (`faults_are_apart`, a law). That a word comes, and when, is
+//! claimed nowhere.
 #![tactic(auto)]
 
 pub use lanes::Lanes;
@@ -18,11 +20,14 @@ pub use told::Told;
 
 mod desk;
 mod finishing;
+mod job_rule;
+mod jobs;
 mod lane;
 mod lanes;
 mod laws;
 mod replies;
 mod rule;
+mod sent;
 mod slot;
 mod starting;
 #[cfg(test)]

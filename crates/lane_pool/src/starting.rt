@@ -2,17 +2,18 @@
 ghost use Rattle.std.specs.Prelude.{◌≡◌, ◌≤◌, [], None, All, map, vec_len, vec_capacity, IfOk, OnErr, OnOk};
 ghost use Rattle.crossbeam_channel.specs.Claims.{view};
 ghost use Rattle.crossbeam_channel.specs.Ends.{sends_on};
+ghost use Rattle.lane_pool.specs.Counting.{counted_on};
 ghost use Rattle.lane_pool.specs.Pool.{outs_at_start};
 ghost use Rattle.lane_pool.specs.Rule.{fresh};
 ghost use Rattle.lane_pool.specs.Refinement.{AreLanes};
 
 use crate::Lanes;
+use crate::jobs::JobChannel;
 use crate::lane::{Kit, Lane, open_lane};
 use crate::replies::Replies;
 use crate::slot::FetchOut;
 use acq_base::NoMemory;
 use acq_outside::Method;
-use crossbeam_channel::bounded;
 use std::alloc::Global;
 use std::mem;
 use std::sync::Wait;
@@ -33,6 +34,7 @@ pub fn start<M: Method + Send + 'static, R: Threads + Wait + Copy + Send + 'stat
     ensures worlds { IfOk result (λ lanes. lanes.worlds ≡ map M.world methods.old.items) }
     ensures counts { IfOk result (λ lanes. lanes.counts ≡ map M.faults methods.old.items) }
     ensures outs { IfOk result (λ lanes. lanes.outs ≡ outs_at_start M.under methods.old.items) }
+    ensures begins { IfOk result (λ lanes. lanes.begins ≡ map M.begins methods.old.items) }
 {
     let n = methods.len();
     let room = Vec::with_capacity(alloc, n)?;
@@ -66,7 +68,7 @@ fn kits(alloc: Global, replies: &Replies, n: usize) -> Result<Vec<Kit>, NoMemory
 {
     let mut kits = Vec::with_capacity(alloc, n)?;
     for _ in 0..n {
-        let jobs = bounded(alloc, 1)?;
+        let jobs = JobChannel::open(alloc)?;
         let sends = replies.sends.try_clone()?;
         let slot = FetchOut::new(alloc)?;
         kits.push(Kit { jobs, sends, slot })?;
@@ -91,9 +93,10 @@ fn open_lanes<M: Method + Send + 'static, R: Threads + Wait + Copy + Send + 'sta
     requires each { All (λ kit. (sends_on kit.sends ≡ sends_on replies.old.sends) × (kit.slot ≡ None)) kits.items }
     ensures lanes { AreLanes M.world replies.new lanes.new.items }
     ensures len { vec_len lanes.new ≡ vec_len methods }
-    ensures worlds { map (λ lane. M.world lane.worker.method.value) lanes.new.items ≡ map M.world methods.items }
+    ensures worlds { map (λ lane. M.world lane.worker.promise.method.value) lanes.new.items ≡ map M.world methods.items }
     ensures counts { map (λ lane. lane.last) lanes.new.items ≡ map M.faults methods.items }
     ensures outs { map (λ lane. lane.slot) lanes.new.items ≡ map (λ method. None) methods.items }
+    ensures begins { map (λ lane. counted_on (M.begins lane.worker.promise.method.value) lane.worker.handed) lanes.new.items ≡ map M.begins methods.items }
 {
     let mut number = 1;
     for method in methods {

@@ -1,99 +1,66 @@
 //! What a worker does.
 ghost use Rattle.std.specs.Prelude.{◌≡◌, ◌<◌, true, false, MatchBool};
+ghost use Rattle.acq_outside.specs.Count.{one_more};
 ghost use Rattle.acq_outside.specs.Fetches.{Fetches};
 ghost use Rattle.crossbeam_channel.specs.Claims.{view, IsSeatAt};
-ghost use Rattle.crossbeam_channel.specs.Ends.{sends_on};
+ghost use Rattle.crossbeam_channel.specs.Ends.{sends_on, receives_on};
+ghost use Rattle.lane_pool.specs.Counting.{counted_on};
 ghost use Rattle.lane_pool.specs.Words.{IsWordTo, IsInOrder};
 ghost use Rattle.lane_pool.specs.Rule.{IsSent};
 ghost use Rattle.lane_pool.specs.Working.{IsWorker, is_piece};
 
 use crate::Told;
+use crate::job_rule::JobPass;
+use crate::jobs::JobsIn;
 use crate::rule::{LanePass, ReplySender, Sends};
+use crate::sent::Sent;
 use acq_base::{Job, NoMemory, TryCopy};
 use acq_outside::{Method, Word};
-use crossbeam_channel::Receiver;
 use std::alloc::Global;
-use std::marker::Model;
 use std::sync::Wait;
-
-/// A job on its way to a worker. It can be begun.
-#[derive(Drop)]
-pub struct Sent {
-    job: Job,
-}
-
-impl Model for Sent {
-    ghost use Rattle.acq_base.specs.declared.fetch.Job.{Job as job_type};
-    ghost use Rattle.acq_base.specs.Uri.{IsSound};
-    ghost use Rattle.acq_outside.specs.Word.{CanBegin};
-
-    ghost Value = { job_type };
-
-    ghost view = { λ s. s.job };
-
-    ghost invariant = { λ s. IsSound s.job.uri × CanBegin s.job };
-}
-
-impl Sent {
-    ghost use Rattle.std.specs.Prelude.{◌≡◌};
-    ghost use Rattle.acq_base.specs.Uri.{IsSound};
-    ghost use Rattle.acq_outside.specs.Word.{CanBegin};
-
-    /// Sends off a job.
-    pub fn new(job: Job) -> Sent
-        requires sound { IsSound job.uri }
-        requires from { CanBegin job }
-        ensures { result ≡ job }
-    {
-        Sent { job }
-    }
-
-    /// The job that was sent.
-    pub fn job(self) -> Job
-        ensures same { result ≡ self }
-        ensures sound { IsSound result.uri }
-        ensures from { CanBegin result }
-    {
-        let Sent { job } = self;
-        job
-    }
-}
 
 /// What a worker hands back when it ends.
 #[derive(Drop)]
 pub struct Returned<M> {
     pub method: M,
     pub pass: LanePass,
+    pub jobs: JobPass,
 }
 
-/// Does the jobs that come, one after another, until none can come or nobody receives the words.
+/// Does the jobs that come, one after another, until none can come or nobody receives the words. Each job that came began one
+/// fetch.
 pub fn work<M: Method, R: Wait>(
     rt: &R,
     alloc: Global,
     lane: u32,
-    jobs: Receiver<Sent>,
+    mut jobs: JobsIn,
     sends: ReplySender,
     mut pass: LanePass,
     mut method: M,
 ) -> Returned<M>
     requires seat { IsSeatAt (sends_on sends) pass }
     requires pass { IsWorker lane (view pass) (M.world method) (M.faults method) }
+    requires none { (view jobs.pass).received ≡ 0 }
     ensures frame { Fetches M.Method method result.method }
     ensures seat { IsSeatAt (sends_on sends) result.pass }
     ensures pass { IsWorker lane (view result.pass) (M.world result.method) (M.faults result.method) }
+    ensures jobs { IsSeatAt (receives_on jobs.receives) result.jobs }
+    ensures takes { (view result.jobs).takes ≡ true }
+    ensures begins { M.begins result.method ≡ counted_on (M.begins method) (view result.jobs).received }
 {
     for _ in rt.forever() {
-        let Ok(sent) = jobs.recv(rt) else {
+        let Some(sent) = jobs.next(rt) else {
             break;
         };
         if !answer(rt, alloc, lane, &sends, &mut pass, &mut method, sent) {
             break;
         }
     }
-    Returned { method, pass }
+    let jobs = jobs.close();
+    Returned { method, pass, jobs }
 }
 
-/// Sends the words of the method to a job one by one, and says whether all of them went.
+/// Begins one fetch for a job and sends its words one by one, and says whether all of them went.
 fn answer<M: Method, R: Wait>(
     rt: &R,
     alloc: Global,
@@ -106,6 +73,7 @@ fn answer<M: Method, R: Wait>(
     requires seat { IsSeatAt (sends_on sends.now) pass.old }
     requires pass { IsWorker lane (view pass.old) (M.world method.old) (M.faults method.old) }
     ensures frame { Fetches M.Method method.old method.new }
+    ensures begins { M.begins method.new ≡ one_more (M.begins method.old) }
     ensures seat { IsSeatAt (sends_on sends.now) pass.new }
     ensures pass { IsWorker lane (view pass.new) (M.world method.new) (M.faults method.new) }
 {

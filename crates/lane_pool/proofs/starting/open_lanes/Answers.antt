@@ -1,10 +1,11 @@
-use Rattle.std.proofs.Common.{◌≡◌, ◌∙◌, ◌+◌, List, [], ◌∷◌, map, length, Option, None, sym, ap, subst, arith}
+use Rattle.std.proofs.Common.{◌≡◌, ◌∙◌, ℕ, ◌+◌, List, [], ◌∷◌, map, length, Option, None, sym, ap, subst, arith}
 use Rattle.std.proofs.lemmas.List.{length-append}
 use Rattle.std.proofs.lemmas.List.Elements.{All-pop}
 use Rattle.crossbeam_channel.specs.Ends.{sends_on}
 use Rattle.acq_outside.specs.declared.word.Fetch.{Fetch}
 use Rattle.lane_pool.specs.declared.lane.Lane.{Lane}
 use Rattle.lane_pool.specs.declared.lane.Kit.{Kit}
+use Rattle.lane_pool.specs.Counting.{counted_on}
 use Rattle.lane_pool.specs.Refinement.{AreLanes}
 use Rattle.lane_pool.proofs.Joins.{one_more}
 use Rattle.lane_pool.proofs.Opens.{opened, grow_alike, if_some_of}
@@ -32,10 +33,13 @@ loop-method-preserved g c =
       room = omega arith;
       kits = let a = ap length c.in-Some-pop.ensures.items in let b = length-append c.pop.new.self.items (c.in-Some-pop.kit ∷ []) in let d = i.kits in let e = ap length c.in-Some.ensures.steps.0 in omega arith;
       each = popped.0;
-      worlds = ap (λ (y : List (Lane g.row.M.Denot)). map (λ (z : Lane g.row.M.Denot). g.M.Method.world z.worker.method.value) y) c.in-Ok.ensures.items
-          ∙ grow_alike (λ (z : Lane g.row.M.Denot). g.M.Method.world z.worker.method.value) g.M.Method.world c.loop-method.lanes.items c.loop-method.yielded lane c.in-Some.method i.worlds (ap g.M.Method.world o.method);
+      worlds = ap (λ (y : List (Lane g.row.M.Denot)). map (λ (z : Lane g.row.M.Denot). g.M.Method.world z.worker.promise.method.value) y) c.in-Ok.ensures.items
+          ∙ grow_alike (λ (z : Lane g.row.M.Denot). g.M.Method.world z.worker.promise.method.value) g.M.Method.world c.loop-method.lanes.items c.loop-method.yielded lane c.in-Some.method i.worlds (ap g.M.Method.world o.method);
       counts = ap (λ (y : List (Lane g.row.M.Denot)). map (λ (z : Lane g.row.M.Denot). z.last) y) c.in-Ok.ensures.items
           ∙ grow_alike (λ (z : Lane g.row.M.Denot). z.last) g.M.Method.faults c.loop-method.lanes.items c.loop-method.yielded lane c.in-Some.method i.counts o.last;
+      begins = ap (λ (y : List (Lane g.row.M.Denot)). map (λ (z : Lane g.row.M.Denot). counted_on (g.M.Method.begins z.worker.promise.method.value) z.worker.handed) y) c.in-Ok.ensures.items
+          ∙ grow_alike (λ (z : Lane g.row.M.Denot). counted_on (g.M.Method.begins z.worker.promise.method.value) z.worker.handed) g.M.Method.begins c.loop-method.lanes.items c.loop-method.yielded lane c.in-Some.method i.begins
+          (ap (λ (n : ℕ). counted_on (g.M.Method.begins lane.worker.promise.method.value) n) o.handed ∙ ap g.M.Method.begins o.method);
       outs = ap (λ (y : List (Lane g.row.M.Denot)). map (λ (z : Lane g.row.M.Denot). z.slot) y) c.in-Ok.ensures.items
           ∙ grow_alike (λ (z : Lane g.row.M.Denot). z.slot) (λ (m : g.row.M.Denot). let none : Option Fetch = None in none) c.loop-method.lanes.items c.loop-method.yielded lane c.in-Some.method i.outs (o.slot ∙ kit.1);
     }

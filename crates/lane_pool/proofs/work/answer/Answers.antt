@@ -15,6 +15,7 @@ loop-init g c =
       pass = record { live = p.live; lane_is = p.lane_is; a_worker = p.a_worker; mirror = p.mirror ∙ sym f.same; below = let h = p.below in let i = f.count in omega arith };
       next = begins_with _ _ _ _ _ _ _ _ p.below f.count f.same b.sound b.word;
       frame = f;
+      begins = b.begins;
     }
 
 pub tell-requires-clause-word : goal.tell-requires-clause-word
@@ -34,4 +35,5 @@ loop-preserved g c =
       pass = record { live = w.live; lane_is = w.lane_is; a_worker = w.a_worker; mirror = w.mirror ∙ sym f.same; below = let a = w.below in let b = f.count in omega arith };
       next = goes_on_with _ _ _ _ _ _ i.next piece _ _ _ _ _ w.below f.count f.same m.sound m.word;
       frame = record { count = let a = i.frame.count in let b = f.count in omega arith; same = f.same ∙ i.frame.same };
+      begins = m.begins ∙ i.begins;
     }

@@ -1,5 +1,7 @@
+use Rattle.std.proofs.Common.{◌≡◌}
 use Rattle.crossbeam_channel.specs.Claims.{view, IsSeatAt}
 use Rattle.crossbeam_channel.specs.Ends.{sends_on}
+use Rattle.acq_outside.specs.Count.{one_more}
 use Rattle.acq_outside.specs.Fetches.{Fetches}
 use Rattle.lane_pool.specs.Working.{IsWorker}
 use Rattle.lane_pool.proofs.Heard.{IsNext}
@@ -11,4 +13,5 @@ invariant-loop g l = record {
   pass : IsWorker l.lane (view l.pass) (g.M.Method.world l.method) (g.M.Method.faults l.method);
   next : IsNext (view l.pass).last (g.M.Method.faults l.method) (g.M.Method.world l.method) l.job (g.M.Method.under l.method) l.word;
   frame : Fetches g.M.Method l.fn.method l.method;
+  begins : g.M.Method.begins l.method ≡ one_more (g.M.Method.begins l.fn.method);
 }

@@ -6,4 +6,5 @@ abbrev pub invariant-loop : goal.invariant-loop
 invariant-loop g l = record {
   worlds : l.self.worlds ≡ l.fn.self.worlds;
   counts : NoneFell l.fn.self.counts l.self.counts;
+  begins : l.self.begins ≡ l.fn.self.begins;
 }
