@@ -15,13 +15,13 @@ use Rattle.start_values.specs.Start.{IsFolderRefusal, NamesFolders, etc_of, list
 use Rattle.start_values.specs.declared.refused.Refused.{Refused}
 use Rattle.start_values.specs.declared.refused.Refused.TheVariants.{Environment}
 use Rattle.start_values.specs.Telling.{IsRefusalWritten, WritesRefusal}
-use Rattle.update_program.specs.Asked.{IfGenerate, IfUpdate, asked}
+use Rattle.update_program.specs.Asked.{IfGenerate, asked}
 use Rattle.update_program.specs.Downloads.{DownloadsByFirst}
 use Rattle.update_program.specs.Ending.{EndsUpdate, RefusesWords}
 use Rattle.update_program.specs.Generated.{IsGenerated}
 use Rattle.update_program.specs.Headline.{Headline}
 use Rattle.update_program.specs.Objects.{output, span}
-use Rattle.update_program.specs.Sides.{IfDownload, IfMethod, IfServe, Otherwise, ServesPort, SpeaksByFirst, side_asked}
+use Rattle.update_program.specs.Sides.{IfDownload, IfMethod, IfServe, IfUpdating, Otherwise, ServesPort, SpeaksByFirst, side_asked}
 use Rattle.update_program.specs.declared.ran.Ran.{Ran}
 
 -- the first word is that of the command which puts a file into the folder for package files
@@ -61,22 +61,22 @@ pub record CallsProgram {E D M C S I F P T : Type 0} (e : Etcs E) (d : Disks D) 
   pub status_is : status ≡ ran.status.0
   pub refused : Otherwise (side_asked words) (IfNone (asked words) (RefusesWords (span d m s lists lists' methods methods' out out') ran))
   pub generated : Otherwise (side_asked words) (IfGenerate (asked words) (λ number. IsGenerated number (output s out) (output s out') ran.status.0))
-  pub ended : Otherwise (side_asked words) (IfUpdate (asked words) (EndsUpdate (e.files etc) (c.last clock') (span d m s lists lists' methods methods' out out') ran))
-  pub headline : Otherwise (side_asked words) (IfUpdate (asked words) (Headline (e.files etc) (c.last clock') (span d m s lists lists' methods methods' out out') ran))
+  pub ended : IfUpdating words (EndsUpdate (e.files etc) (c.last clock') (span d m s lists lists' methods methods' out out') ran)
+  pub headline : IfUpdating words (Headline (e.files etc) (c.last clock') (span d m s lists lists' methods methods' out out') ran)
   -- beside updates
   pub input' : I
   pub files : F
   pub files' : F
-  pub speaks : IfMethod (side_asked words) (SpeaksByFirst i m f s input input' methods.items methods'.items files files' out out' ran.status.0)
+  pub speaks : IfMethod (side_asked words) (SpeaksByFirst i m f s input input' methods methods' files files' out out' ran)
   pub port : P
   pub port' : P
   pub tree : T
   pub tree' : T
-  pub serves : IfServe (side_asked words) (λ root number connections. ServesPort p t s root number connections port port' tree tree' out out' ran.status.0)
+  pub serves : IfServe (side_asked words) (ServesPort p t s port port' tree tree' out out' ran)
   pub place : D
   pub place' : D
   pub place_is : IfSome told (λ known. IsPlace known (map string_bytes words) (folder place))
-  pub downloads : IfDownload (side_asked words) (DownloadsByFirst d d m (e.files etc) lists lists' place place' methods.items methods'.items (output s out) (output s out') ran.status.0)
+  pub downloads : IfDownload (side_asked words) (DownloadsByFirst d d m s (e.files etc) lists lists' place place' methods methods' out out' ran)
 
 -- words or a folder can't be had or memory ran out, which is told, or it ends as such a call may
 abbrev pub CarriesOut : {E D M C S I F P T : Type 0} → Etcs E → Disks D → Methods M → Clocks C → Sinks S → Inlets I → PutFiles F → Ports P → Trees T

@@ -5,9 +5,8 @@ ghost use Rattle.acq_base.specs.Plan.{IsPlanned, IsSoundTarget};
 ghost use Rattle.acq_base.specs.Uri.{IsSound};
 ghost use Rattle.release_file.specs.Release.{listed_sum};
 ghost use Rattle.update_model.specs.Points.{Over, start, point_after};
-ghost use Rattle.update_model.specs.Walks.{release_walk, target_walk};
-ghost use Rattle.update_model.specs.Wanted.{want as wanted_in};
-ghost use Rattle.item_graph.specs.Single.{file_walk};
+ghost use Rattle.update_model.specs.Walks.{release_walk};
+ghost use Rattle.item_graph.specs.Single.{file_walk, list_start};
 ghost use Rattle.item_graph.specs.Sound.{IsSoundAnswer, IsSoundAt};
 
 use crate::list::plain;
@@ -65,8 +64,8 @@ impl Item {
         settings: &Settings,
     ) -> Result<Item, NoMemory>
         requires wanted { IsSome (listed_sum release.now target.now.path) }
-        ensures walk { IfSome (listed_sum release.now target.now.path) (λ sum. IfOk result (λ item.
-            point_of item ≡ start settings.now.retries (target_walk old part (wanted_in source.now release.now settings.now target.now sum)))) }
+        ensures walk { IfSome (listed_sum release.now target.now.path)
+            (λ sum. IfOk result (λ item. point_of item ≡ list_start source.now release.now settings.now target.now old part sum)) }
         ensures retries { IfOk result (λ item. retries_of item ≡ settings.now.retries) }
         ensures sound { IsSoundTarget target.now → length target.now.name.0 ≤ 240 → IfOk result (λ item. IsSoundAt (point_of item)) }
     {

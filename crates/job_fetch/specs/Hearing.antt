@@ -6,7 +6,7 @@ use Rattle.acq_base.specs.declared.fetch.Answer.TheVariants as answers
 use Rattle.acq_base.specs.declared.fetch.Job.{Job}
 use Rattle.acq_outside.specs.Crash.{State}
 use Rattle.acq_outside.specs.States.{IsTold}
-use Rattle.acq_outside.specs.Word.{IsSoundWord, after_word}
+use Rattle.acq_outside.specs.Word.{IsSoundWord, IsWord, after_word}
 use Rattle.acq_outside.specs.declared.word.Fetch.{Fetch}
 use Rattle.acq_outside.specs.declared.word.Word.{Word}
 use Rattle.acq_outside.specs.declared.word.Word.TheVariants as words
@@ -121,8 +121,19 @@ abbrev pub RestsOn : Option (List ℕ) → List State → Closed → Type 0
 RestsOn None now closed = Unit {0}
 RestsOn (Some name) now closed = IsKnown now closed
 
+-- P of these counts, whichever method said the word: its count of faults went from the one to the other in it
+abbrev pub WhoeverSaid : Fetch → Word → (ℕ → ℕ → Type 0) → Type 0
+WhoeverSaid fetch word P =
+    (before after : ℕ) → (world : Option MirrorMap) → (under : Option Fetch) → IsWord before after world fetch under word → P before after
+
 -- Where the word is a method's with this mirror: what has come is the mirror's, and at the last word so is the answer, or it
 -- is a fault.
 abbrev pub Hears : Option MirrorMap → List ℕ → Job → Intake → List State → Heard → Type 0
 Hears world part job intake now (More next) = HasComeIn world part job now next
 Hears world part job intake now (Last closed) = RestsOn (name_of intake) now closed → IsAnswer world part (is_some (name_of intake)) job closed
+
+-- so it goes on from what had come before, whichever method said the word, whatever was at hand
+abbrev pub HearsOn : Job → List State → Intake → Word → (Option MirrorMap → List ℕ → Type 0) → Type 0
+HearsOn job old intake word P =
+    (before after : ℕ) → (world : Option MirrorMap) → (part : List ℕ) → (under : Option Fetch)
+    → IsWord before after world (fetch_of job intake) under word → HasComeIn world part job old intake → P world part

@@ -3,15 +3,14 @@ ghost use Rattle.std.specs.Prelude.{◌≡◌, ◌+◌, ◌++◌, ◌≤◌, ◌
 ghost use Rattle.acq_base.specs.Mirror.{MirrorMap, answer_at};
 ghost use Rattle.acq_outside.specs.Stays.{Stays, StaysCounting};
 ghost use Rattle.acq_outside.specs.States.{IsTold};
-ghost use Rattle.acq_outside.specs.Word.{CanBegin, HasSize, IsPieceOf, IsWithinLimit, IsWord};
-ghost use Rattle.acq_outside.specs.declared.word.Fetch.{Fetch};
+ghost use Rattle.acq_outside.specs.Word.{CanBegin, HasSize, IsPieceOf, IsWithinLimit};
 ghost use Rattle.journal_model.specs.Rest.{part_bytes};
 ghost use Rattle.partial_store.specs.Refinement.{part_of};
 ghost use Rattle.update_model.specs.declared.ask.Body.TheVariants.{Staged};
 ghost use Rattle.update_model.specs.declared.ask.Closed.TheVariants.{Served};
 ghost use Rattle.job_fetch.specs.Fetched.{IsAnswer, KeepsFront, LastsAs, Staging};
-ghost use Rattle.job_fetch.specs.Hearing.{CanFill, CanHear, CanOpen, ChangesFile, ComesTo, Ends, HasComeIn, Hears, KeepsBytes};
-ghost use Rattle.job_fetch.specs.Hearing.{LeadsTo, RestsOn, Touches, at_of, fetch_of, name_of};
+ghost use Rattle.job_fetch.specs.Hearing.{CanFill, CanHear, CanOpen, ChangesFile, ComesTo, Ends, HasComeIn, Hears, HearsOn, KeepsBytes};
+ghost use Rattle.job_fetch.specs.Hearing.{LeadsTo, RestsOn, Touches, WhoeverSaid, at_of, fetch_of, name_of};
 ghost use Rattle.job_fetch.specs.declared.intake.Intake.TheVariants.{Filling as to_file};
 
 use crate::filling::{Filling, add, finish_file, open};
@@ -42,13 +41,11 @@ pub fn hear<D: Disk>(disk: &mut D, job: &Job, intake: Intake, word: Word) -> Res
     ensures kept { OnOk result (KeepsBytes (name_of intake) job.now.from (D.trace disk.old) (D.trace disk.new)) }
     ensures leads { IfOk result (LeadsTo job.now intake word (D.trace disk.new)) }
 
-    ensures ends { (before after : ℕ) → (world : Option MirrorMap) → (under : Option Fetch)
-        → IsWord before after world (fetch_of job.now intake) under word → IfOk result (Ends before after intake (D.trace disk.new)) }
-    ensures dry { (before after : ℕ) → (world : Option MirrorMap) → (under : Option Fetch)
-        → IsWord before after world (fetch_of job.now intake) under word → OnErr result (after ≡ before) }
-    ensures hears { (before after : ℕ) → (world : Option MirrorMap) → (part : List ℕ) → (under : Option Fetch)
-        → IsWord before after world (fetch_of job.now intake) under word → HasComeIn world part job.now (D.trace disk.old) intake
-        → IfOk result (Hears world part job.now intake (D.trace disk.new)) }
+    ensures ends { WhoeverSaid (fetch_of job.now intake) word
+        (λ before after. IfOk result (Ends before after intake (D.trace disk.new))) }
+    ensures dry { WhoeverSaid (fetch_of job.now intake) word (λ before after. OnErr result (after ≡ before)) }
+    ensures hears { HearsOn job.now (D.trace disk.old) intake word
+        (λ world part. IfOk result (Hears world part job.now intake (D.trace disk.new))) }
 {
     prove!(job.from <= job.max);
     match word {

@@ -4,10 +4,11 @@ use Rattle.std.specs.List.{list_all}
 use Rattle.method_messages.specs.declared.message.Message.{Message}
 use Rattle.method_messages.specs.declared.error.MessageError.{MessageError}
 use Rattle.method_messages.specs.declared.error.MessageError.TheVariants.{BadMessage, TooLong, NoMemory}
+use Rattle.method_messages.specs.declared.progress.Progress.{Progress}
 use Rattle.method_messages.specs.declared.step.Told.{Told}
 use Rattle.method_messages.specs.declared.step.Told.TheVariants.{Passed, GoesOn, Ends}
 use Rattle.method_messages.specs.Lines.{is_line, ended, can_begin, may_follow}
-use Rattle.method_messages.specs.Streams.{IsMessage, AreMessages, IsOpen, Unended, place}
+use Rattle.method_messages.specs.Streams.{IsMessage, AreMessages, IsOpen, Reads, Unended, place}
 use Rattle.method_messages.specs.Refused.{IsRefused}
 
 abbrev pub unended : ℕ → List ℕ → Unended
@@ -63,6 +64,10 @@ TellsLine before line begins (Err NoMemory) = ⊥
 -- the stream is refused so, unless memory ran out
 abbrev pub Refuses : List ℕ → MessageError → Type 0
 Refuses stream fault = (fault ≡ NoMemory) ⊎ IsRefused stream fault
+
+-- Behind the messages before, those that were read have ended in the stream, and the text from there on is open.
+abbrev pub ReadsOn : List ℕ → List Message → List ℕ → Progress → Type 0
+ReadsOn stream before text read = Reads stream (before ++ read.messages) (unended read.begins (drop read.start text))
 
 -- What a step tells: that a line more has been read, or that no line of what is left has ended.
 abbrev pub Steps : List ℕ → List Message → List ℕ → ℕ → ℕ → Result Bool MessageError → Type 0

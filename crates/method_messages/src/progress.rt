@@ -3,8 +3,8 @@
 ghost use Rattle.std.specs.Prelude.{◌≡◌, ℕ, ◌+◌, ◌-◌, ◌^◌, ◌<◌, ◌≤◌, ◌++◌, List, length, drop, IfOk, MatchResult};
 ghost use Rattle.std.specs.Bool.{OnTrue};
 ghost use Rattle.method_messages.specs.declared.message.Message.{Message};
-ghost use Rattle.method_messages.specs.Streams.{Reads, place};
-ghost use Rattle.method_messages.specs.Within.{Within, Steps, Refuses, unended};
+ghost use Rattle.method_messages.specs.Streams.{place};
+ghost use Rattle.method_messages.specs.Within.{Within, ReadsOn, Steps, Refuses};
 
 use crate::cutting::next_feed;
 use crate::step::{MOST_BYTES, Told, line_ended};
@@ -82,7 +82,7 @@ pub fn read_messages(
     requires { seen ≤ length text.now }
     ensures inside { IfOk result (λ read. read.start ≤ length text.now) }
     ensures told { (stream : List ℕ) (before : List Message) → Within stream before text.now seen begins
-        → MatchResult result (λ read. Reads stream (before ++ read.messages) (unended read.begins (drop read.start text.now))) (Refuses stream) }
+        → MatchResult result (ReadsOn stream before text.now) (Refuses stream) }
 {
     let mut progress = Progress {
         messages: Row::new(alloc),

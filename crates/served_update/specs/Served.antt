@@ -1,5 +1,6 @@
 -- What an update promises whose mirror is a tree of files behind the product's own server.
-use Rattle.std.specs.Prelude.{◌≡◌, ◌⊎◌, ℕ, ℤ, List, Option, Some, IfSome}
+use Rattle.std.specs.Prelude.{◌≡◌, ◌⊎◌, ℕ, ℤ, List, Option, Some, IfSome, String}
+use Rattle.std.specs.Global.{Global, Vec}
 use Rattle.std.specs.List.{AllByRecursion as Each}
 use Rattle.acq_base.specs.Mirror.{MirrorMap}
 use Rattle.acq_outside.specs.Crash.{State}
@@ -15,7 +16,7 @@ use Rattle.served_link.specs.Link.{LinkState}
 use Rattle.served_link.specs.Served.{mirror_of}
 use Rattle.update_engine.specs.Run.{Run}
 use Rattle.update_model.specs.declared.log.RunLog.{RunLog}
-use Rattle.update_program.specs.Asked.{AsksForRun}
+use Rattle.update_program.specs.Asked.{AsksForRun, IfUpdate, asked}
 use Rattle.update_program.specs.Ending.{IsNoRun}
 use Rattle.update_program.specs.Objects.{Objects, Span}
 use Rattle.update_program.specs.declared.ran.Ran.{Ran}
@@ -50,8 +51,12 @@ pub record UpdatesFrom (mirror : MirrorMap) (told : Option EtcFiles) (options : 
   pub complete : IfSome log (λ known. WasSynced before.engine → NoneIsGivenUp run.settings.retries known.asks
       → Each (Serves run mirror (installed_now before.engine.trace)) run.plan.sources → (status ≡ 0) ⊎ ((status ≡ 103) ⊎ (status ≡ 105)))
 
--- So it is, or no run was made, of each server that all methods ask.
+-- So it is of each server that all methods ask, or no run was made.
 abbrev pub UpdatesFromServer : {T : Type 0} → Trees T → List (HttpState (LinkState T)) → Option EtcFiles → Option ℤ → Span → Ran → Options → Type 0
 UpdatesFromServer t methods told moment seen ran options =
     (server : Server) → Each (AsksServer t server) methods
     → IsNoRun seen.before seen.after ran.log ⊎ UpdatesFrom (mirror_at server) told options moment seen.before seen.after ran.log ran.status.0
+
+-- the same of the update that words ask for
+abbrev pub UpdatesOfServer : {T : Type 0} → Trees T → List (String Global) → Vec (HttpState (LinkState T)) → Option EtcFiles → Option ℤ → Span → Ran → Type 0
+UpdatesOfServer t words methods told moment seen ran = IfUpdate (asked words) (UpdatesFromServer t methods.items told moment seen ran)

@@ -1,7 +1,7 @@
 //! An update over links to a server in memory.
 ghost use Rattle.std.specs.Prelude.{◌≡◌, ◌≤◌, vec_len};
 ghost use Rattle.acq_outside.specs.Count.{Rose};
-ghost use Rattle.served_update.specs.Served.{UpdatesFromServer};
+ghost use Rattle.served_update.specs.Served.{UpdatesOfServer};
 ghost use Rattle.update_program.specs.Asked.{IfUpdate, asked};
 ghost use Rattle.update_program.specs.Ending.{EndsUpdate};
 ghost use Rattle.update_program.specs.Objects.{span};
@@ -13,6 +13,9 @@ use served_link::ServedLink;
 use std::sync::Wait;
 use std::thread::Threads;
 use update_program::{Ran, update_call};
+
+/// A method over a link to a server in memory.
+pub type ServedMethod<T> = HttpMethod<ServedLink<T>>;
 
 /// Carries out what the words of a command line ask for, as `update_call` does, over links to a server in memory.
 ///
@@ -29,7 +32,7 @@ pub fn update_served<
     words: &[String],
     etc: &mut E,
     disk: &mut D,
-    methods: &mut Vec<HttpMethod<ServedLink<T>>>,
+    methods: &mut Vec<ServedMethod<T>>,
     clock: &mut C,
     out: &mut S,
 ) -> Ran
@@ -42,12 +45,12 @@ pub fn update_served<
     ensures etc_fault { result.status.0 ≡ 106 → Rose (E.faults etc.old) (E.faults etc.new) }
     ensures status { IfUpdate (asked words.now) (λ options. IsStatus result.log result.status.0) }
     ensures ended { IfUpdate (asked words.now) (EndsUpdate (E.files etc.old) (C.last clock.new)
-        (span D.Disk ⟦<HttpMethod<ServedLink<T>> as Method>⟧ S.Sink disk.old disk.new methods.old methods.new out.old out.new) result) }
+        (span D.Disk ⟦<ServedMethod<T> as Method>⟧ S.Sink disk.old disk.new methods.old methods.new out.old out.new) result) }
 
     // Where all methods ask one server, whose files are told, the mirror is the map of these files: where a log is answered and
     // no fetch was given up, the lists end as what is next over it.
-    ensures served { IfUpdate (asked words.now) (UpdatesFromServer T.Tree methods.old.items (E.files etc.old) (C.last clock.new)
-        (span D.Disk ⟦<HttpMethod<ServedLink<T>> as Method>⟧ S.Sink disk.old disk.new methods.old methods.new out.old out.new) result) }
+    ensures served { UpdatesOfServer T.Tree words.now methods.old (E.files etc.old) (C.last clock.new)
+        (span D.Disk ⟦<ServedMethod<T> as Method>⟧ S.Sink disk.old disk.new methods.old methods.new out.old out.new) result }
 {
     update_call(rt, words, etc, disk, methods, clock, out)
 }

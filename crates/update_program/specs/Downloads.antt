@@ -1,5 +1,6 @@
 -- What comes of a package file that is asked for.
 use Rattle.std.specs.Prelude.{◌≡◌, ◌⊎◌, ℕ, List, [], ◌∷◌, Option, Some, None, Result, Ok, Err, IfOk, IfErr, IsTrue}
+use Rattle.std.specs.Global.{Vec}
 use Rattle.acq_base.specs.declared.plan.Plan.{Plan}
 use Rattle.acq_base.specs.declared.settings.Settings.{Settings}
 use Rattle.acq_outside.specs.Etc.{EtcFiles}
@@ -8,6 +9,7 @@ use Rattle.acq_outside.specs.States.{IsNow, Since}
 use Rattle.acq_outside.specs.Stays.{ReadsCounting, StaysCounting}
 use Rattle.acq_outside.specs.declared.disk.Disk as disks
 use Rattle.acq_outside.specs.declared.method.Method as methods
+use Rattle.acq_outside.specs.declared.sink.Sink as sinks
 use Rattle.commit_journal.specs.Opening.{Opens}
 use Rattle.commit_journal.specs.declared.error.JournalError.{JournalError}
 use Rattle.commit_journal.specs.declared.error.JournalError.TheVariants as journals
@@ -27,8 +29,9 @@ use Rattle.report_text.specs.declared.fault.FaultLine.{FaultLine}
 use Rattle.report_text.specs.declared.fault.FaultLine.TheVariants.{Download as DownloadLine, Journal as JournalLine, Disk, Etc, Held, Memory}
 use Rattle.update_model.specs.declared.cause.Cause.{Cause}
 use Rattle.update_program.specs.Asked.{GivesConfiguration}
-use Rattle.update_program.specs.Objects.{Output}
+use Rattle.update_program.specs.Objects.{Output, output}
 use Rattle.update_program.specs.Said.{Writes, WritesFault, WritesLine}
+use Rattle.update_program.specs.declared.ran.Ran.{Ran}
 
 -- the text was written with this status, or memory for it ran out
 abbrev pub WritesOrMemory : Output → Output → List ℕ → ℕ → ℕ → Type 0
@@ -163,11 +166,11 @@ pub record Downloads {D Q M : Type 0} (d : disks.Ghosts D) (q : disks.Ghosts Q) 
       ⊎ IsUnconfigured told disk disk' place place' method method' out out' status
 
 -- the first of the methods is asked, and the others stay
-pub record DownloadsByFirst {D Q M : Type 0} (d : disks.Ghosts D) (q : disks.Ghosts Q) (m : methods.Ghosts M) (told : Option EtcFiles)
-    (disk disk' : D) (place place' : Q) (methods methods' : List M) (out out' : Output) (status : ℕ) (name version : List ℕ) : Type 0 where
+pub record DownloadsByFirst {D Q M S : Type 0} (d : disks.Ghosts D) (q : disks.Ghosts Q) (m : methods.Ghosts M) (s : sinks.Ghosts S) (told : Option EtcFiles)
+    (disk disk' : D) (place place' : Q) (methods methods' : Vec M) (out out' : S) (ran : Ran) (name version : List ℕ) : Type 0 where
   pub method : M
   pub method' : M
   pub others : List M
-  pub before : methods ≡ method ∷ others
-  pub after : methods' ≡ method' ∷ others
-  pub downloads : Downloads d q m told name version disk disk' place place' method method' out out' status
+  pub before : methods.items ≡ method ∷ others
+  pub after : methods'.items ≡ method' ∷ others
+  pub downloads : Downloads d q m told name version disk disk' place place' method method' (output s out) (output s out') ran.status.0

@@ -83,6 +83,10 @@ RunsAtClock it together moment before after log status =
     ((now : ℤ) × (moment ≡ Some now) × MakesRun (run_for it now together) before after log status)
     ⊎ (IsNoRun before after log × IsBeforeRun before after status)
 
+-- so the run that is configured ended, as an answer
+abbrev pub EndsRun : Configured → Bool → Option ℤ → Span → Ran → Type 0
+EndsRun it together moment seen ran = RunsAtClock it together moment seen.before seen.after ran.log ran.status.0
+
 -- ---- an update
 
 -- there is no configuration: it is refused, its folder failed, or memory ran out

@@ -1,6 +1,6 @@
 -- What is asked for beside updates, and what comes of it.
 use Rattle.std.specs.Prelude.{◌≡◌, ℕ, Bool, List, ◌∷◌, map, Option, Some, None, Result, Ok, Err, OnOk, String, string_bytes}
-use Rattle.std.specs.Global.{Global}
+use Rattle.std.specs.Global.{Global, Vec}
 use Rattle.acq_net.specs.declared.port.Port as ports
 use Rattle.acq_outside.specs.Fetches.{Fetches}
 use Rattle.acq_outside.specs.declared.files.Files as put_files
@@ -9,6 +9,7 @@ use Rattle.acq_outside.specs.declared.method.Method as methods
 use Rattle.acq_outside.specs.declared.sink.Sink as sinks
 use Rattle.acq_outside.specs.declared.tree.Tree as trees
 use Rattle.command_words.specs.Side.{side_of}
+use Rattle.command_words.specs.declared.request.Options.{Options}
 use Rattle.command_words.specs.declared.side.Side.{Side}
 use Rattle.command_words.specs.declared.side.Side.TheVariants.{Method, Serve, Download}
 use Rattle.method_server.specs.Serving.{Blames, ServesCall, status_of}
@@ -20,7 +21,9 @@ use Rattle.tree_serve.specs.Frame.{Stops}
 use Rattle.tree_serve.specs.declared.error.Stop.{Stop}
 use Rattle.tree_serve.specs.declared.error.Stop.TheVariants as stops
 use Rattle.update_program.specs.Objects.{Output, output}
+use Rattle.update_program.specs.Asked.{IfUpdate, asked}
 use Rattle.update_program.specs.Said.{WritesLine}
+use Rattle.update_program.specs.declared.ran.Ran.{Ran}
 
 -- ---- the words
 
@@ -32,6 +35,10 @@ side_asked words = side_of (map string_bytes words)
 abbrev pub Otherwise : Option Side → Type 0 → Type 0
 Otherwise None P = P
 Otherwise (Some side) P = Unit {0}
+
+-- P of the options, where they ask for an update
+abbrev pub IfUpdating : List (String Global) → (Options → Type 0) → Type 0
+IfUpdating words P = Otherwise (side_asked words) (IfUpdate (asked words) P)
 
 -- P, where they ask for something beside updates
 abbrev pub IfAside : Option Side → Type 0 → Type 0
@@ -82,13 +89,13 @@ pub record Speaks {I M F S : Type 0} (i : inlets.Ghosts I) (m : methods.Ghosts M
 
 -- the first of the methods did so, and the others stayed
 pub record SpeaksByFirst {I M F S : Type 0} (i : inlets.Ghosts I) (m : methods.Ghosts M) (f : put_files.Ghosts F) (s : sinks.Ghosts S)
-    (input input' : I) (methods methods' : List M) (files files' : F) (out out' : S) (status : ℕ) (http : Bool) : Type 0 where
+    (input input' : I) (methods methods' : Vec M) (files files' : F) (out out' : S) (ran : Ran) (http : Bool) : Type 0 where
   pub method : M
   pub method' : M
   pub others : List M
-  pub before : methods ≡ method ∷ others
-  pub after : methods' ≡ method' ∷ others
-  pub speaks : Speaks i m f s http input input' method method' files files' out out' status
+  pub before : methods.items ≡ method ∷ others
+  pub after : methods'.items ≡ method' ∷ others
+  pub speaks : Speaks i m f s http input input' method method' files files' out out' ran.status.0
 
 -- ---- serve
 
@@ -99,10 +106,10 @@ SaysStop before after (Err stops.Port) status = WritesLine before after PortLine
 SaysStop before after (Err stops.NoMemory) status = WritesLine before after Memory status
 
 -- The connections of that port were served, or its count of lost ones rose, or memory ran out; and the status says which.
-pub record ServesPort {P T S : Type 0} (p : ports.Ghosts P) (t : trees.Ghosts T) (s : sinks.Ghosts S) (root : List ℕ) (number connections : ℕ)
-    (port port' : P) (tree tree' : T) (out out' : S) (status : ℕ) : Type 0 where
+pub record ServesPort {P T S : Type 0} (p : ports.Ghosts P) (t : trees.Ghosts T) (s : sinks.Ghosts S)
+    (port port' : P) (tree tree' : T) (out out' : S) (ran : Ran) (root : List ℕ) (number connections : ℕ) : Type 0 where
   pub end : Result (Unit {0}) Stop
   pub frame : Stops p t port port' tree tree' end
   pub at : OnOk end (p.at port' ≡ Some number)
   pub served : OnOk end (HasServedAll p t root connections port port' tree tree')
-  pub said : SaysStop (output s out) (output s out') end status
+  pub said : SaysStop (output s out) (output s out') end ran.status.0

@@ -40,8 +40,8 @@ pub fn download_call<E: Etc, D: Disk, M: Method, S: Sink, Q: Disk>(
     ensures held_fault { result.status.0 ≡ 104 → Rose (D.held disk.old) (D.held disk.new) }
     ensures disk_fault { result.status.0 ≡ 102 → Rose (D.faults disk.old) (D.faults disk.new) ⊎ Rose (Q.faults place.old) (Q.faults place.new) }
     ensures lists { Since (D.trace disk.old) (D.trace disk.new) (From Recovers (D.trace disk.old)) }
-    ensures downloads { DownloadsByFirst D.Disk Q.Disk M.Method (E.files etc.old) disk.old disk.new place.old place.new
-        methods.old.items methods.new.items (output S.Sink out.old) (output S.Sink out.new) result.status.0 name.now version.now }
+    ensures downloads { DownloadsByFirst D.Disk Q.Disk M.Method S.Sink (E.files etc.old) disk.old disk.new place.old place.new
+        methods.old methods.new out.old out.new result name.now version.now }
 {
     download_over(alloc, name, version, etc, disk, &mut methods[0], place, out)
 }

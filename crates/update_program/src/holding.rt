@@ -4,8 +4,8 @@ ghost use Rattle.std.specs.Prelude.{◌≡◌, ◌≢◌, ◌≤◌, vec_len, Is
 ghost use Rattle.acq_base.specs.Plan.{IsSound};
 ghost use Rattle.acq_outside.specs.Count.{Rose};
 ghost use Rattle.update_engine.specs.Run.{KeepsMethods, engine};
-ghost use Rattle.update_program.specs.Ending.{RunsAtClock};
-ghost use Rattle.update_program.specs.Objects.{objects};
+ghost use Rattle.update_program.specs.Ending.{EndsRun};
+ghost use Rattle.update_program.specs.Objects.{span};
 ghost use Rattle.update_program.specs.Said.{BlamesOutput, ReadsOnce};
 
 use crate::Ran;
@@ -39,8 +39,8 @@ pub fn run_with_hold<D: Disk, M: Method, C: Clock, S: Sink>(
     ensures held_fault { result.status.0 ≡ 104 → Rose (D.held disk.old) (D.held disk.new) }
     ensures quiet_held { IsSome result.log → D.held disk.new ≡ D.held disk.old }
     ensures no_etc_fault { result.status.0 ≢ 106 }
-    ensures ended { RunsAtClock it together (C.last clock.new) (objects D.Disk M.Method S.Sink disk.old methods.old.items out.old)
-        (objects D.Disk M.Method S.Sink disk.new methods.new.items out.new) result.log result.status.0 }
+    ensures ended { EndsRun it together (C.last clock.new)
+        (span D.Disk M.Method S.Sink disk.old disk.new methods.old methods.new out.old out.new) result }
 {
     match disk.hold() {
         Ok(()) => {

@@ -65,8 +65,8 @@ pub fn method_call<I: Inlet, M: Method, F: Files, S: Sink>(
     requires { 1 ≤ vec_len methods.old }
     ensures log { result.log ≡ None }
     ensures output { BlamesOutput (S.faults out.old) (S.faults out.new) result.status.0 }
-    ensures speaks { SpeaksByFirst I.Inlet M.Method F.Files S.Sink input.old input.new methods.old.items methods.new.items files.old files.new
-        out.old out.new result.status.0 http }
+    ensures speaks { SpeaksByFirst I.Inlet M.Method F.Files S.Sink input.old input.new methods.old methods.new files.old files.new
+        out.old out.new result http }
 {
     speak(alloc, http, input, &mut methods[0], files, out)
 }

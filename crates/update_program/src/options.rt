@@ -5,8 +5,8 @@ ghost use Rattle.acq_outside.specs.Count.{Rose};
 ghost use Rattle.report_text.specs.Refused.{line_of};
 ghost use Rattle.update_engine.specs.Run.{KeepsMethods, engine};
 ghost use Rattle.update_program.specs.Asked.{RefusesConfiguration};
-ghost use Rattle.update_program.specs.Ending.{EndsUpdateOf, LeavesDiskAndClock};
-ghost use Rattle.update_program.specs.Objects.{objects, output};
+ghost use Rattle.update_program.specs.Ending.{EndsUpdate, LeavesDiskAndClock};
+ghost use Rattle.update_program.specs.Objects.{output, span};
 ghost use Rattle.update_program.specs.Said.{BlamesOutput, ReadsOnce, WritesFault};
 
 use crate::Ran;
@@ -44,9 +44,8 @@ pub fn run_options<E: Etc, D: Disk, M: Method, C: Clock, S: Sink>(
     ensures quiet_etc { IsSome result.log → E.faults etc.new ≡ E.faults etc.old }
     ensures unconfigured { RefusesConfiguration (E.files etc.old) options.now.pairs result.status.0
         → LeavesDiskAndClock D.Disk C.Clock disk.old disk.new clock.old clock.new }
-    ensures ended { EndsUpdateOf (E.files etc.old) options.now (C.last clock.new)
-        (objects D.Disk M.Method S.Sink disk.old methods.old.items out.old)
-        (objects D.Disk M.Method S.Sink disk.new methods.new.items out.new) result.log result.status.0 }
+    ensures ended { EndsUpdate (E.files etc.old) (C.last clock.new)
+        (span D.Disk M.Method S.Sink disk.old disk.new methods.old methods.new out.old out.new) result options.now }
 {
     match configure(alloc, etc, &options.pairs) {
         Ok(it) => run_with_hold(alloc, it, options.together, disk, methods, clock, out),

@@ -12,7 +12,7 @@ ghost use Rattle.update_program.specs.Generated.{IsGenerated};
 ghost use Rattle.update_program.specs.Headline.{Headline};
 ghost use Rattle.update_program.specs.Objects.{output, span};
 ghost use Rattle.update_program.specs.Said.{IsStatus, ReadsOnce};
-ghost use Rattle.update_program.specs.Sides.{IfAside, IfDownload, IfMethod, IfServe, Otherwise, ServesPort, SpeaksByFirst, side_asked};
+ghost use Rattle.update_program.specs.Sides.{IfAside, IfDownload, IfMethod, IfServe, IfUpdating, Otherwise, ServesPort, SpeaksByFirst, side_asked};
 
 use crate::download::download_call;
 use crate::method::{asked_scheme, method_call};
@@ -71,19 +71,20 @@ pub fn program_call<
     ensures side_log { IfAside (side_asked words.now) (result.log ≡ None) }
     ensures side_clock { IfAside (side_asked words.now) (clock.new ≡ clock.old) }
     ensures speaks { IfMethod (side_asked words.now) (SpeaksByFirst I.Inlet M.Method F.Files S.Sink aside.old.input aside.new.input
-        methods.old.items methods.new.items aside.old.files aside.new.files out.old out.new result.status.0) }
+        methods.old methods.new aside.old.files aside.new.files out.old out.new result) }
     ensures method_alone { IfMethod (side_asked words.now) (λ http. (etc.new ≡ etc.old) × (disk.new ≡ disk.old)
         × (aside.new.port ≡ aside.old.port) × (aside.new.tree ≡ aside.old.tree) × (aside.new.place ≡ aside.old.place)) }
-    ensures serves { IfServe (side_asked words.now) (λ root port connections. ServesPort P.Port T.Tree S.Sink root port connections
-        aside.old.port aside.new.port aside.old.tree aside.new.tree out.old out.new result.status.0) }
+    ensures serves { IfServe (side_asked words.now) (ServesPort P.Port T.Tree S.Sink aside.old.port aside.new.port
+        aside.old.tree aside.new.tree out.old out.new result) }
     ensures port_fault { IfServe (side_asked words.now)
         (λ root port connections. result.status.0 ≡ 108 → Rose (P.lost aside.old.port) (P.lost aside.new.port)) }
-    ensures serve_alone { IfServe (side_asked words.now) (λ root port connections. (etc.new ≡ etc.old) × (disk.new ≡ disk.old)
-        × (methods.new ≡ methods.old) × (aside.new.input ≡ aside.old.input) × (aside.new.files ≡ aside.old.files)
-        × (aside.new.place ≡ aside.old.place)) }
+    ensures serve_alone { IfServe (side_asked words.now)
+        (λ root port connections. (etc.new ≡ etc.old) × (disk.new ≡ disk.old) × (methods.new ≡ methods.old)) }
+    ensures serve_aside { IfServe (side_asked words.now) (λ root port connections. (aside.new.input ≡ aside.old.input)
+        × (aside.new.files ≡ aside.old.files) × (aside.new.place ≡ aside.old.place)) }
 
-    ensures downloads { IfDownload (side_asked words.now) (DownloadsByFirst D.Disk Q.Disk M.Method (E.files etc.old) disk.old disk.new
-        aside.old.place aside.new.place methods.old.items methods.new.items (output S.Sink out.old) (output S.Sink out.new) result.status.0) }
+    ensures downloads { IfDownload (side_asked words.now) (DownloadsByFirst D.Disk Q.Disk M.Method S.Sink (E.files etc.old)
+        disk.old disk.new aside.old.place aside.new.place methods.old methods.new out.old out.new result) }
     ensures lists_reopen { IfDownload (side_asked words.now)
         (λ name version. Since (D.trace disk.old) (D.trace disk.new) (From Recovers (D.trace disk.old))) }
     ensures folder_fault { IfDownload (side_asked words.now) (λ name version. result.status.0 ≡ 102
@@ -121,14 +122,12 @@ pub fn program_call<
         clock.old clock.new))) }
     ensures generated { Otherwise (side_asked words.now)
         (IfGenerate (asked words.now) (λ number. IsGenerated number (output S.Sink out.old) (output S.Sink out.new) result.status.0)) }
-    ensures ended { Otherwise (side_asked words.now)
-        (IfUpdate (asked words.now) (EndsUpdate (E.files etc.old) (C.last clock.new) (span D.Disk M.Method S.Sink disk.old disk.new methods.old
-        methods.new out.old out.new) result)) }
+    ensures ended { IfUpdating words.now (EndsUpdate (E.files etc.old) (C.last clock.new)
+        (span D.Disk M.Method S.Sink disk.old disk.new methods.old methods.new out.old out.new) result) }
     // A stop leaves whole sets, a log shows its run, the lists are as it tells, and over a mirror each new set is the one that
     // its answers define, and so are lists and log, unless a fetch was given up; a source that it serves whole has its set.
-    ensures headline { Otherwise (side_asked words.now)
-        (IfUpdate (asked words.now) (Headline (E.files etc.old) (C.last clock.new) (span D.Disk M.Method S.Sink disk.old disk.new methods.old
-        methods.new out.old out.new) result)) }
+    ensures headline { IfUpdating words.now (Headline (E.files etc.old) (C.last clock.new)
+        (span D.Disk M.Method S.Sink disk.old disk.new methods.old methods.new out.old out.new) result) }
 {
     let alloc = rt.alloc();
     if let Some(http) = asked_scheme(words) {

@@ -25,7 +25,7 @@ pub fn serve_call<P: Port, T: Tree, S: Sink>(
 ) -> Ran
     ensures log { result.log ≡ None }
     ensures output { BlamesOutput (S.faults out.old) (S.faults out.new) result.status.0 }
-    ensures serves { ServesPort P.Port T.Tree S.Sink root.now number connections port.old port.new tree.old tree.new out.old out.new result.status.0 }
+    ensures serves { ServesPort P.Port T.Tree S.Sink port.old port.new tree.old tree.new out.old out.new result root.now number connections }
 {
     match serve(alloc, port, tree, root, number, u64::from(connections)) {
         Ok(()) => Ran::without_log(Status(0)),
