@@ -85,14 +85,14 @@ pub fronts_on : (name : List ℕ) (keep : ℕ) (old mid new : List State) → (I
 fronts_on name keep old mid new before first later = record { front = λ told. later.front told ∙ first.front (before told); within = later.within }
 
 -- the file reaches to where the next piece begins
-reaches : (job : Job) (intake : Intake) (name : List ℕ) (now : List State) → name_of intake ≡ Some name → CanHear job now intake → job.from < at_of job intake → IsTold now → job.from < length (part_bytes now name)
+pub reaches : (job : Job) (intake : Intake) (name : List ℕ) (now : List State) → name_of intake ≡ Some name → CanHear job now intake → job.from < at_of job intake → IsTold now → job.from < length (part_bytes now name)
 reaches job (Held bytes) name now is can past told = absurd cc
 reaches job (Unopened list) name now is can past told = absurd (omega (arith, past))
 reaches job (Filling filling) name now is can past told =
     let named : filling.part.name ≡ name = cc in
     subst (λ n. job.from < length (part_bytes now n)) named (subst (λ (n : ℕ). job.from < n) (sym (can.fills.len told)) past)
 
-kept_still : (job : Job) (intake : Intake) (now : List State) → CanHear job now intake → KeepsBytes (name_of intake) job.from now now
+pub kept_still : (job : Job) (intake : Intake) (now : List State) → CanHear job now intake → KeepsBytes (name_of intake) job.from now now
 kept_still job (Held bytes) now can = refl
 kept_still job (Unopened name) now can = record { front = λ told. refl; within = can.keep }
 kept_still job (Filling filling) now can = record { front = λ told. refl; within = λ told. omega (arith, can.fills.len told, can.past) }

@@ -46,7 +46,7 @@ leads_on before after world fetch next under (Done size) done goes = absurd cc
 leads_on before after world fetch next under (Not end) other goes = absurd cc
 leads_on before after world fetch next under NoMemory other goes = absurd cc
 
-next_word : (before mid after : ℕ) (world same : Option MirrorMap) (fetch next : Fetch) (under later : Option Fetch) (word : Word)
+pub next_word : (before mid after : ℕ) (world same : Option MirrorMap) (fetch next : Fetch) (under later : Option Fetch) (word : Word)
     → LeadsOn before mid fetch next under → same ≡ world → IfSome under (λ f. IsWord mid after same f later word) → IsWord before after world next later word
 next_word before mid after world same fetch next under later word leads e is =
     let now : IsWord mid after same next later word = rw leads.under_way at is in

@@ -54,13 +54,13 @@ stays_holds (Whole sum) name first old now same holds = record { bytes = holds.b
 stays_holds Free name first old now same holds = tt
 
 -- the file of a staged job, of which the first bytes stayed
-kept_holds : (from : ℕ) (before : WantedPart) (name first : List ℕ) (old now : List State) → before ≡ use_from from → IsTold now → KeepsFront name from old now → HasWantedPart before name first old → HasWantedPart before name first now
+pub kept_holds : (from : ℕ) (before : WantedPart) (name first : List ℕ) (old now : List State) → before ≡ use_from from → IsTold now → KeepsFront name from old now → HasWantedPart before name first old → HasWantedPart before name first now
 kept_holds zero before name first old now e told keeps holds = rw e tt
 kept_holds (suc n) before name first old now e told keeps holds =
     let h = rw e at holds in
     rw e (record { front = keeps.front told ∙ h.front; within = keeps.within told })
 
-whole_holds : (staged : ListName) (name first : List ℕ) (closed : Closed) (after : WantedPart) (now : List State) → IsTold now → IsStagedBody staged.0 now closed → IsWholeOf (Some staged) closed name after → HasWantedPart after name first now
+pub whole_holds : (staged : ListName) (name first : List ℕ) (closed : Closed) (after : WantedPart) (now : List State) → IsTold now → IsStagedBody staged.0 now closed → IsWholeOf (Some staged) closed name after → HasWantedPart after name first now
 whole_holds staged name first (closings.Served (bodies.Bytes bytes)) after now told ends is = absurd is
 whole_holds staged name first (closings.Served (bodies.Staged sum)) after now told ends is = rw is.1 (rw is.0 (ends told))
 whole_holds staged name first (closings.Not (nots.Moved place)) after now told ends is = absurd is

@@ -21,12 +21,12 @@ use Rattle.update_model.specs.declared.ask.Closed.TheVariants as closings
 -- ---- what is left goes on
 
 -- a file that stays is left as it was left
-left_on : (name : List ℕ) (from : ℕ) (closed : Closed) (old now : List State) → part_file now name ≡ part_file old name → LeftAs name old from closed → LeftAs name now from closed
+pub left_on : (name : List ℕ) (from : ℕ) (closed : Closed) (old now : List State) → part_file now name ≡ part_file old name → LeftAs name old from closed → LeftAs name now from closed
 left_on name from (closings.Served (bodies.Staged sum)) old now same left = record { bytes = left.bytes; file = same ∙ left.file; sums = left.sums }
 left_on name from (closings.Served (bodies.Bytes bytes)) old now same left = left
 left_on name from (closings.Not end) old now same left = rw same left
 
-none_both : (sources : List Source) (name : List ℕ) (notes more : List Note) → NoFileCame sources name notes → NoFileCame sources name more → NoFileCame sources name (notes ++ more)
+pub none_both : (sources : List Source) (name : List ℕ) (notes more : List Note) → NoFileCame sources name notes → NoFileCame sources name more → NoFileCame sources name (notes ++ more)
 none_both sources name [] more none later = later
 none_both sources name (note ∷ notes) more none later = (none.0, none_both sources name notes more none.1 later)
 
@@ -99,7 +99,7 @@ pub record IsNoteOf (sources : List Source) (staged : Option ListName) (from : �
   pub list : IfSome staged (λ name. list_of sources note.key ≡ Some name.0)
 
 -- the one answer left the list's file so
-one_left : (sources : List Source) (name : ListName) (from : ℕ) (note : Note) (now : List State) → IsNoteOf sources (Some name) from note → LeftAs name.0 now from note.told.closed → WasLeft sources name.0 (note ∷ []) now
+pub one_left : (sources : List Source) (name : ListName) (from : ℕ) (note : Note) (now : List State) → IsNoteOf sources (Some name) from note → LeftAs name.0 now from note.told.closed → WasLeft sources name.0 (note ∷ []) now
 one_left sources name from note now n left = record {
   earlier = [];
   note = note;

@@ -64,7 +64,7 @@ same_number n = grind (arith, nat_tests)
 -- ---- the job that goes out
 
 -- the item that asks it, and whether its file is staged
-abbrev IsStagedAs : Board → Asker → Option ListName → Type 0
+abbrev pub IsStagedAs : Board → Asker → Option ListName → Type 0
 IsStagedAs b a None = (a.ask.stage ≡ false) × (a.ask.from ≡ 0)
 IsStagedAs b a (Some name) = (a.ask.stage ≡ true) × (name_at a.source a.key.place ≡ Some name) × IsPutName name.0 × (wanted_part b name.0 ≡ use_from a.ask.from)
 
@@ -77,13 +77,13 @@ pub record IsJob (b : Board) (job : Job) (staged : Option ListName) : Type 0 whe
   pub out : b.out ≡ Some job.no ∷ []
   pub kind : IsStagedAs b a staged
 
-record IsIssued (b : Board) (job : Job) : Type 0 where
-  a : Asker
-  asks : asker_of b job.no ≡ Some a
-  is : job ≡ job_for job.no a.ask
+pub record IsIssued (b : Board) (job : Job) : Type 0 where
+  pub a : Asker
+  pub asks : asker_of b job.no ≡ Some a
+  pub is : job ≡ job_for job.no a.ask
 
-issued_is : (b : Board) (job : Job) → issued_job b 0 ≡ Some job → IsIssued b job
-issued_is b job e = by (first_of b.lanes 0) e
+pub issued_is : (b : Board) (lane : ℕ) (job : Job) → issued_job b lane ≡ Some job → IsIssued b job
+issued_is b lane job e = by (first_of b.lanes lane) e
   where
     one : (n : ℕ) (p : Option Asker) → asker_of b n ≡ p → option_map (λ (a : Asker). job_for n a.ask) p ≡ Some job → IsIssued b job
     one n None is e = absurd (cc)
@@ -109,10 +109,10 @@ name_there [] k target e = absurd (cc)
 name_there (t ∷ targets) zero target e = let same : t ≡ target = cc in rw same refl
 name_there (t ∷ targets) (suc k) target e = name_there targets k target e
 
-put_name : PlannedNamesArePutNames → (source : Source) (k : ℕ) (target : Target) → IsPlanned source → slice_get source.targets k ≡ Some target → IsPutName target.name.0
+pub put_name : PlannedNamesArePutNames → (source : Source) (k : ℕ) (target : Target) → IsPlanned source → slice_get source.targets k ≡ Some target → IsPutName target.name.0
 put_name law source k target planned e = at_all IsPutName (names_of source) (suc k) target.name.0 (law source planned) (name_there source.targets k target e)
 
-kind_of : Laws → (begun : RunStart) (b : Board) (n : ℕ) (a : Asker) (notes : List Note) → IsSoundBegun begun → b.config ≡ begun.config → Reached begun.config begun.olds notes b → asker_of b n ≡ Some a → MayBeFetched a.ask
+pub kind_of : Laws → (begun : RunStart) (b : Board) (n : ℕ) (a : Asker) (notes : List Note) → IsSoundBegun begun → b.config ≡ begun.config → Reached begun.config begun.olds notes b → asker_of b n ≡ Some a → MayBeFetched a.ask
     → IsStagedAs b a (name_staged a)
 kind_of laws begun b n a notes sound config reached asks may = by a.ask.stage refl
   where
@@ -129,7 +129,7 @@ pub job_of : Laws → (begun : RunStart) (notes : List Note) (counts : List ℕ)
     → IsJob (issued b 0) job (staged_name (issued b 0) job.no)
 job_of laws begun notes counts b job now sound running e =
     let under = running.under_way in
-    let i = issued_is b job e in
+    let i = issued_is b 0 job e in
     let out = out_is b job e running.none_out in
     let lane = lane_is (issued b 0).out job.no out in
     let reached = laws.issued begun.config begun.olds notes b 0 under.heard.reached in
@@ -157,10 +157,10 @@ can_fetch laws mirrors counts b c job now ready e issued_is =
 
 -- ---- the board that took its answer in
 
-absorbed_is : (b : Board) (n : ℕ) (closed : Closed) (a : Asker) → lane_with b.out n ≡ Some 0 → asker_of b n ≡ Some a → absorbed b 0 n closed ≡ took b n a 0 (record { lane = 0; closed = closed })
-absorbed_is b n closed a lane asks = rw lane (rw asks refl)
+pub absorbed_is : (b : Board) (method n from : ℕ) (closed : Closed) (a : Asker) → lane_with b.out n ≡ Some from → asker_of b n ≡ Some a → absorbed b method n closed ≡ took b n a from (record { lane = method; closed = closed })
+absorbed_is b method n from closed a lane asks = rw lane (rw asks refl)
 
-served_as : (b : Board) (a : Asker) (staged : Option ListName) (now : List State) (closed : Closed) → IsStagedAs b a staged → ComesTo staged now closed → IsServedAs a.ask.stage closed
+pub served_as : (b : Board) (a : Asker) (staged : Option ListName) (now : List State) (closed : Closed) → IsStagedAs b a staged → ComesTo staged now closed → IsServedAs a.ask.stage closed
 served_as b a None now (closings.Served (bodies.Bytes bytes)) kind comes = kind.0
 served_as b a None now (closings.Served (bodies.Staged sum)) kind comes = absurd comes
 served_as b a (Some name) now (closings.Served (bodies.Bytes bytes)) kind comes = absurd comes
@@ -175,7 +175,7 @@ use_of : (b : Board) (job : Job) (staged : Option ListName) → (j : IsJob b job
 use_of b job None j = tt
 use_of b job (Some name) j = j.kind.3
 
-says_same : (closed a b : Closed) → a ≡ b → IsFaultOr closed a → IsFaultOr closed b
+pub says_same : (closed a b : Closed) → a ≡ b → IsFaultOr closed a → IsFaultOr closed b
 says_same closed a b e is = rw (← e) is
 
 -- what the job asked is the item's ask
@@ -186,7 +186,7 @@ ask_is job a stage e s =
     let from : job.from ≡ a.from = ap (λ (x : Job). x.from) e in
     rw (uri, most, from, ← s) refl
 
-says_ask : (mirror : MirrorMap) (front : List ℕ) (job : Job) (a : Ask) (stage : Bool) (closed : Closed) → job ≡ job_for job.no a → a.stage ≡ stage
+pub says_ask : (mirror : MirrorMap) (front : List ℕ) (job : Job) (a : Ask) (stage : Bool) (closed : Closed) → job ≡ job_for job.no a → a.stage ≡ stage
     → IsFaultOr closed (answered front (record { uri = job.uri; max = job.max; from = job.from; stage = stage }) (answer_at mirror job.uri)) → IsFaultOr closed (answered front a (answer_at mirror a.uri))
 says_ask mirror front job a stage closed e s says =
     let uri : job.uri ≡ a.uri = ap (λ (x : Job). x.uri) e in
@@ -246,7 +246,7 @@ heard_one laws begun notes b job staged mirror before after old now closed j use
     let back = told_back (KeptAtRestSince old) old now (moments_of staged old now did.fetched) in
     record {
       config = heard.config;
-      reached = subst (λ (x : Board). Reached begun.config begun.olds (notes ++ note ∷ []) x) (absorbed_is b job.no closed j.a j.lane j.asks)
+      reached = subst (λ (x : Board). Reached begun.config begun.olds (notes ++ note ∷ []) x) (absorbed_is b 0 job.no 0 closed j.a j.lane j.asks)
           (laws.absorbed begun.config begun.olds notes b 0 job.no 0 closed j.a heard.reached j.lane j.asks);
       sound = each_last _ notes note heard.sound (sound_answer closed did.sound);
       answers = for_mirror_at begun.mirrors 0 mirror (λ (m : MirrorMap). AgreesWhereKnown old m begun.parts begun.config.sources notes) (λ (m : MirrorMap). AgreesWhereKnown now m begun.parts begun.config.sources (notes ++ note ∷ [])) at (λ m is agrees.
@@ -284,7 +284,7 @@ goes_one laws begun notes mirror before after b job old now closed e sound from 
     let staged = staged_name c job.no in
     let j = job_of laws begun notes (before ∷ []) b job old sound running e in
     let told : LaneAnswer = record { lane = 0; closed = closed } in
-    let is = absorbed_is c job.no closed j.a j.lane j.asks in
+    let is = absorbed_is c 0 job.no 0 closed j.a j.lane j.asks in
     let reached = laws.issued begun.config begun.olds notes b 0 under.heard.reached in
     let heard : RunHasHeard begun notes c old = record { config = under.heard.config; reached = reached; sound = under.heard.sound; answers = under.heard.answers } in
     let falls = λ (name : List ℕ). laws.rest begun.config begun.olds notes c 0 job.no 0 closed j.a name reached j.lane j.asks (served_as c j.a staged now closed j.kind did.comes) in
@@ -340,7 +340,7 @@ pub one_more : Laws → (mirrors : List (Option MirrorMap)) (counts : List ℕ) 
 one_more laws mirrors counts b c d job closed now ready e issued_is absorbed_as =
     let j = job_of laws ready.begun ready.notes counts b job now ready.sound ready.running e in
     let same : d ≡ absorbed (issued b 0) 0 job.no closed = absorbed_as ∙ ap (λ (x : Board). absorbed x 0 job.no closed) issued_is in
-    rw (same ∙ absorbed_is (issued b 0) job.no closed j.a j.lane j.asks) (length_push b.asks _)
+    rw (same ∙ absorbed_is (issued b 0) 0 job.no 0 closed j.a j.lane j.asks) (length_push b.asks _)
 
 -- none goes out, and the run stands as it did
 pub goes_idle : IssuedBoardsAreReached → (mirrors : List (Option MirrorMap)) (counts : List ℕ) (b c : Board) (now : List State) → c ≡ issued b 0 → issued_job b 0 ≡ None → JobKeepsRunGoing mirrors counts counts b c now now
