@@ -14,7 +14,7 @@ use Rattle.board_model.specs.Reached.{Reached}
 use Rattle.board_model.specs.Runs.{BoardRun}
 use Rattle.host_queues.specs.Lanes.{Lanes, Queue, first, first_of, taken_from, without_first}
 use Rattle.host_queues.proofs.Changes.{get-changed, get-other, get-past}
-use Rattle.lane_jobs.specs.Going.{MayAskOver, NoneWaitsBelow, RunLanes}
+use Rattle.lane_jobs.specs.Going.{MayAskOver, NoneGoesOutBelow, RunLanes}
 use Rattle.lane_jobs.specs.JobsOut.{number_of}
 use Rattle.lane_jobs.specs.declared.transfers.Transfer.{Transfer}
 use Rattle.lane_jobs.proofs.Rows.{none_some}
@@ -43,12 +43,12 @@ issued_gone b lane = ap (job_at b) (first_gone b.lanes lane)
 pub issued_other : (b : Board) (lane other : ℕ) → nat_eq other lane ≡ false → issued_job (issued b lane) other ≡ issued_job b other
 issued_other b lane other isnt = ap (λ (o : Option Queue). job_at b (option_and_then first o)) (get-other without_first b.lanes.queues lane other isnt)
 
-pub none_first : (b : Board) → NoneWaitsBelow 0 b
+pub none_first : (b : Board) → NoneGoesOutBelow 0 b
 none_first b = λ lane below. absurd (omega (arith, below))
 
 -- one more lane
-pub none_more : (b c : Board) (lane : ℕ) → c ≡ issued b lane → NoneWaitsBelow lane b → NoneWaitsBelow (lane + 1) c
-none_more b c lane is none = subst (NoneWaitsBelow (lane + 1)) (sym is) (λ other below. elim (cases_Bool (nat_eq other lane)) [
+pub none_more : (b c : Board) (lane : ℕ) → c ≡ issued b lane → NoneGoesOutBelow lane b → NoneGoesOutBelow (lane + 1) c
+none_more b c lane is none = subst (NoneGoesOutBelow (lane + 1)) (sym is) (λ other below. elim (cases_Bool (nat_eq other lane)) [
   | inl here ↦
       let same : other ≡ lane = grind (arith, nat_tests, here) in
       subst (λ (k : ℕ). issued_job (issued b lane) k ≡ None) (sym same) (issued_gone b lane)
@@ -74,7 +74,7 @@ as_many b rows busy numbers =
     sym (length-map b.lanes.queues (λ (q : Queue). q.is_out)) ∙ ap (λ (bs : List Bool). length bs) busy ∙ length-map b.out is_some
     ∙ ap (λ (ns : List (Option ℕ)). length ns) numbers ∙ length-map rows number_of
 
-none_goes : (b : Board) (rows : List (Option Transfer)) → length b.lanes.queues ≡ length rows → NoneWaitsBelow (length rows) b → (lane : ℕ) → issued_job b lane ≡ None
+none_goes : (b : Board) (rows : List (Option Transfer)) → length b.lanes.queues ≡ length rows → NoneGoesOutBelow (length rows) b → (lane : ℕ) → issued_job b lane ≡ None
 none_goes b rows many waits lane = elim (cases_Bool (nat_lt lane (length rows))) [
   | inl there ↦
       let below : lane < length rows = grind (arith, nat_tests, there) in
@@ -85,7 +85,7 @@ none_goes b rows many waits lane = elim (cases_Bool (nat_lt lane (length rows)))
 ]
 
 -- then no item asks any more
-pub none_over : (state : RunLanes) (now : List State) → JobsAlwaysStand → BoardsWithoutJobsAskNothing → MayAskOver state now → list_any is_some state.jobs.rows ≡ false → NoneWaitsBelow (length state.jobs.rows) state.board → NoneAsks state.board
+pub none_over : (state : RunLanes) (now : List State) → JobsAlwaysStand → BoardsWithoutJobsAskNothing → MayAskOver state now → list_any is_some state.jobs.rows ≡ false → NoneGoesOutBelow (length state.jobs.rows) state.board → NoneAsks state.board
 none_over state now stand idle ready none waits =
     let b = state.board in
     let rows = state.jobs.rows in

@@ -16,3 +16,4 @@ pub mod Left
 pub mod Handed
 pub mod Given
 pub mod Taken
+pub mod Begun

@@ -15,7 +15,8 @@ LeavesList None from old now closed = Unit {0}
 LeavesList (Some name) from old now closed = IsTold now → ((now ≡ old) × (IsServed closed → ⊥)) ⊎ LeftAs name now from closed
 
 -- The answer to a job whose pieces went into this list's file or into memory, by the method with this mirror, whose count of
--- faults went from `before` to `after` in it; the disk was `old` when the job's first word or its last came.
+-- faults went from `before` to `after` in it. The disk was `old` before the words that were taken in here: all of a fetch of the
+-- coordinator's, the last one of a worker's.
 pub record IsAnswered (world : Option MirrorMap) (part : List ℕ) (job : Job) (into : Option (List ℕ)) (before after : ℕ) (old now : List State) (closed : Closed) : Type 0 where
   pub counted : IsCounted before after closed
   pub count : before ≤ after

@@ -1,8 +1,8 @@
 -- A run between two words of its jobs that are out.
-use Rattle.std.specs.Prelude.{◌≡◌, ◌≢◌, ◌<◌, ℕ, suc, Bool, true, false, List, ◌++◌, length, map, slice_get, slice_index_or, slice_set, Option, Some, None, option_map}
+use Rattle.std.specs.Prelude.{◌≡◌, ◌≢◌, ◌<◌, ℕ, suc, Bool, true, false, List, ◌++◌, length, map, slice_get, slice_index, slice_index_or, slice_set, Option, Some, None, option_map}
 use Rattle.acq_base.specs.Mirror.{MirrorMap}
 use Rattle.acq_base.specs.declared.fetch.Job.{Job}
-use Rattle.acq_outside.specs.Count.{NoneFell}
+use Rattle.acq_outside.specs.Count.{NoneFell, one_more}
 use Rattle.acq_outside.specs.Crash.{State}
 use Rattle.acq_outside.specs.States.{IsTold, IsNow}
 use Rattle.acq_outside.specs.declared.word.Fetch.{Fetch}
@@ -57,7 +57,7 @@ pub record IsGiven (rows : List (Option Transfer)) (lane : ℕ) (fetch : Fetch) 
   pub at : slice_get rows lane ≡ Some (Some transfer)
   pub is : fetch ≡ fetch_of transfer.job transfer.intake
 
--- The lane of a board's queue is that of the next worker. The jobs that are out from the board are these, and, while workers are
+-- Lane l of the board is that of the worker of lane l + 1. The jobs that are out from the board are these, and, while workers are
 -- used, what each has under way is one of them.
 pub record AreOut (begun : RunStart) (state : RunLanes) (now : List State) : Type 0 where
   pub numbers : state.board.out ≡ map number_of state.jobs.rows
@@ -89,8 +89,8 @@ pub record MayAskOver (state : RunLanes) (now : List State) : Type 0 where
 
 -- ---- what comes of it
 
--- What it has heard is behind what it had heard before. Each list on its way that isn't being filled is as it was, or as an answer
--- left it; and where it was being filled it is as an answer left it.
+-- What it has heard is behind what it had heard before. Where the disk tells, each list on its way that isn't being filled is as it
+-- was, or as an answer left it; and where it was being filled it is as an answer left it.
 pub record JobsAddNotes (begun : RunStart) (notes : List Note) (before after : RunLanes) (old now : List State) : Type 0 where
   pub more : List Note
   pub left : IsTold now → (name : List ℕ) → is_filled after.jobs name ≡ false → StaysOnItsWay begun.config.sources more old now name
@@ -107,31 +107,33 @@ pub record KeepsLanes (old new : Pool) : Type 0 where
   pub worlds : new.worlds ≡ old.worlds
   pub counts : NoneFell old.counts new.counts
 
--- no file changes but those of lists on their way
+-- no file changes but those in the folder of lists on their way
 abbrev pub KeepsWholeFiles : List State → List State → Type 0
 KeepsWholeFiles old now = (name : List ℕ) → is_partial name ≡ false → file_now now name ≡ file_now old name
 
--- no worker has a job under way from this lane
+-- while workers are used, none has a job under way from this lane
 abbrev pub IsUnused : ℕ → RunLanes → Type 0
 IsUnused lane state = state.jobs.alone ≡ false → (fetch : Fetch) → slice_get state.pool.outs (suc lane) ≢ Some (Some fetch)
 
--- nothing waits in the first lanes
-abbrev pub NoneWaitsBelow : ℕ → Board → Type 0
-NoneWaitsBelow lanes b = (lane : ℕ) → lane < lanes → issued_job b lane ≡ None
+-- no job may go out from the first lanes
+abbrev pub NoneGoesOutBelow : ℕ → Board → Type 0
+NoneGoesOutBelow lanes b = (lane : ℕ) → lane < lanes → issued_job b lane ≡ None
 
--- a job was handed to the worker of this lane of the pool, where workers are used, or nothing happened
+-- a job was handed to the worker of this lane of the pool, while workers are used
 pub record WasGiven (alone : Bool) (lane : ℕ) (fetch : Fetch) (old new : Pool) : Type 0 where
   pub used : alone ≡ false
   pub free : slice_get old.outs lane ≡ Some None
   pub worlds : new.worlds ≡ old.worlds
   pub counts : new.counts ≡ old.counts
   pub outs : new.outs ≡ slice_set old.outs lane (Some fetch)
+  pub begins : new.begins ≡ slice_set old.begins lane (one_more (slice_index old.begins lane))
 
 -- nothing that is known of the lanes changed
 pub record WasRefused (old new : Pool) : Type 0 where
   pub worlds : new.worlds ≡ old.worlds
   pub counts : new.counts ≡ old.counts
   pub outs : new.outs ≡ old.outs
+  pub begins : new.begins ≡ old.begins
 
 abbrev pub IsHandedOver : Bool → ℕ → Fetch → Pool → Pool → Bool → Type 0
 IsHandedOver alone lane fetch old new true = WasGiven alone lane fetch old new

@@ -4,3 +4,5 @@ pub mod JobsOut
 pub mod Going
 -- and what one answer is, whichever lane it came from.
 pub mod Answering
+-- How many fetches were begun.
+pub mod Begins

@@ -1,11 +1,12 @@
 //! Jobs that no worker answers.
-ghost use Rattle.std.specs.Prelude.{◌≡◌, ◌≢◌, ℕ, false, true, is_some, length, Err, IfOk, None, OnOk};
+ghost use Rattle.std.specs.Prelude.{◌≡◌, ◌≢◌, ℕ, false, true, is_some, length, List, Err, IfOk, None, OnOk};
 ghost use Rattle.std.specs.List.{list_any};
 ghost use Rattle.acq_outside.specs.States.{Since};
 ghost use Rattle.acq_outside.specs.Stays.{StaysCounting};
 ghost use Rattle.journal_model.specs.Rest.{KeptAtRestSince};
 ghost use Rattle.update_core.specs.BoardRefinement.{board_of};
 ghost use Rattle.run_jobs.specs.Running.{SameBoard};
+ghost use Rattle.lane_jobs.specs.Begins.{AsksOwn, HasBegun};
 ghost use Rattle.lane_jobs.specs.Going.{IsUnused, JobsGoOn, KeepsLanes, KeepsWholeFiles, MayAskOver, run_lanes};
 ghost use Rattle.lane_jobs.specs.JobsOut.{with_row};
 
@@ -42,6 +43,7 @@ pub fn fetch_left<D: Disk, M: Method + Send + 'static>(
     ensures others { KeepsWholeFiles (D.trace disk.old) (D.trace disk.new) }
     ensures goes { OnOk result (JobsGoOn (run_lanes lanes.old jobs.old (board_of board.old))
         (run_lanes lanes.new jobs.new (board_of board.new)) (D.trace disk.old) (D.trace disk.new)) }
+    ensures asks { OnOk result (AsksOwn lanes.old lanes.new (board_of board.old).asks (board_of board.new).asks) }
 {
     let Some(Transfer { job, intake: _ }) = jobs.take(lane) else {
         return Ok(());
@@ -74,6 +76,8 @@ pub fn fetch_rest<D: Disk, M: Method + Send + 'static>(
     ensures others { KeepsWholeFiles (D.trace disk.old) (D.trace disk.new) }
     ensures goes { OnOk result (JobsGoOn (run_lanes lanes.old jobs.old (board_of board.old))
         (run_lanes lanes.new jobs.new (board_of board.new)) (D.trace disk.old) (D.trace disk.new)) }
+    ensures begins { (first : List ℕ) → HasBegun first (run_lanes lanes.old jobs.old (board_of board.old))
+        → OnOk result (HasBegun first (run_lanes lanes.new jobs.new (board_of board.new))) }
 {
     for lane in 0..jobs.lanes() {
         fetch_left(alloc, judge, disk, lanes, jobs, board, lane)?;

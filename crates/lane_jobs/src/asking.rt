@@ -1,5 +1,5 @@
 //! A step of a run over several lanes.
-ghost use Rattle.std.specs.Prelude.{◌≡◌, ◌≢◌, ℕ, false, true, is_some, length, Err, IfOk, None, OnOk};
+ghost use Rattle.std.specs.Prelude.{◌≡◌, ◌≢◌, ℕ, false, true, is_some, length, List, Err, IfOk, None, OnOk};
 ghost use Rattle.std.specs.List.{list_any};
 ghost use Rattle.acq_outside.specs.States.{Since};
 ghost use Rattle.acq_outside.specs.Stays.{StaysCounting};
@@ -7,6 +7,7 @@ ghost use Rattle.journal_model.specs.Rest.{KeptAtRestSince};
 ghost use Rattle.update_core.specs.BoardRefinement.{board_of};
 ghost use Rattle.run_jobs.specs.Running.{SameBoard};
 ghost use Rattle.board_model.specs.Jobs.{NoneAsks};
+ghost use Rattle.lane_jobs.specs.Begins.{HasBegun};
 ghost use Rattle.lane_jobs.specs.Going.{JobsGoOn, KeepsLanes, KeepsWholeFiles, MayAskOver, run_lanes};
 
 use crate::handing::hand_all;
@@ -21,8 +22,8 @@ use std::sync::Wait;
 use update_core::Board;
 
 /// Hands a job out from each lane that has none out, and takes a worker's next word in; whether there was a job or one was out.
-/// With none no job is out, and nothing is asked any more. No file changes but those of lists on their way. Where a lane gave no word that it owed, no
-/// worker is used any more, and no job is out behind the call (`alone`).
+/// With none no job is out, and nothing is asked any more. Once workers are given up, since no word came of a lane, no job is
+/// out behind the call (`alone`). No file changes but those in the folder of lists on their way.
 ///
 /// It waits for a word where one is owed. `DiskFault` only where the disk's count of faults rose, and never `BadJournal`.
 pub fn ask_some<R: Wait, D: Disk, M: Method + Send + 'static>(
@@ -48,6 +49,8 @@ pub fn ask_some<R: Wait, D: Disk, M: Method + Send + 'static>(
     ensures others { KeepsWholeFiles (D.trace disk.old) (D.trace disk.new) }
     ensures goes { OnOk result (JobsGoOn (run_lanes lanes.old jobs.old (board_of board.old))
         (run_lanes lanes.new jobs.new (board_of board.new)) (D.trace disk.old) (D.trace disk.new)) }
+    ensures begins { (first : List ℕ) → HasBegun first (run_lanes lanes.old jobs.old (board_of board.old))
+        → OnOk result (HasBegun first (run_lanes lanes.new jobs.new (board_of board.new))) }
 {
     let went = hand_all(rt, alloc, judge, disk, lanes, jobs, board)?;
     if jobs.has_out() {

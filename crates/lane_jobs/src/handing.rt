@@ -1,5 +1,5 @@
 //! Jobs go out.
-ghost use Rattle.std.specs.Prelude.{◌≡◌, ◌≢◌, ℕ, false, true, is_some, length, Err, IfOk, None, OnOk};
+ghost use Rattle.std.specs.Prelude.{◌≡◌, ◌≢◌, ℕ, false, true, is_some, length, List, Err, IfOk, None, OnOk};
 ghost use Rattle.std.specs.List.{list_any};
 ghost use Rattle.acq_outside.specs.States.{Since};
 ghost use Rattle.acq_outside.specs.Stays.{StaysCounting};
@@ -10,7 +10,8 @@ ghost use Rattle.std.specs.Prelude.{◌<◌, suc};
 ghost use Rattle.acq_base.specs.Uri.{IsSound};
 ghost use Rattle.acq_outside.specs.Word.{CanBegin, begun};
 ghost use Rattle.board_model.specs.Boards.{issued, issued_job};
-ghost use Rattle.lane_jobs.specs.Going.{IsHandedOver, JobsGoOn, KeepsLanes, KeepsWholeFiles, MayAskOver, NoneWaitsBelow, run_lanes};
+ghost use Rattle.lane_jobs.specs.Begins.{HasBegun};
+ghost use Rattle.lane_jobs.specs.Going.{IsHandedOver, JobsGoOn, KeepsLanes, KeepsWholeFiles, MayAskOver, NoneGoesOutBelow, run_lanes};
 
 use crate::answering::fetch_left;
 use crate::transfers::{Transfer, Transfers, first_intake};
@@ -71,6 +72,8 @@ fn hand_out<R: Wait, D: Disk, M: Method + Send + 'static>(
     ensures others { KeepsWholeFiles (D.trace disk.old) (D.trace disk.new) }
     ensures goes { OnOk result (JobsGoOn (run_lanes lanes.old jobs.old (board_of board.old))
         (run_lanes lanes.new jobs.new (board_of board.new)) (D.trace disk.old) (D.trace disk.new)) }
+    ensures begins { (first : List ℕ) → HasBegun first (run_lanes lanes.old jobs.old (board_of board.old))
+        → OnOk result (HasBegun first (run_lanes lanes.new jobs.new (board_of board.new))) }
 {
     let Some(job) = board.issue(alloc, lane)? else {
         return Ok(false);
@@ -102,11 +105,13 @@ pub fn hand_all<R: Wait, D: Disk, M: Method + Send + 'static>(
     ensures methods { KeepsLanes lanes.old lanes.new }
     ensures rows { OnOk result (length jobs.new.rows ≡ length jobs.old.rows) }
     ensures same { OnOk result (SameBoard (board_of board.old) (board_of board.new)) }
-    ensures none { IfOk result (λ went. went ≡ false → NoneWaitsBelow (length jobs.old.rows) (board_of board.new)) }
+    ensures none { IfOk result (λ went. went ≡ false → NoneGoesOutBelow (length jobs.old.rows) (board_of board.new)) }
     ensures moments { Since (D.trace disk.old) (D.trace disk.new) (KeptAtRestSince (D.trace disk.old)) }
     ensures others { KeepsWholeFiles (D.trace disk.old) (D.trace disk.new) }
     ensures goes { OnOk result (JobsGoOn (run_lanes lanes.old jobs.old (board_of board.old))
         (run_lanes lanes.new jobs.new (board_of board.new)) (D.trace disk.old) (D.trace disk.new)) }
+    ensures begins { (first : List ℕ) → HasBegun first (run_lanes lanes.old jobs.old (board_of board.old))
+        → OnOk result (HasBegun first (run_lanes lanes.new jobs.new (board_of board.new))) }
 {
     let mut went = false;
     for lane in 0..jobs.lanes() {

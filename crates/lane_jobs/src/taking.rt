@@ -1,5 +1,5 @@
 //! Words come in.
-ghost use Rattle.std.specs.Prelude.{◌≡◌, ◌≢◌, ℕ, false, true, is_some, length, Err, IfOk, None, OnOk};
+ghost use Rattle.std.specs.Prelude.{◌≡◌, ◌≢◌, ℕ, false, true, is_some, length, List, Err, IfOk, None, OnOk};
 ghost use Rattle.std.specs.List.{list_any};
 ghost use Rattle.acq_outside.specs.States.{Since};
 ghost use Rattle.acq_outside.specs.Stays.{StaysCounting};
@@ -7,6 +7,7 @@ ghost use Rattle.journal_model.specs.Rest.{KeptAtRestSince};
 ghost use Rattle.update_core.specs.BoardRefinement.{board_of};
 ghost use Rattle.run_jobs.specs.Running.{SameBoard};
 ghost use Rattle.lane_pool.specs.Pool.{IsWordTaken, Pool};
+ghost use Rattle.lane_jobs.specs.Begins.{HasBegun};
 ghost use Rattle.lane_jobs.specs.Going.{IsDue, JobsGoOn, KeepsLanes, KeepsWholeFiles, MayAskOver, run_lanes};
 
 use crate::answering::fetch_rest;
@@ -43,6 +44,8 @@ pub fn take_word<R: Wait, D: Disk, M: Method + Send + 'static>(
     ensures others { KeepsWholeFiles (D.trace disk.old) (D.trace disk.new) }
     ensures goes { OnOk result (JobsGoOn (run_lanes lanes.old jobs.old (board_of board.old))
         (run_lanes lanes.new jobs.new (board_of board.new)) (D.trace disk.old) (D.trace disk.new)) }
+    ensures begins { (first : List ℕ) → HasBegun first (run_lanes lanes.old jobs.old (board_of board.old))
+        → OnOk result (HasBegun first (run_lanes lanes.new jobs.new (board_of board.new))) }
 {
     if !jobs.is_alone() {
         if let Some(told) = lanes.take(rt) {
@@ -76,6 +79,9 @@ fn take_in<D: Disk, M: Method + Send + 'static>(
     ensures goes { (before : Pool) → IsWordTaken before told lanes.now → jobs.old.alone ≡ false
         → OnOk result (JobsGoOn (run_lanes before jobs.old (board_of board.old)) (run_lanes lanes.now jobs.new (board_of board.new))
         (D.trace disk.old) (D.trace disk.new)) }
+    ensures begins { (before : Pool) → IsWordTaken before told lanes.now → jobs.old.alone ≡ false
+        → (first : List ℕ) → HasBegun first (run_lanes before jobs.old (board_of board.old))
+        → OnOk result (HasBegun first (run_lanes lanes.now jobs.new (board_of board.new))) }
 {
     let Some(Transfer { job, intake }) = jobs.take(told.lane - 1) else {
         unreachable!()

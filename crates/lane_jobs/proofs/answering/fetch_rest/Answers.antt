@@ -6,6 +6,7 @@ use Rattle.commit_journal.proofs.Fills.{rests_on}
 use Rattle.update_core.specs.BoardRefinement.{board_of}
 use Rattle.lane_jobs.specs.Going.{run_lanes}
 use Rattle.lane_jobs.proofs.Steps.{alone_then, goes_same, goes_then, ready_then, same_board, same_then, whole_same, whole_then}
+use Rattle.lane_jobs.proofs.Begun.{alone_out, begun_asked}
 use Rattle.lane_jobs.proofs.Gone.{below_then, len_then, none_below, none_left}
 use Rattle.lane_jobs.proofs.Over.{keeps_same, keeps_then}
 use Rattle.lane_jobs.proofs.answering.fetch_rest.Goals as goal
@@ -24,6 +25,7 @@ loop-lane-init g c =
       others = whole_same disk;
       ready = c.requires.ready;
       goes = goes_same (run_lanes c.args.lanes.now c.args.jobs.now (board_of c.args.board.now)) disk;
+      begins = λ first has. has;
     }
 
 pub fetch_left-requires-clause-unused : goal.fetch_left-requires-clause-unused
@@ -46,6 +48,9 @@ loop-lane-preserved g c =
       others = whole_then old mid new inv.others c.fetch_left.ensures.others;
       ready = ready_then _ _ mid new inv.ready c.fetch_left.ensures.moments c.in_ok-fetch_left.ensures.goes;
       goes = goes_then _ _ _ old mid new c.fetch_left.ensures.moments inv.goes c.in_ok-fetch_left.ensures.goes;
+      begins = λ first has.
+          begun_asked first (run_lanes c.loop-lane.lanes c.loop-lane.jobs (board_of c.loop-lane.board)) (run_lanes c.fetch_left.new.lanes c.fetch_left.new.jobs (board_of c.fetch_left.new.board)) c.in_ok-fetch_left.ensures.asks
+          (alone_out c.loop-lane.jobs c.fetch_left.new.jobs (alone_then _ _ _ _ c.in_ok-fetch_left.ensures.rows inv.alone)) (inv.begins first has);
     }
 
 pub returns-in_err-fetch_left-clause-moments : goal.returns-in_err-fetch_left-clause-moments

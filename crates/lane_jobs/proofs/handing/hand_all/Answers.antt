@@ -23,6 +23,7 @@ loop-lane-init g c =
       others = whole_same disk;
       ready = c.requires.ready;
       goes = goes_same (run_lanes c.args.lanes.now c.args.jobs.now (board_of c.args.board.now)) disk;
+      begins = λ first has. has;
     }
 
 pub loop-lane-preserved : goal.loop-lane-preserved
@@ -44,6 +45,7 @@ loop-lane-preserved g c =
       others = whole_then old mid new inv.others c.hand_out.ensures.others;
       ready = ready_then _ _ mid new inv.ready c.hand_out.ensures.moments c.in_ok-hand_out.ensures.goes;
       goes = goes_then _ _ _ old mid new c.hand_out.ensures.moments inv.goes c.in_ok-hand_out.ensures.goes;
+      begins = λ first has. c.in_ok-hand_out.ensures.begins first (inv.begins first has);
     }
 
 pub returns-in_err-hand_out-clause-moments : goal.returns-in_err-hand_out-clause-moments

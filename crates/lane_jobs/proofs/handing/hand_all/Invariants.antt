@@ -1,16 +1,17 @@
-use Rattle.std.proofs.Common.{◌≡◌, false, length}
+use Rattle.std.proofs.Common.{◌≡◌, ℕ, false, List, length}
 use Rattle.acq_outside.specs.States.{Since}
 use Rattle.acq_outside.specs.Stays.{HasStayed}
 use Rattle.journal_model.specs.Rest.{KeptAtRestSince}
 use Rattle.update_core.specs.BoardRefinement.{board_of}
 use Rattle.run_jobs.specs.Running.{SameBoard}
-use Rattle.lane_jobs.specs.Going.{JobsGoOn, KeepsLanes, KeepsWholeFiles, MayAskOver, NoneWaitsBelow, run_lanes}
+use Rattle.lane_jobs.specs.Begins.{HasBegun}
+use Rattle.lane_jobs.specs.Going.{JobsGoOn, KeepsLanes, KeepsWholeFiles, MayAskOver, NoneGoesOutBelow, run_lanes}
 use Rattle.lane_jobs.proofs.handing.hand_all.Given as goal
 
 abbrev pub invariant-loop-lane : goal.invariant-loop-lane
 invariant-loop-lane g l = record {
   rows : length l.jobs.rows ≡ length l.fn.jobs.rows;
-  none : l.went ≡ false → NoneWaitsBelow l.lane (board_of l.board);
+  none : l.went ≡ false → NoneGoesOutBelow l.lane (board_of l.board);
   methods : KeepsLanes l.fn.lanes l.lanes;
   frame : HasStayed g.D.Disk l.fn.disk l.disk;
   same : SameBoard (board_of l.fn.board) (board_of l.board);
@@ -18,4 +19,5 @@ invariant-loop-lane g l = record {
   others : KeepsWholeFiles (g.D.Disk.trace l.fn.disk) (g.D.Disk.trace l.disk);
   ready : MayAskOver (run_lanes l.lanes l.jobs (board_of l.board)) (g.D.Disk.trace l.disk);
   goes : JobsGoOn (run_lanes l.fn.lanes l.fn.jobs (board_of l.fn.board)) (run_lanes l.lanes l.jobs (board_of l.board)) (g.D.Disk.trace l.fn.disk) (g.D.Disk.trace l.disk);
+  begins : (first : List ℕ) → HasBegun first (run_lanes l.fn.lanes l.fn.jobs (board_of l.fn.board)) → HasBegun first (run_lanes l.lanes l.jobs (board_of l.board));
 }

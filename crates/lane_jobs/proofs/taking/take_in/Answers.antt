@@ -3,6 +3,7 @@ use Rattle.acq_outside.specs.Word.{CanBegin, IsWithinLimit}
 use Rattle.board_model.proofs.Theorems.{jobs_always_stand}
 use Rattle.board_model.specs.Boards.{is_out}
 use Rattle.job_fetch.specs.Hearing.{CanHear, fetch_of, name_of}
+use Rattle.lane_jobs.proofs.Begun.{begun_last, begun_piece}
 use Rattle.lane_jobs.proofs.Changes.{change_moments, change_whole, none_taken, one_there, row_twice, taken_there}
 use Rattle.lane_jobs.proofs.Known.{known}
 use Rattle.lane_jobs.proofs.OwnFetch.{word_changes}
@@ -83,4 +84,23 @@ returns-clause-goes g c = λ before taken used.
           let goes = goes_last known jobs_always_stand before c.args.lanes.now jobs (board_of c.args.board.now) (board_of w.absorb.new.self) old new told k t w.in-Last.closed (row_of told.lane taken.worker) at used taken c.hear.ensures.touches c.in_ok-heard.ensures.kept leads ends hears w.in_ok-absorb-in-Last.ensures in
           let jobs_is = w.jobs-is ∙ c.take.ensures.rows in
           rw (jobs_is, w.board-is) goes
+    ]
+
+pub returns-clause-begins : goal.returns-clause-begins
+returns-clause-begins g c = λ before taken used first has.
+    let told = c.args.told in
+    let jobs = c.args.jobs.now in
+    let k = told.lane - 1 in
+    let t = c.in-Some.field-0 in
+    let at = taken_there jobs k c.take.result t c.take.ensures.transfer c.in-Some.is in
+    elim c.match-heard.branch [
+      | in-More w ↦
+          let begins = begun_piece before c.args.lanes.now jobs (board_of c.args.board.now) told k t w.in-More.intake at taken first has in
+          let jobs_is = w.jobs-is ∙ w.put.ensures ∙ ap (with_row k (Some (record { job = t.job; intake = w.in-More.intake }))) c.take.ensures.rows ∙ row_twice k None (Some (record { job = t.job; intake = w.in-More.intake })) jobs in
+          rw (jobs_is, w.board-is) begins
+      | in-Last+in_ok-absorb-in-Last w ↦
+          let begins = begun_last jobs_always_stand before c.args.lanes.now jobs (board_of c.args.board.now) (board_of w.absorb.new.self) (g.D.Disk.trace c.args.disk.now) told k t w.in-Last.closed c.requires.due
+          (row_of told.lane taken.worker) at used taken w.in_ok-absorb-in-Last.ensures first has in
+          let jobs_is = w.jobs-is ∙ c.take.ensures.rows in
+          rw (jobs_is, w.board-is) begins
     ]
