@@ -1,5 +1,5 @@
 -- What is told of an environment.
-use Rattle.std.proofs.Common.{◌≡◌, ◌∙◌, subst, drop, ℕ, List, Option, Some, None, IfSome}
+use Rattle.std.proofs.Common.{◌≡◌, ◌∙◌, ap, subst, drop, ℕ, suc, List, Option, Some, None, IfSome}
 use Rattle.acquire.specs.Carried.{IsPlace, IsPlaceRefusal}
 use Rattle.start_values.specs.Environment.{Known}
 use Rattle.start_values.specs.Start.{IsRefusal}
@@ -26,3 +26,8 @@ refusal_by (Some known) words refused is refuses = subst (λ w. IsPlaceRefusal k
 pub without_memory : (told : Option Known) → IfSome told (λ known. IsRefusal known NoMemory)
 without_memory None = tt
 without_memory (Some known) = tt
+
+-- as many as it says, and one
+pub one_more_by : (told : Option Known) (count read : ℕ) (says : Known → ℕ) → count ≡ suc read → IfSome told (λ known. read ≡ says known) → IfSome told (λ known. count ≡ suc (says known))
+one_more_by None count read says same is = tt
+one_more_by (Some known) count read says same is = same ∙ ap suc is

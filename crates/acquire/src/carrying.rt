@@ -1,5 +1,5 @@
 //! The one call that the program makes.
-ghost use Rattle.std.specs.Prelude.{◌≡◌, vec_len};
+ghost use Rattle.std.specs.Prelude.{◌≡◌, ◌≤◌, vec_len};
 ghost use Rattle.std.specs.Process.{exit_status};
 ghost use Rattle.acq_real.specs.RealDisk as disk;
 ghost use Rattle.acq_real.specs.RealEtc as etc;
@@ -20,8 +20,8 @@ use std::sync::Wait;
 use std::thread::Threads;
 use update_program::{Status, program_call};
 
-/// Reads the words and the folders that the environment names, and carries the words out over these folders, one method and an
-/// input.
+/// Reads the words and the folders that the environment names, and carries the words out over these folders, an input, and these
+/// methods, the first the coordinator's and each other one a worker's.
 /// The folder `partial` that a download made is removed where it is empty in the end.
 /// It answers the status of that call, or of the refusal where words or a variable can't be read.
 pub fn carry_out<V, R, M, I>(
@@ -45,7 +45,7 @@ where
         + 'static,
     M: Method + Send + 'static,
     I: Inlet,
-    requires { vec_len methods.old ≡ 1 }
+    requires methods { (1 ≤ vec_len methods.old) × (vec_len methods.old ≤ 9) }
     ensures { CarriesOut ⟦<RealEtc<R> as Etc>⟧ ⟦<RealDisk<R> as Disk>⟧ M.Method ⟦<RealClock<R> as Clock>⟧ ⟦<RealSink<R> as Sink>⟧
         I.Inlet ⟦<RealFiles<R> as Files>⟧ ⟦<TcpPort<R> as Port>⟧ ⟦<RealTree<R> as Tree>⟧
         etc.folder_of disk.folder_of (V.known environment.now) methods.old methods.new input out.old out.new (exit_status result) }

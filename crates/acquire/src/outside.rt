@@ -1,7 +1,8 @@
 //! The real objects of a run: folders and clock, made of what the program goes by, and the method.
-ghost use Rattle.std.specs.Prelude.{◌≡◌, IfOk, string_bytes, vec_len};
+ghost use Rattle.std.specs.Prelude.{◌≡◌, ◌≤◌, suc, IfOk, IfSome, string_bytes, vec_len};
 ghost use Rattle.acq_real.specs.RealDisk as disk;
 ghost use Rattle.acq_real.specs.RealEtc as etc;
+ghost use Rattle.start_values.specs.Start.{known_lanes};
 
 use acq_base::NoMemory;
 use acq_net::{TcpLink, TcpPort};
@@ -10,7 +11,7 @@ use acq_real::{RealClock, RealDisk, RealEtc, RealFiles, RealTree};
 use both_method::BothMethod;
 use file_method::FileMethod;
 use http_method::HttpMethod;
-use start_values::Start;
+use start_values::{Environment, Refused, Start, read_lanes};
 use std::alloc::Global;
 use std::fs::File;
 use std::net::{Net, TcpListener, TcpStream};
@@ -92,17 +93,33 @@ where
     }
 }
 
-/// Files of the system and peers over TCP, as one method. It opens none.
-pub fn one_method<R>(alloc: Global, rt: R) -> Result<Vec<RealMethod<R>>, NoMemory>
+/// The coordinator's method and one for each worker that the environment asks for. None is opened.
+pub fn methods_of<V, R>(rt: R, environment: &V) -> Result<Vec<RealMethod<R>>, Refused>
+where
+    V: Environment,
+    R: Files<File = File> + Net<Stream = TcpStream> + AllocGlobal + Copy,
+    ensures lanes { IfSome (V.known environment.now) (λ known. IfOk result (λ methods. vec_len methods ≡ suc (known_lanes known))) }
+    ensures few { IfOk result (λ methods. (1 ≤ vec_len methods) × (vec_len methods ≤ 9)) }
+{
+    let workers = read_lanes(rt.alloc(), environment)?;
+    match methods_for(rt.alloc(), rt, workers) {
+        Ok(methods) => Ok(methods),
+        Err(NoMemory) => Err(Refused::NoMemory),
+    }
+}
+
+/// The coordinator's method and one for each of so many workers: files of the system and peers over TCP.
+fn methods_for<R>(alloc: Global, rt: R, workers: u8) -> Result<Vec<RealMethod<R>>, NoMemory>
 where
     R: Files<File = File> + Net<Stream = TcpStream> + AllocGlobal + Copy,
-    ensures { IfOk result (λ methods. vec_len methods ≡ 1) }
+    requires { workers ≤ 8 }
+    ensures { IfOk result (λ methods. vec_len methods ≡ suc workers) }
 {
-    let files = FileMethod::new(RealTree::new(rt));
-    let peers = HttpMethod::new(TcpLink::new(rt));
-    let mut methods = Vec::new(alloc);
-    match methods.push(BothMethod::new(files, peers)) {
-        Ok(()) => Ok(methods),
-        Err(_) => Err(NoMemory),
+    let mut methods = Vec::with_capacity(alloc, workers as usize + 1)?;
+    for _ in 0..workers + 1 {
+        let files = FileMethod::new(RealTree::new(rt));
+        let peers = HttpMethod::new(TcpLink::new(rt));
+        methods.push(BothMethod::new(files, peers))?;
     }
+    Ok(methods)
 }

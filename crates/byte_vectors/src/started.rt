@@ -4,8 +4,8 @@ ghost use Rattle.std.specs.Io.{WritesAtMost};
 use acq_base::{NoMemory, Row, Text};
 use case_words::{Page, Refused};
 use start_values::{
-    Environment, MemEnvironment, RealEnvironment, Refused as Unstarted, Start, read_place,
-    read_start,
+    Environment, MemEnvironment, RealEnvironment, Refused as Unstarted, Start, read_lanes,
+    read_place, read_start,
 };
 use std::alloc::Global;
 use std::env::FillError;
@@ -99,10 +99,17 @@ pub fn put_told(alloc: Global, page: &mut Page, words: &[&[u8]]) -> Result<(), R
 }
 
 fn put_read<E: Environment>(alloc: Global, page: &mut Page, environment: &E) {
-    match read_start(alloc, environment) {
-        Ok(start) => put_start(page, &start),
+    match read_all(alloc, environment) {
+        Ok((start, lanes)) => put_start(page, &start, lanes),
         Err(refused) => put_unstarted(page, refused),
     }
+}
+
+/// What a program goes by, and how many workers it may have.
+fn read_all<E: Environment>(alloc: Global, environment: &E) -> Result<(Start, u8), Unstarted> {
+    let start = read_start(alloc, environment)?;
+    let lanes = read_lanes(alloc, environment)?;
+    Ok((start, lanes))
 }
 
 /// Appends the folder for package files of a program that was started so.
@@ -115,14 +122,13 @@ pub fn put_place(alloc: Global, page: &mut Page, words: &[&[u8]]) -> Result<(), 
     Ok(())
 }
 
-fn put_start(page: &mut Page, start: &Start) {
+fn put_start(page: &mut Page, start: &Start, lanes: u8) {
     for word in &start.words {
         page.put(word.as_str());
         page.put(" ");
     }
     let etc = start.etc.as_str();
     let lists = start.lists.as_str();
-    let lanes = start.lanes;
     page.show(format_args!("| {etc} {lists} {lanes}"));
 }
 

@@ -21,6 +21,8 @@ use acq_memory::MemDisk;
 use configuration::Configured;
 use mirror_maker::make;
 use std::alloc::Global;
+use std::sync::Wait;
+use std::thread::Threads;
 use update_model::{RunLog, Verdict2};
 
 /// How an update went.
@@ -36,21 +38,26 @@ pub struct Day {
 
 /// How an update over the mirror of a number goes on its first day, and how one goes on its second. The first begins with
 /// no list, and the second with those that the first left.
-pub fn both_days(alloc: Global, number: u64) -> Result<(Day, Day), NoMemory>
+pub fn both_days<R: Threads + Wait + Copy + Send + 'static>(
+    rt: &R,
+    alloc: Global,
+    number: u64,
+) -> Result<(Day, Day), NoMemory>
     ensures days { IfOk result (λ days. AreDaysOf number days.0 days.1) }
 {
     let made = make(alloc, number)?;
     let mut disk = MemDisk::new(alloc, Row::new(alloc), false, Row::new(alloc))?;
     let list = made.list.copy(alloc)?;
     let configured = configure_by(alloc, list)?;
-    let first = run_day(alloc, configured, made.first, made.first_now, &mut disk)?;
+    let first = run_day(rt, alloc, configured, made.first, made.first_now, &mut disk)?;
     let again = configure_by(alloc, made.list)?;
-    let second = run_day(alloc, again, made.second, made.second_now, &mut disk)?;
+    let second = run_day(rt, alloc, again, made.second, made.second_now, &mut disk)?;
     Ok((first, second))
 }
 
 /// One update over a mirror.
-fn run_day(
+fn run_day<R: Threads + Wait + Copy + Send + 'static>(
+    rt: &R,
     alloc: Global,
     it: Configured,
     mirror: Mirror,
@@ -64,7 +71,7 @@ fn run_day(
     ensures synced { OnOk result (ToldAs IsSynced (trace_of (past_of disk.new))) }
 {
     check_clear(alloc, disk)?;
-    let log = run_over(alloc, it, mirror, now, disk)?;
+    let log = run_over(rt, alloc, it, mirror, now, disk)?;
     let bytes = bytes_of(alloc, disk)?;
     let installed = count_installed(&log);
     let asks = count_asks(&log);

@@ -22,12 +22,15 @@ use configuration::Configured;
 use kept_hooks::Judge;
 use release_file::{Head, is_allowed};
 use std::alloc::Global;
+use std::sync::Wait;
+use std::thread::Threads;
 use update_engine::run_update;
 use update_model::RunLog;
 
 /// Updates a folder in which nothing is on its way over a mirror, and answers the log. A fault of an object in memory
 /// stands for want of memory.
-pub fn run_over(
+pub fn run_over<R: Threads + Wait + Copy + Send + 'static>(
+    rt: &R,
     alloc: Global,
     it: Configured,
     mirror: Mirror,
@@ -55,6 +58,7 @@ pub fn run_over(
     let method = MapMethod::new(mirror, Row::new(alloc), Row::new(alloc));
     let mut methods = vec![in alloc; method]?;
     let Ok(log) = run_update(
+        rt,
         alloc,
         plan,
         settings,

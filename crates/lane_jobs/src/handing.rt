@@ -1,12 +1,11 @@
 //! Jobs go out.
-ghost use Rattle.std.specs.Prelude.{◌≡◌, ◌≢◌, ℕ, false, true, is_some, length, List, Err, IfOk, None, OnOk};
+ghost use Rattle.std.specs.Prelude.{◌≡◌, ◌≢◌, ◌<◌, ℕ, false, true, is_some, length, suc, List, Err, IfOk, None, OnOk};
 ghost use Rattle.std.specs.List.{list_any};
 ghost use Rattle.acq_outside.specs.States.{Since};
 ghost use Rattle.acq_outside.specs.Stays.{StaysCounting};
 ghost use Rattle.journal_model.specs.Rest.{KeptAtRestSince};
 ghost use Rattle.update_core.specs.BoardRefinement.{board_of};
 ghost use Rattle.run_jobs.specs.Running.{SameBoard};
-ghost use Rattle.std.specs.Prelude.{◌<◌, suc};
 ghost use Rattle.acq_base.specs.Uri.{IsSound};
 ghost use Rattle.acq_outside.specs.Word.{CanBegin, begun};
 ghost use Rattle.board_model.specs.Boards.{issued, issued_job};

@@ -7,7 +7,7 @@
 //! that its lane's method counted; what the board wants of the lists on their way is on the disk; and where the disk tells, a list
 //! that isn't being filled is as it was, or as an answer left it (`goes`). Where `ask_some` answers false no job is out (`quiet`)
 //! and no item asks (`none`). Once workers are given up no job is out behind the call (`alone`). Over the coordinator's lane just
-//! as many fetches were begun as the log tells, over each worker's as many or one more (`begins`). No file changes but those in
+//! as many fetches were begun as the log tells, and each worker was handed as many jobs or one more (`begins`). No file changes but those in
 //! the folder of lists on their way (`others`), what is at rest stays so at every moment (`moments`), the mirrors stay and no
 //! method's count falls (`methods`), and a fault of the disk is told just where its count rose (`frame`). That a word comes, that
 //! jobs go out to workers, and that an answer comes at all is claimed nowhere.

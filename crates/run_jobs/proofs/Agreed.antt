@@ -1,19 +1,12 @@
 -- What a run has heard of a mirror, while the disk's states go on.
-use Rattle.std.proofs.Common.{◌≡◌, ℕ, Bool, true, false, if◌then◌else◌, List, [], ◌∷◌, ◌++◌, length, subst, take, drop, Option}
-use Rattle.std.specs.Prelude.{nat_le, nat_lt, ◌&&◌}
+use Rattle.std.proofs.Common.{List, [], ◌∷◌, Option}
 use Rattle.acq_base.specs.Mirror.{MirrorMap}
-use Rattle.acq_base.specs.declared.fetch.Answer.{Answer}
-use Rattle.acq_base.specs.declared.fetch.Answer.TheVariants as answers
-use Rattle.acq_base.specs.declared.fetch.NotServed.{NotServed}
-use Rattle.acq_base.specs.declared.fetch.NotServed.TheVariants as nots
 use Rattle.acq_base.specs.declared.plan.Source.{Source}
 use Rattle.acq_outside.specs.Crash.{State}
 use Rattle.acq_outside.specs.States.{IsTold}
 use Rattle.board_model.specs.Agreeing.{Agrees}
 use Rattle.board_model.specs.Runs.{Note}
 use Rattle.update_model.specs.Outcomes.{PartFiles}
-use Rattle.update_model.specs.Trails.{IsFaultOr, answered, body_for}
-use Rattle.update_model.specs.declared.ask.Ask.{Ask}
 use Rattle.update_model.specs.declared.ask.Body.TheVariants as bodies
 use Rattle.update_model.specs.declared.ask.Closed.{Closed}
 use Rattle.update_model.specs.declared.ask.Closed.TheVariants as closings
@@ -53,27 +46,3 @@ pub run_agrees : (start : RunStart) (notes : List Note) {b : _} (now : List Stat
 run_agrees start notes now heard told = heard_told now start.mirrors start.parts start.config.sources notes told heard.answers
 
 -- ---- an answer that serves nothing
-
-abbrev IsNot : Closed → Type 0
-IsNot (closings.Served body) = ⊥
-IsNot (closings.Not end) = Unit {0}
-
--- a mirror's is the same beside any bytes of the file on its way
-same_not : (closed : Closed) (p q : List ℕ) (ask : Ask) (answer : Answer) → IsNot closed → closed ≡ answered p ask answer → closed ≡ answered q ask answer
-same_not closed p q ask (answers.Moved place) isnt e = e
-same_not closed p q ask (answers.Absent status) isnt e = e
-same_not closed p q ask (answers.Served bytes) isnt e = by (nat_le (length bytes) ask.max) (nat_lt 0 ask.from && nat_le (length bytes) ask.from) e
-  where
-    by : (fits beyond : Bool)
-        → closed ≡ (if fits then (if beyond then closings.Not (nots.Absent 416) else closings.Served (body_for ask.stage (take ask.from p ++ drop ask.from bytes))) else closings.Not nots.TooBig)
-        → closed ≡ (if fits then (if beyond then closings.Not (nots.Absent 416) else closings.Served (body_for ask.stage (take ask.from q ++ drop ask.from bytes))) else closings.Not nots.TooBig)
-    by false beyond e = e
-    by true true e = e
-    by true false e = absurd (subst IsNot e isnt)
-
-pub says_not : (end : NotServed) (p q : List ℕ) (ask : Ask) (answer : Answer) → IsFaultOr (closings.Not end) (answered p ask answer) → IsFaultOr (closings.Not end) (answered q ask answer)
-says_not (nots.Fault before after) p q ask answer says = tt
-says_not (nots.Moved place) p q ask answer says = same_not (closings.Not (nots.Moved place)) p q ask answer tt says
-says_not (nots.Absent status) p q ask answer says = same_not (closings.Not (nots.Absent status)) p q ask answer tt says
-says_not nots.TooBig p q ask answer says = same_not (closings.Not nots.TooBig) p q ask answer tt says
-says_not (nots.Garbled at) p q ask answer says = same_not (closings.Not (nots.Garbled at)) p q ask answer tt says

@@ -1,5 +1,5 @@
--- Cited by the crates above too: what an answer adds to a log, how faults of several methods are told, which files stay, one
--- job, and lists on their way.
+-- Cited by the crates above: what an answer adds to a log, how faults of several methods are told, which files stay, one job,
+-- and lists on their way.
 pub mod Telling
 pub mod Rising
 pub mod Agreed
@@ -7,5 +7,3 @@ pub mod OnTheWay
 pub mod Keeping
 pub mod OneJob
 pub mod StagedLists
--- Of this crate's own functions.
-mod Idle

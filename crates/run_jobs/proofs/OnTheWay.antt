@@ -1,19 +1,13 @@
 -- What a job, and what others, leave of the lists on their way.
-use Rattle.std.proofs.Common.{◌≡◌, ◌⊎◌, ◌∙◌, inl, inr, ⊎_elim, refl, sym, ap, subst, ℕ, true, false, List, [], ◌∷◌, ◌++◌, Option, Some, None, IfSome}
+use Rattle.std.proofs.Common.{◌≡◌, ◌∙◌, inl, inr, refl, sym, ap, subst, ℕ, List, [], ◌∷◌, ◌++◌, Option, Some, IfSome}
 use Rattle.std.specs.Prelude.{is_some}
 use Rattle.std.proofs.lemmas.List.{append_assoc}
-use Rattle.acq_base.specs.declared.fetch.NotServed.TheVariants as nots
 use Rattle.acq_base.specs.declared.plan.Source.{Source}
 use Rattle.acq_base.specs.declared.uri.ListName.{ListName}
 use Rattle.acq_outside.specs.Crash.{State}
-use Rattle.acq_outside.specs.States.{IsTold}
 use Rattle.board_model.specs.Runs.{Note}
-use Rattle.journal_model.proofs.Twice.{same_or_not}
-use Rattle.journal_model.proofs.Views.{partial_apart}
-use Rattle.journal_model.specs.Names.{partial}
 use Rattle.journal_model.specs.Rest.{part_file}
-use Rattle.run_jobs.specs.Fetching.{ComesTo, IsFetched, LeavesPart}
-use Rattle.run_jobs.specs.OnTheWay.{ChangesOnePart, IsServed, LeftAs, NoFileCame, StaysOnItsWay, WasLeft, list_of}
+use Rattle.run_jobs.specs.OnTheWay.{LeftAs, NoFileCame, StaysOnItsWay, WasLeft, list_of}
 use Rattle.update_model.specs.declared.ask.Body.TheVariants as bodies
 use Rattle.update_model.specs.declared.ask.Closed.{Closed}
 use Rattle.update_model.specs.declared.ask.Closed.TheVariants as closings
@@ -79,19 +73,6 @@ stays_same sources name notes opened old now same (inr w) = inr (record {
 
 -- ---- one job
 
--- what its answer leaves of its own list's file
-abbrev OwnLeft : List ℕ → ℕ → List State → List State → Closed → Type 0
-OwnLeft name from old now closed = ((now ≡ old) × (IsServed closed → ⊥)) ⊎ LeftAs name now from closed
-
-own_left : (name : ListName) (from : ℕ) (old now : List State) (closed : Closed) → IsTold now → LeavesPart (Some name) from old now closed → ComesTo (Some name) now closed → OwnLeft name.0 from old now closed
-own_left name from old now (closings.Served (bodies.Bytes bytes)) told leaves comes = absurd comes
-own_left name from old now (closings.Served (bodies.Staged sum)) told leaves comes = inr (comes told)
-own_left name from old now (closings.Not (nots.Moved place)) told leaves comes = ⊎_elim (λ still. inl (still, λ served. served)) (λ more. inr (more told)) leaves
-own_left name from old now (closings.Not (nots.Absent status)) told leaves comes = ⊎_elim (λ still. inl (still, λ served. served)) (λ more. inr (more told)) leaves
-own_left name from old now (closings.Not nots.TooBig) told leaves comes = ⊎_elim (λ still. inl (still, λ served. served)) (λ more. inr (more told)) leaves
-own_left name from old now (closings.Not (nots.Garbled at)) told leaves comes = ⊎_elim (λ still. inl (still, λ served. served)) (λ more. inr (more told)) leaves
-own_left name from old now (closings.Not (nots.Fault before after)) told leaves comes = ⊎_elim (λ still. inl (still, λ served. served)) (λ more. inr (more told)) leaves
-
 -- the note of a job is of the list whose file it fetches, where it fetches one
 pub record IsNoteOf (sources : List Source) (staged : Option ListName) (from : ℕ) (note : Note) : Type 0 where
   pub from_is : note.ask.from ≡ from
@@ -110,31 +91,4 @@ one_left sources name from note now n left = record {
   last = tt;
 }
 
--- nothing was done to the disk, or that list's file was left so
-pub job_touches : (sources : List Source) (staged : Option ListName) (from : ℕ) (note : Note) (old now : List State) → IsNoteOf sources staged from note → IsFetched staged old now → LeavesPart staged from old now note.told.closed
-    → ComesTo staged now note.told.closed → IsTold now → (now ≡ old) ⊎ ((own : List ℕ) × WasLeft sources own (note ∷ []) now)
-job_touches sources None from note old now n fetched leaves comes told = inl fetched
-job_touches sources (Some staged) from note old now n fetched leaves comes told =
-    ⊎_elim (λ still. inl still.0) (λ left. inr (staged.0, one_left sources staged from note now n left)) (own_left staged from old now note.told.closed told leaves comes)
-
--- what it leaves of the list of any name
-pub job_leaves : (sources : List Source) (staged : Option ListName) (from : ℕ) (note : Note) (old now : List State) → IsNoteOf sources staged from note → IsFetched staged old now → LeavesPart staged from old now note.told.closed
-    → ComesTo staged now note.told.closed → IsTold now → (name : List ℕ) → StaysOnItsWay sources (note ∷ []) old now name
-job_leaves sources None from note old now n fetched leaves comes told name = inl (rw fetched refl, (λ staged served. let wrong : true ≡ false = sym staged.staged ∙ n.stage in absurd (cc), tt))
-job_leaves sources (Some staged) from note old now n fetched leaves comes told name = ⊎_elim same other (same_or_not name staged.0)
-  where
-    same : name ≡ staged.0 → StaysOnItsWay sources (note ∷ []) old now name
-    same is = subst (StaysOnItsWay sources (note ∷ []) old now) (sym is) (⊎_elim
-        (λ still. inl (rw still.0 refl, (λ own served. still.1 served, tt)))
-        (λ left. inr (one_left sources staged from note now n left))
-        (own_left staged from old now note.told.closed told leaves comes))
-
-    other : (name ≡ staged.0 → ⊥) → StaysOnItsWay sources (note ∷ []) old now name
-    other apart = inl (fetched.others (partial name) (partial_apart name staged.0 apart), (λ own served. let is : Some name ≡ Some staged.0 = sym own.own ∙ n.list in absurd (apart (cc)), tt))
-
 -- ---- all other files
-
--- a job leaves them as they were
-pub others_of : (staged : Option ListName) (old now : List State) → IsFetched staged old now → ChangesOnePart old now
-others_of None old now is = record { own = []; others = λ other apart. rw is refl }
-others_of (Some staged) old now is = record { own = staged.0; others = is.others }

@@ -1,12 +1,9 @@
 -- What one answer adds to what was heard.
-use Rattle.std.proofs.Common.{◌≡◌, ◌≤◌, ℕ, List, [], ◌∷◌, ◌++◌, take, refl, sym, subst, arith}
+use Rattle.std.proofs.Common.{◌≡◌, ◌≤◌, ℕ, List, [], ◌∷◌, ◌++◌, sym, subst, arith}
 use Rattle.std.specs.List.{AllByRecursion as Each}
-use Rattle.acq_base.specs.declared.fetch.Answer.{Answer}
-use Rattle.acq_base.specs.declared.fetch.Answer.TheVariants as answers
 use Rattle.item_graph.specs.Sound.{IsSoundAnswer}
 use Rattle.job_fetch.specs.Fetched.{IsCounted, IsSoundEnd}
-use Rattle.update_model.specs.Trails.{answered, heard_of}
-use Rattle.update_model.specs.declared.ask.Ask.{Ask}
+use Rattle.update_model.specs.Trails.{heard_of}
 use Rattle.update_model.specs.declared.ask.Closed.{Closed}
 use Rattle.acq_base.specs.declared.fetch.NotServed.TheVariants as nots
 use Rattle.update_model.specs.declared.ask.Closed.TheVariants as closings
@@ -18,12 +15,6 @@ use Rattle.run_jobs.specs.Counting.{CountsOn, CountsUp}
 pub each_last : {A : Type 0} (P : A → Type 0) (xs : List A) (x : A) → Each P xs → P x → Each P (xs ++ x ∷ [])
 each_last P [] x all is = (is, tt)
 each_last P (y ∷ xs) x all is = (all.0, each_last P xs x all.1 is)
-
--- an answer beside other bytes that begin alike is the same
-pub answered_front : (p q : List ℕ) (ask : Ask) (answer : Answer) → take ask.from p ≡ take ask.from q → answered p ask answer ≡ answered q ask answer
-answered_front p q ask (answers.Served bytes) same = rw same refl
-answered_front p q ask (answers.Moved place) same = refl
-answered_front p q ask (answers.Absent status) same = refl
 
 pub sound_answer : (closed : Closed) → IsSoundEnd closed → IsSoundAnswer closed
 sound_answer (closings.Served body) is = tt

@@ -1,7 +1,8 @@
 -- How a log tells the faults of methods, and how often each was asked.
 use Rattle.std.specs.Prelude.{◌≡◌, ◌==◌, ℕ, zero, suc, ◌<◌, ◌≤◌, ◌+◌, List, [], ◌∷◌, filter, length, slice_get, Some}
 use Rattle.std.specs.List.{AllByRecursion as Each}
-use Rattle.acq_outside.specs.Count.{Rose, one_more}
+use Rattle.acq_outside.specs.Count.{Rose}
+use Rattle.lane_pool.specs.Counting.{counted_on}
 use Rattle.update_model.specs.declared.log.Asked.{Asked}
 use Rattle.update_model.specs.declared.log.Heard.{Heard}
 use Rattle.update_model.specs.declared.log.Heard.TheVariants.{Not}
@@ -18,17 +19,6 @@ abbrev pub CountsUp : ℕ → ℕ → List Asked → Type 0
 CountsUp first last [] = first ≤ last
 CountsUp first last (entry ∷ entries) = CountsOn entry.heard first (λ count. CountsUp count last entries)
 
--- a count behind so many calls that each count one
-abbrev pub counted_on : ℕ → ℕ → ℕ
-counted_on count zero = count
-counted_on count (suc calls) = counted_on (one_more count) calls
-
--- as many fetches were begun as entries came to the log
-pub record BeginsAsked (before after : ℕ) (asks later : List Asked) : Type 0 where
-  pub more : ℕ
-  pub asked : length later ≡ length asks + more
-  pub begins : after ≡ counted_on before more
-
 -- ---- over several methods
 
 abbrev pub asks_of_lane : ℕ → List Asked → List Asked
@@ -39,7 +29,12 @@ pub record FaultsRise (before after : List ℕ) (asks : List Asked) : Type 0 whe
   pub lanes : Each (λ asked. asked.lane < length before) asks
   pub counts : (lane first last : ℕ) → slice_get before lane ≡ Some first → slice_get after lane ≡ Some last → CountsUp first last (asks_of_lane lane asks)
 
--- of each method just as many fetches were begun as the log tells
+-- of the first method just as many fetches were begun as were told, and of each other no more than that and one
+abbrev pub IsBegunAsTold : ℕ → ℕ → ℕ → ℕ → Type 0
+IsBegunAsTold zero first last told = last ≡ counted_on first told
+IsBegunAsTold (suc lane) first last told = (left : ℕ) × (more : ℕ) × (more ≤ 1) × (counted_on last left ≡ counted_on first (told + more))
+
+-- so many were as the log tells
 abbrev pub BeginsAsTold : List ℕ → List ℕ → List Asked → Type 0
 BeginsAsTold before after asks =
-    (lane first last : ℕ) → slice_get before lane ≡ Some first → slice_get after lane ≡ Some last → last ≡ counted_on first (length (asks_of_lane lane asks))
+    (lane first last : ℕ) → slice_get before lane ≡ Some first → slice_get after lane ≡ Some last → IsBegunAsTold lane first last (length (asks_of_lane lane asks))

@@ -10,5 +10,5 @@ pub mod Counting
 pub mod Mirrors
 -- and why a run gives no log.
 pub mod Refusals
--- For the crate's own functions: what the fetch of one job does.
+-- For proofs: what the fetch of one job does to the disk.
 pub mod Fetching

@@ -7,15 +7,10 @@ use Rattle.board_model.specs.Keys.{name_at}
 use Rattle.board_model.specs.Runs.{Note}
 use Rattle.board_model.specs.declared.key.Key.{Key}
 use Rattle.job_fetch.specs.Fetched.{LastsAs}
-use Rattle.journal_model.specs.Rest.{KeepsOtherFiles, part_bytes, part_file}
+use Rattle.journal_model.specs.Rest.{part_bytes, part_file}
 use Rattle.update_model.specs.declared.ask.Body.TheVariants.{Bytes, Staged}
 use Rattle.update_model.specs.declared.ask.Closed.{Closed}
 use Rattle.update_model.specs.declared.ask.Closed.TheVariants.{Served, Not}
-
--- no file changes but that of one list on its way
-pub record ChangesOnePart (old now : List State) : Type 0 where
-  pub own : List ℕ
-  pub others : KeepsOtherFiles own old now
 
 -- what an answer leaves of the file into which its pieces went: the whole file, of the sum that it tells, or more bytes than
 -- its ask left out

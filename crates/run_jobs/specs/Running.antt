@@ -1,12 +1,12 @@
 -- A run between two of its steps: its board, the disk and the methods.
-use Rattle.std.specs.Prelude.{◌≡◌, ◌⊎◌, ◌≤◌, ℕ, All, List, [], ◌∷◌, ◌++◌, length, Option, None}
+use Rattle.std.specs.Prelude.{◌≡◌, ◌≤◌, ℕ, All, List, length, Option}
 use Rattle.std.specs.List.{flat_map, AllByRecursion as Each}
 use Rattle.acq_base.specs.Mirror.{MirrorMap}
 use Rattle.acq_base.specs.Plan.{IsPlanned, names_of}
 use Rattle.acq_base.specs.declared.installed.Old.{Old}
 use Rattle.acq_base.specs.declared.plan.Source.{Source}
 use Rattle.acq_outside.specs.Crash.{State}
-use Rattle.acq_outside.specs.States.{IsTold, IsNow}
+use Rattle.acq_outside.specs.States.{IsTold}
 use Rattle.board_bounds.specs.Fetching.{LeadSoundly}
 use Rattle.board_model.specs.Agreeing.{IsMirrors}
 use Rattle.board_model.specs.Boards.{Board}
@@ -15,7 +15,6 @@ use Rattle.board_model.specs.Reached.{Reached}
 use Rattle.board_model.specs.Runs.{Note}
 use Rattle.board_model.specs.Slots.{Setup}
 use Rattle.board_model.specs.Uses.{wanted_part}
-use Rattle.journal_model.specs.Rest.{IsIdle}
 use Rattle.update_model.specs.Outcomes.{PartFiles}
 use Rattle.update_model.specs.declared.ask.Body.TheVariants.{Bytes, Staged}
 use Rattle.update_model.specs.declared.ask.Closed.{Closed}
@@ -23,7 +22,6 @@ use Rattle.update_model.specs.declared.ask.Closed.TheVariants.{Served, Not}
 use Rattle.run_jobs.specs.Coupling.{HasWantedParts}
 use Rattle.run_jobs.specs.Counting.{FaultsRise}
 use Rattle.run_jobs.specs.Mirrors.{ForMirror}
-use Rattle.run_jobs.specs.OnTheWay.{StaysOnItsWay, WasLeft}
 
 -- What a run was begun with: the board's configuration, what was installed, the lists on their way, and the methods' mirrors
 -- and counts of faults.
@@ -68,34 +66,6 @@ pub record HasCounted (begun : RunStart) (counts : List ℕ) (b : Board) : Type 
 pub record IsUnderWay (begun : RunStart) (notes : List Note) (b : Board) (now : List State) : Type 0 where
   pub heard : RunHasHeard begun notes b now
   pub uses : HasWantedParts (wanted_part b) begun.parts now
-
--- The same between two jobs of one lane: none is out.
-pub record IsRunning (begun : RunStart) (notes : List Note) (counts : List ℕ) (b : Board) (now : List State) : Type 0 where
-  pub under_way : IsUnderWay begun notes b now
-  pub counted : HasCounted begun counts b
-  pub none_out : b.out ≡ None ∷ []
-
--- the run that goes on over a sound plan, and a commit may be prepared
-pub record MayAsk (mirrors : List (Option MirrorMap)) (counts : List ℕ) (b : Board) (now : List State) : Type 0 where
-  pub begun : RunStart
-  pub notes : List Note
-  pub sound : IsSoundBegun begun
-  pub from : begun.mirrors ≡ mirrors
-  pub running : IsRunning begun notes counts b now
-  pub idle : IsNow IsIdle now
-
--- What it has heard is behind what it had heard before. Each list on its way is as it was, or as the answer left it, and where
--- the disk was touched the answer left one.
-pub record JobAddsNotes (begun : RunStart) (notes : List Note) (counts : List ℕ) (b : Board) (old now : List State) : Type 0 where
-  pub more : List Note
-  pub left : IsTold now → (name : List ℕ) → StaysOnItsWay begun.config.sources more old now name
-  pub touched : IsTold now → (now ≡ old) ⊎ ((own : List ℕ) × WasLeft begun.config.sources own more now)
-  pub running : IsRunning begun (notes ++ more) counts b now
-
--- a run that goes on over these mirrors still does
-abbrev pub JobKeepsRunGoing : List (Option MirrorMap) → List ℕ → List ℕ → Board → Board → List State → List State → Type 0
-JobKeepsRunGoing mirrors counts later before after old now =
-    (begun : RunStart) (notes : List Note) → IsSoundBegun begun → begun.mirrors ≡ mirrors → IsRunning begun notes counts before old → JobAddsNotes begun notes later after old now
 
 -- nothing else of a board has changed than what its items have heard
 pub record SameBoard (before after : Board) : Type 0 where

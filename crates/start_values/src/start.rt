@@ -1,5 +1,5 @@
 //! What a program makes of the words and variables that it was started with.
-ghost use Rattle.std.specs.Prelude.{◌≡◌, codes, drop, map, string_bytes, All, IsUtf8, IfOk, IfSome, IfErr, OnOk, option_map};
+ghost use Rattle.std.specs.Prelude.{◌≡◌, ◌≤◌, codes, drop, map, string_bytes, All, IsUtf8, IfOk, IfSome, IfErr, OnOk, option_map};
 ghost use Rattle.start_values.specs.Environment.{Known};
 ghost use Rattle.start_values.specs.Start.{ForStart, IsFolderRefusal, IsRefusal, IsWordsRefusal, NamesFolder, NamesFolders, SaysLanes, etc_of, folder_of, known_lanes, lanes_of, lists_of, place_of};
 
@@ -18,12 +18,10 @@ pub struct Start {
     pub etc: String,
     /// The path of the lists folder.
     pub lists: String,
-    /// How many workers may fetch beside the program itself: 0 to 8.
-    pub lanes: u8,
 }
 
 /// Reads what a program goes by. A folder whose variable isn't set is the usual one, and one that is set and empty is
-/// refused; so many lanes as `ACQUIRE_LANES` says by one digit from 0 to 8, and 4 where it says anything else.
+/// refused.
 ///
 /// A word that isn't UTF-8 is refused before any variable is looked at.
 #[tactic(auto, using(crate::proofs::Refusals::refusal))]
@@ -34,18 +32,11 @@ pub fn read_start<E: Environment>(alloc: Global, environment: &E) -> Result<Star
     ensures words { ForStart (E.known environment.now) result (λ known start. map string_bytes start.words.items ≡ drop 1 known.words) }
     ensures etc { ForStart (E.known environment.now) result (λ known start. string_bytes start.etc ≡ etc_of known) }
     ensures lists { ForStart (E.known environment.now) result (λ known start. string_bytes start.lists ≡ lists_of known) }
-    ensures lanes { ForStart (E.known environment.now) result (λ known start. start.lanes ≡ known_lanes known) }
 {
     let words = read_words(alloc, environment)?;
     let etc = read_folder(alloc, environment, "ACQUIRE_ETC", "/etc/apt")?;
     let lists = read_folder(alloc, environment, "ACQUIRE_LISTS", "/var/lib/apt/lists")?;
-    let lanes = read_lanes(alloc, environment)?;
-    Ok(Start {
-        words,
-        etc,
-        lists,
-        lanes,
-    })
+    Ok(Start { words, etc, lists })
 }
 
 /// The path of the folder for package files, that of `ACQUIRE_PLACE`: where it isn't set, the folder that the process
@@ -119,9 +110,11 @@ fn folder_or(alloc: Global, found: Option<String>, usual: &str) -> Result<String
     }
 }
 
-/// How many workers may fetch.
-fn read_lanes<E: Environment>(alloc: Global, environment: &E) -> Result<u8, Refused>
+/// How many workers may fetch beside the program itself: as many as `ACQUIRE_LANES` says by one digit from 0 to 8, and 4 where
+/// it says anything else or isn't set.
+pub fn read_lanes<E: Environment>(alloc: Global, environment: &E) -> Result<u8, Refused>
     ensures lanes { IfSome (E.known environment.now) (λ known. IfOk result (λ lanes. lanes ≡ known_lanes known)) }
+    ensures few { IfOk result (λ lanes. lanes ≤ 8) }
     ensures memory { IfErr result (λ refused. refused ≡ Refused.NoMemory) }
 {
     lanes_or_usual(environment.variable(alloc, "ACQUIRE_LANES"))
@@ -131,6 +124,7 @@ fn read_lanes<E: Environment>(alloc: Global, environment: &E) -> Result<u8, Refu
 #[tactic(auto, using(crate::proofs::Lanes::lanes_of_no_text))]
 fn lanes_or_usual(found: Result<Option<String>, Unread>) -> Result<u8, Refused>
     ensures lanes { IfOk result (λ lanes. SaysLanes found lanes) }
+    ensures few { IfOk result (λ lanes. lanes ≤ 8) }
     ensures memory { IfErr result (λ refused. refused ≡ Refused.NoMemory) }
 {
     match found {
@@ -143,7 +137,8 @@ fn lanes_or_usual(found: Result<Option<String>, Unread>) -> Result<u8, Refused>
 
 /// The number of lanes that a text says.
 fn lanes_of(text: &str) -> u8
-    ensures { result ≡ lanes_of text.now }
+    ensures value { result ≡ lanes_of text.now }
+    ensures few { result ≤ 8 }
 {
     match text.as_bytes() {
         [digit] if b'0' <= *digit && *digit <= b'8' => *digit - b'0',

@@ -1,6 +1,6 @@
 //! The beginning of a program: what it goes by, or what it tells where it can't read that.
 ghost use Rattle.std.specs.Prelude.{◌≡◌, ◌≤◌, drop, map, string_bytes, All, IfErr, IfSome, IsUtf8, OnOk};
-ghost use Rattle.start_values.specs.Start.{ForStart, NamesFolders, etc_of, known_lanes, lists_of};
+ghost use Rattle.start_values.specs.Start.{ForStart, NamesFolders, etc_of, lists_of};
 ghost use Rattle.start_values.specs.Telling.{IsRefusalWritten, WritesRefusal};
 
 use crate::{Environment, Refused, Start, read_start};
@@ -19,7 +19,6 @@ pub fn begin_program<E: Environment, S: Sink>(
     ensures words { ForStart (E.known environment.now) result (λ known start. map string_bytes start.words.items ≡ drop 1 known.words) }
     ensures etc { ForStart (E.known environment.now) result (λ known start. string_bytes start.etc ≡ etc_of known) }
     ensures lists { ForStart (E.known environment.now) result (λ known start. string_bytes start.lists ≡ lists_of known) }
-    ensures lanes { ForStart (E.known environment.now) result (λ known start. start.lanes ≡ known_lanes known) }
     ensures untouched { OnOk result (out.new ≡ out.old) }
     ensures count { S.faults out.old ≤ S.faults out.new }
     ensures told { IfErr result (IsRefusalWritten (E.known environment.now) (S.faults out.old) (S.faults out.new) (S.written out.old) (S.written out.new)) }

@@ -1,20 +1,23 @@
 -- The set of one source is committed.
-use Rattle.std.proofs.Common.{◌≡◌, ◌≢◌, ◌⊎◌, ◌∙◌, ◌≤◌, inl, inr, refl, sym, ap, subst, ℕ, suc, Bool, true, false, List, [], ◌∷◌, ◌++◌, length, AllPairs, Contains, Some, None, Result, Ok, Err}
-use Rattle.std.specs.Prelude.{IfErr, IsErrAnd, if◌then◌else◌, slice_get}
-use Rattle.std.specs.List.{AllByRecursion as Each}
+use Rattle.std.proofs.Common.{◌≡◌, ◌≢◌, ◌⊎◌, ◌∙◌, ◌≤◌, inl, inr, refl, sym, ap, subst, ℕ, zero, suc, Bool, true, false, List, [], ◌∷◌, ◌++◌, length, map, AllPairs, Contains, Option, Some, None, Result, Ok, Err}
+use Rattle.std.specs.Prelude.{IfErr, IsErrAnd, if◌then◌else◌, option_map, slice_get}
+use Rattle.std.specs.List.{flat_map, slice_index_or, AllByRecursion as Each}
 use Rattle.std.proofs.lemmas.List.{append-nil}
 use Rattle.std.proofs.lemmas.List.Elements.{Contains-append_left, Contains-append_right}
+use Rattle.acq_base.specs.Mirror.{MirrorMap}
 use Rattle.acq_base.specs.Plan.{IsPlanned, names_of}
 use Rattle.acq_base.specs.Sum.{sum_of}
 use Rattle.acq_base.specs.declared.plan.Source.{Source}
+use Rattle.acq_base.specs.declared.plan.Target.{Target}
 use Rattle.acq_base.specs.declared.uri.ListName.{ListName}
 use Rattle.acq_outside.specs.Crash.{State, synced}
 use Rattle.acq_outside.specs.Disk.{Files}
 use Rattle.acq_outside.specs.States.{IsTold, IsNow}
-use Rattle.board_model.specs.Boards.{Board, first_ready, settled_as, settled_of}
+use Rattle.board_model.specs.Boards.{Asker, Board, asker_of, first_ready, name_staged, settled_as, settled_of}
+use Rattle.board_model.specs.Keys.{name_at}
 use Rattle.board_model.specs.NameLaws.{AreNamedApart, RestsOn}
 use Rattle.board_model.specs.Runs.{Note}
-use Rattle.board_model.specs.Slots.{Setup}
+use Rattle.board_model.specs.Slots.{Setup, Slot, ask_of, item_in}
 use Rattle.board_model.specs.Uses.{Free, WantedPart, wanted_part}
 use Rattle.commit_journal.specs.Changes.{AreAllStaged, CanRecord, Filled, IsNone, filled, filled_all, all_changed_names}
 use Rattle.commit_journal.specs.Commits.{KeepsUnchangedFiles}
@@ -43,21 +46,31 @@ use Rattle.update_model.specs.declared.settled.Held.{Held}
 use Rattle.update_model.specs.declared.settled.Settled.{Settled}
 use Rattle.update_model.specs.declared.settled.Verdict2.{Verdict2}
 use Rattle.update_model.specs.declared.settled.Verdict2.TheVariants.{Installed}
+use Rattle.board_model.proofs.Askers.{Asks, asker-asks}
+use Rattle.board_model.proofs.Events.{ready-slot}
+use Rattle.board_model.proofs.JobStart.{ready-asks, settled-asks}
 use Rattle.board_model.proofs.Making.{none-in}
 use Rattle.acq_outside.proofs.Going.{no_time}
 use Rattle.journal_model.proofs.Views.{partial_apart, partial_not_journal}
 use Rattle.commit_journal.proofs.Prepares.{settled_at}
 use Rattle.board_bounds.proofs.Walking.{at_all}
 use Rattle.run_model.proofs.Loose.{among}
-use Rattle.run_model.proofs.Names.{in_plan}
+use Rattle.run_model.proofs.Names.{in_plan, sources_apart}
 use Rattle.run_model.proofs.Finishing.{is_held}
 use Rattle.run_jobs.proofs.Agreed.{heard_on, run_agrees}
 use Rattle.run_jobs.proofs.Keeping.{stays_holds, told_back}
-use Rattle.list_commits.proofs.Apart.{here}
+use Rattle.list_commits.proofs.Apart.{apart_of, here, there}
+use Rattle.job_fetch.specs.Hearing.{name_of}
+use Rattle.lane_pool.specs.Pool.{Pool}
+use Rattle.lane_jobs.specs.Going.{AreOut, IsTransfer, run_lanes}
+use Rattle.lane_jobs.specs.JobsOut.{JobsOut}
+use Rattle.lane_jobs.specs.declared.transfers.Transfer.{Transfer}
+use Rattle.lane_jobs.proofs.Kept.{StaysFor, transfer_still}
+use Rattle.lane_jobs.proofs.Places.{staged_list}
 use Rattle.update_engine.proofs.Known.{CommittingLaws}
 use Rattle.update_engine.proofs.Lists.{told_on}
-use Rattle.update_engine.specs.Session.{KeepsRunGoing, HasCommittedSets, HasProgress, CommitsOneSource, MayCommit, StopsBetweenAsks, begun_of, installed_in}
-use Rattle.update_engine.proofs.Beside.{aside_committed, aside_none, aside_on, list_more}
+use Rattle.update_engine.specs.Session.{KeepsRunGoing, HasMadeSets, HasProgress, CommitsOneSource, MayCommit, StopsBetweenAsks, begun_of, installed_in}
+use Rattle.update_engine.proofs.Beside.{aside_committed, aside_none}
 use Rattle.update_engine.specs.Run.{IsListOf, KeepsAside}
 use Rattle.update_engine.proofs.Naming.{release_free, which_name}
 use Rattle.update_engine.proofs.OnBoards.{as_open, heard_settled, is_of, owns, told_more, under_settled, uses_settled}
@@ -262,25 +275,80 @@ aside_new laws start notes b n settled old now held s c installs keeps =
 
 -- the sets so far, and one more
 pub sets_committed : CommittingLaws → (start : RunStart) (notes : List Note) (opened : List State) (b : Board) (n : ℕ) (settled : Settled) (old now : List State) (held : Held) → IsSettling start notes b n settled old → (c : IsChanging start b n settled)
-    → settled.verdict ≡ Installed held → IsTold now → HasCommitted (filled_all (part_bytes old) (changes_for c.source settled ∷ [])) old now → KeepsUnchangedFiles (changes_for c.source settled ∷ []) old now
-    → HasCommittedSets (begun_of start) notes opened old b → HasCommittedSets (begun_of start) notes opened now (settled_as b n settled.verdict)
-sets_committed laws start notes opened b n settled old now held s c installs told done keeps sets =
+    → settled.verdict ≡ Installed held → IsTold now → HasCommitted (filled_all (part_bytes old) (changes_for c.source settled ∷ [])) old now
+    → HasMadeSets (begun_of start) notes opened old b → HasMadeSets (begun_of start) notes opened now (settled_as b n settled.verdict)
+sets_committed laws start notes opened b n settled old now held s c installs told done sets =
     let changes = filled (part_bytes old) (changes_for c.source settled) in
     let installed = told_new laws start notes b n settled old held s c installs in
     record {
-      sets = record {
-        told = told;
-        commits = sets.commits ++ (SetOf n changes ∷ []) ∷ [];
-        made = subst (λ (cs : List Commit). CommitsMade cs opened now) (sym (commits_last sets.commits (SetOf n changes ∷ [])))
-            (makes sets.made (commit_of (SetOf n changes ∷ [])) (subst (λ (x : Commit). HasCommitted x old now) (one_group (part_bytes old) n (changes_for c.source settled)) done));
-        each = each_last sets.commits n changes sets.each;
-        groups = groups_last (begun_of start) notes sets.commits n changes sets.each sets.groups (new_set laws start notes b n settled old held sets.told s c installs);
-        order = sources_last sets.commits n changes sets.each ∙ ap (λ (ns : List ℕ). ns ++ n ∷ []) sets.order ∙ sym installed;
-      };
-      aside = aside_on start.config.sources (IsListOf start.config.sources (installed_in b)) (IsListOf start.config.sources (installed_in (settled_as b n settled.verdict))) notes opened old now
-          (list_more start.config.sources (installed_in b) (installed_in (settled_as b n settled.verdict)) (more_installed laws start notes b n settled old held s c installs))
-          sets.aside (aside_new laws start notes b n settled old now held s c installs keeps);
+      told = told;
+      commits = sets.commits ++ (SetOf n changes ∷ []) ∷ [];
+      made = subst (λ (cs : List Commit). CommitsMade cs opened now) (sym (commits_last sets.commits (SetOf n changes ∷ [])))
+          (makes sets.made (commit_of (SetOf n changes ∷ [])) (subst (λ (x : Commit). HasCommitted x old now) (one_group (part_bytes old) n (changes_for c.source settled)) done));
+      each = each_last sets.commits n changes sets.each;
+      groups = groups_last (begun_of start) notes sets.commits n changes sets.each sets.groups (new_set laws start notes b n settled old held sets.told s c installs);
+      order = sources_last sets.commits n changes sets.each ∙ ap (λ (ns : List ℕ). ns ++ n ∷ []) sets.order ∙ sym installed;
     }
+
+-- ---- the jobs that are out
+
+in_targets : (targets : List Target) (k : ℕ) (name : ListName) → option_map (λ (target : Target). target.name) (slice_get targets k) ≡ Some name → Contains (map (λ (target : Target). target.name.0) targets) name.0
+in_targets [] k name e = absurd (cc)
+in_targets (t ∷ targets) zero name e = let same : t.name ≡ name = cc in here t.name.0 (map (λ (target : Target). target.name.0) targets) name.0 (ap (λ (x : ListName). x.0) same)
+in_targets (t ∷ targets) (suc k) name e = there t.name.0 (map (λ (target : Target). target.name.0) targets) name.0 (in_targets targets k name e)
+
+-- the list of an item is one of its source
+own_name : (source : Source) (place : ℕ) (name : ListName) → name_at source place ≡ Some name → Contains (names_of source) name.0
+own_name source zero name e = absurd (cc)
+own_name source (suc k) name e = there source.release_name.0 (map (λ (target : Target). target.name.0) source.targets) name.0 (in_targets source.targets k name e)
+
+-- no item of a source that is settled asks
+asks_elsewhere : (b : Board) (n number : ℕ) (a : Asker) → first_ready b.slots ≡ Some n → asker_of b number ≡ Some a → n ≢ a.key.source
+asks_elsewhere b n number a ready asks = λ same.
+    let known : Asks b number a = asker-asks b number a asks in
+    let found = ready-slot b.slots n ready in
+    let both : Some known.slot ≡ Some found.0 = sym known.slot_is ∙ (ap (slice_get b.slots) (sym same) ∙ found.1) in
+    let slot : known.slot ≡ found.0 = cc in
+    let none : ask_of (item_in known.slot a.key.place) ≡ None = subst (λ (x : Slot). ask_of (item_in x a.key.place) ≡ None) (sym slot) (ready-asks found.0 a.key.place found.2) in
+    let wrong : Some a.ask ≡ None = sym known.asks ∙ none in
+    absurd (cc)
+
+-- so its list is none of that source
+staged_elsewhere : (b : Board) (n number : ℕ) (source : Source) (a : Asker) (name : ListName) → AreNamedApart b.config → first_ready b.slots ≡ Some n → slice_get b.config.sources n ≡ Some source → asker_of b number ≡ Some a
+    → name_staged a ≡ Some name → Contains (names_of source) name.0 → ⊥
+staged_elsewhere b n number source a name apart ready source_is asks staged within =
+    let known : Asks b number a = asker-asks b number a asks in
+    sources_apart b.config.sources n a.key.source source a.source name.0 (apart_of (flat_map names_of b.config.sources) apart) source_is known.source_is (asks_elsewhere b n number a ready asks) within
+    (own_name a.source a.key.place name (staged_list a name staged))
+
+-- the files of jobs that are out stay
+abbrev KeepsStaged : Board → List State → List State → Type 0
+KeepsStaged b old now = (number : ℕ) (a : Asker) (name : ListName) → asker_of b number ≡ Some a → name_staged a ≡ Some name → part_file now name.0 ≡ part_file old name.0
+
+stays_for : (start : RunStart) (b : Board) (old now : List State) (world : Option MirrorMap) (t : Transfer) → IsTransfer start b old world t → KeepsStaged b old now → StaysFor (name_of t.intake) old now
+stays_for start b old now world t is keeps = by (name_staged is.a) refl is.list
+  where
+    by : (o : Option ListName) → name_staged is.a ≡ o → name_of t.intake ≡ option_map (λ (name : ListName). name.0) o → StaysFor (name_of t.intake) old now
+    by None staged list = subst (λ (x : Option (List ℕ)). StaysFor x old now) (sym list) tt
+    by (Some name) staged list = subst (λ (x : Option (List ℕ)). StaysFor x old now) (sym list) (keeps t.job.no is.a name is.asks staged)
+
+-- each is its item's still
+out_settled : (start : RunStart) (b : Board) (n : ℕ) (verdict : Verdict2) (old now : List State) (pool : Pool) (jobs : JobsOut) → first_ready b.slots ≡ Some n → (IsTold now → IsTold old) → KeepsStaged b old now
+    → AreOut start (run_lanes pool jobs b) old → AreOut start (run_lanes pool jobs (settled_as b n verdict)) now
+out_settled start b n verdict old now pool jobs ready back keeps out = record {
+  numbers = out.numbers;
+  each = λ lane t at.
+      let is : IsTransfer start b old (slice_index_or start.mirrors (suc lane) None) t = out.each lane t at in
+      transfer_still start b (settled_as b n verdict) old now (slice_index_or start.mirrors (suc lane) None) t is (settled-asks b n t.job.no verdict ready ∙ is.asks) back
+      (stays_for start b old now (slice_index_or start.mirrors (suc lane) None) t is keeps);
+  given = out.given;
+}
+
+keeps_staged : CommittingLaws → (start : RunStart) (notes : List Note) (b : Board) (n : ℕ) (settled : Settled) (old now : List State) → IsSettling start notes b n settled old → (c : IsChanging start b n settled)
+    → KeepsUnchangedFiles (changes_for c.source settled ∷ []) old now → KeepsStaged b old now
+keeps_staged laws start notes b n settled old now s c keeps = λ number a name asks staged.
+    keeps (partial name.0) (partial_not_journal name.0)
+    (unnamed laws start b n settled c name.0 (staged_elsewhere b n number c.source a name (subst AreNamedApart (sym s.under.heard.config) s.sound.apart) s.ready c.here_is asks staged))
 
 -- ---- a stop
 
@@ -310,7 +378,7 @@ nothing_begun old now same = record { lists = no_time old now _ same; rest = no_
 
 -- where no commit was begun
 pub stops_unbegun : CommittingLaws → (error : RunError) (start : RunStart) (notes : List Note) (lists : Files) (opened : List State) (b : Board) (old now : List State) → RunHasHeard start notes b old → NoCommitBegun old now → (IsNow IsSynced old → IsNow IsSynced now)
-    → HasCommittedSets (begun_of start) notes opened old b → HasProgress error start false lists opened now
+    → HasMadeSets (begun_of start) notes opened old b → HasProgress error start false lists opened now
 unfolding has_begun
 stops_unbegun laws error start notes lists opened b old now heard unbegun settled sets = record {
   commits = sets.commits;
@@ -326,7 +394,7 @@ stops_unbegun laws error start notes lists opened b old now heard unbegun settle
 -- where the next was
 pub stops_begun : CommittingLaws → (error : RunError) (start : RunStart) (notes : List Note) (lists : Files) (opened : List State) (b : Board) (n : ℕ) (settled : Settled) (old now : List State) (held : Held) → IsSettling start notes b n settled old
     → (c : IsChanging start b n settled) → settled.verdict ≡ Installed held → CommitHasBegun (filled_all (part_bytes old) (changes_for c.source settled ∷ [])) old now → error ≢ NoMemory → (IsNow IsSynced old → IsNow IsSynced now)
-    → HasCommittedSets (begun_of start) notes opened old b → HasProgress error start false lists opened now
+    → HasMadeSets (begun_of start) notes opened old b → HasProgress error start false lists opened now
 unfolding has_begun
 stops_begun laws error start notes lists opened b n settled old now held s c installs begun moist is_settled sets =
     let changes = filled (part_bytes old) (changes_for c.source settled) in
@@ -348,7 +416,7 @@ stops_begun laws error start notes lists opened b n settled old now held s c ins
 
 pub stops_committing : CommittingLaws → (error : RunError) (start : RunStart) (notes : List Note) (lists : Files) (opened : List State) (b : Board) (n : ℕ) (settled : Settled) (old now : List State) (held : Held) → IsSettling start notes b n settled old
     → (c : IsChanging start b n settled) → settled.verdict ≡ Installed held → IsCommitStopped (filled_all (part_bytes old) (changes_for c.source settled ∷ [])) old now → (error ≡ NoMemory → now ≡ old) → (IsNow IsSynced old → IsNow IsSynced now)
-    → HasCommittedSets (begun_of start) notes opened old b → HasProgress error start false lists opened now
+    → HasMadeSets (begun_of start) notes opened old b → HasProgress error start false lists opened now
 stops_committing laws error start notes lists opened b n settled old now held s c installs (inl unbegun) dry is_settled sets = stops_unbegun laws error start notes lists opened b old now s.under.heard unbegun is_settled sets
 stops_committing laws NoMemory start notes lists opened b n settled old now held s c installs (inr begun) dry is_settled sets = stops_unbegun laws NoMemory start notes lists opened b old now s.under.heard (nothing_begun old now (dry refl)) is_settled sets
 stops_committing laws DiskFault start notes lists opened b n settled old now held s c installs (inr begun) dry is_settled sets = stops_begun laws DiskFault start notes lists opened b n settled old now held s c installs begun (λ is. absurd (cc)) is_settled sets
@@ -361,19 +429,17 @@ pub goes_settled : CommittingLaws → (b c : Board) (n : ℕ) (settled : Settled
     → KeepsRunGoing b c now now
 goes_settled laws b c n settled now ready comes same none_new = subst (λ (x : Board). KeepsRunGoing b x now now) (sym same) (record {
   under_way = λ start notes sound under. under_settled laws.settling start notes b n settled now ready comes under;
-  sets = λ start notes opened sound under sets. record {
-    sets = record {
-      told = sets.told;
-      commits = sets.commits;
-      made = sets.made;
-      each = sets.each;
-      groups = sets.groups;
-      order = sets.order ∙ sym (told_none start notes sound under);
-    };
-    aside = subst (λ (ns : List ℕ). KeepsAside start.config.sources (IsListOf start.config.sources ns) notes opened now) (sym (told_none start notes sound under)) sets.aside;
+  made = λ start notes opened sound under sets. record {
+    told = sets.told;
+    commits = sets.commits;
+    made = sets.made;
+    each = sets.each;
+    groups = sets.groups;
+    order = sets.order ∙ sym (told_none start notes sound under);
   };
   aside = λ start notes sound under. aside_none start.config.sources _ now now refl;
   more = λ start notes sound under m is. subst (λ (ns : List ℕ). Contains ns m) (sym (told_none start notes sound under)) is;
+  out = λ start notes pool jobs sound under out. out_settled start b n settled.verdict now now pool jobs ready (λ told. told) (λ number a name asks staged. refl) out;
 })
   where
     told_none : (start : RunStart) (notes : List Note) → IsSoundBegun start → IsUnderWay start notes b now → installed_in (settled_as b n settled.verdict) ≡ installed_in b
@@ -415,13 +481,12 @@ goes_committed laws b c n settled groups old now ready comes same new_one are ke
       let d = changing laws start notes b n settled old s in
       under_committed laws start notes b n settled old now s d (back_committed (filled_all (part_bytes old) groups) old now done)
       (subst (λ (gs : List (List Change)). KeepsUnchangedFiles gs old now) (are d.source d.here_is) keeps);
-  sets = λ start notes opened sound under sets.
+  made = λ start notes opened sound under sets.
       let s : IsSettling start notes b n settled old = record { sound = sound; under = under; ready = ready; comes = comes } in
       let d = changing laws start notes b n settled old s in
       let held = is_held settled.verdict new_one in
       sets_committed laws start notes opened b n settled old now held.0 s d held.1 (on_committed (filled_all (part_bytes old) groups) old now done sets.told)
-      (subst (λ (gs : List (List Change)). HasCommitted (filled_all (part_bytes old) gs) old now) (are d.source d.here_is) done)
-      (subst (λ (gs : List (List Change)). KeepsUnchangedFiles gs old now) (are d.source d.here_is) keeps) sets;
+      (subst (λ (gs : List (List Change)). HasCommitted (filled_all (part_bytes old) gs) old now) (are d.source d.here_is) done) sets;
   aside = λ start notes sound under.
       let s : IsSettling start notes b n settled old = record { sound = sound; under = under; ready = ready; comes = comes } in
       let d = changing laws start notes b n settled old s in
@@ -431,6 +496,11 @@ goes_committed laws b c n settled groups old now ready comes same new_one are ke
       let s : IsSettling start notes b n settled old = record { sound = sound; under = under; ready = ready; comes = comes } in
       let held = is_held settled.verdict new_one in
       more_installed laws start notes b n settled old held.0 s (changing laws start notes b n settled old s) held.1;
+  out = λ start notes pool jobs sound under out.
+      let s : IsSettling start notes b n settled old = record { sound = sound; under = under; ready = ready; comes = comes } in
+      let d = changing laws start notes b n settled old s in
+      out_settled start b n settled.verdict old now pool jobs ready (back_committed (filled_all (part_bytes old) groups) old now done)
+      (keeps_staged laws start notes b n settled old now s d (subst (λ (gs : List (List Change)). KeepsUnchangedFiles gs old now) (are d.source d.here_is) keeps)) out;
 })
 
 -- ---- where it stops

@@ -441,7 +441,7 @@ stops_first laws error together cleanup b old now same = λ start notes lists op
 -- it stopped as its sets were committed one by one
 pub stops_one_by_one : (error : RunError) (together cleanup : Bool) (b : Board) (old now : List State) → together ≡ false → StopsBetweenAsks error b old now → StopsWhileEnding error together cleanup b old now
 stops_one_by_one error together cleanup b old now isnt stops = λ start notes lists opened switch h.
-    subst (λ (t : Bool). HasProgress error start t lists opened now) (sym isnt) (stops start notes lists opened h.sound h.under_way h.sets)
+    subst (λ (t : Bool). HasProgress error start t lists opened now) (sym isnt) (stops start notes lists opened h.sound h.under_way h.sets.sets)
 
 -- before the last commit
 pub stops_between : CommittingLaws → (error : RunError) (together cleanup : Bool) (b c : Board) (old mid now : List State) (groups : List (List Change)) → LeavesUncommitted together b c old mid groups → now ≡ mid → StopsWhileEnding error together cleanup b old now

@@ -17,14 +17,15 @@ use Rattle.journal_model.specs.Rest.{IsIdle}
 use Rattle.list_commits.specs.Changes.{changes_for}
 use Rattle.list_commits.specs.Loose.{AreSorted, IsLoose, removed_names}
 use Rattle.list_commits.specs.RecordLaws.{MayBeRemoved, group_of, groups_of, names_of_group}
-use Rattle.run_jobs.specs.Running.{RunStart, IsUnderWay}
+use Rattle.run_jobs.specs.Running.{RunStart, IsSoundBegun, IsUnderWay}
 use Rattle.run_model.specs.Groups.{Group, all_groups, sources_in}
 use Rattle.run_model.specs.Runs.{is_told_installed}
 use Rattle.update_model.specs.declared.log.RunLog.{RunLog}
 use Rattle.update_model.specs.declared.settled.Verdict2.{Verdict2}
 use Rattle.update_engine.proofs.Known.{CommittingLaws}
 use Rattle.update_engine.specs.Session.{EndsWithLog, GathersChanges, KeepsRunGoing, HasCommittedAllBut, HasCommittedSets, HasGatheredChanges, HasUncommitted, CommitsOneSource, MayCommit, LeavesUncommitted, NewSource, begun_of, cleans, groups_for, installed_in, names_to_remove, numbers_of, some_names, with_removed}
-use Rattle.update_engine.proofs.Beside.{aside_fewer, aside_none, list_more}
+use Rattle.update_engine.proofs.Beside.{aside_fewer, aside_none, aside_on, list_more}
+use Rattle.update_engine.specs.Run.{IsListOf}
 use Rattle.update_engine.proofs.Distinct.{all_last, are_gathered, gathered_for}
 
 -- ---- what is left
@@ -37,6 +38,15 @@ no_commits [] each none = refl
 no_commits (groups ∷ commits) each none =
     let some : each.0.n ∷ sources_in (all_groups commits) ≡ [] = subst (λ (gs : List Group). sources_in (gs ++ all_groups commits) ≡ []) each.0.is none in
     absurd (cc)
+
+-- the sets are committed still where sources are settled alone
+sets_kept : (start : RunStart) (notes : List Note) (opened : List State) (b c : Board) (old now : List State) → KeepsRunGoing b c old now → IsSoundBegun start → IsUnderWay start notes b old
+    → HasCommittedSets (begun_of start) notes opened old b → HasCommittedSets (begun_of start) notes opened now c
+sets_kept start notes opened b c old now goes sound under sets = record {
+  sets = goes.made start notes opened sound under sets.sets;
+  aside = aside_on start.config.sources (IsListOf start.config.sources (installed_in b)) (IsListOf start.config.sources (installed_in c)) notes opened old now
+      (list_more start.config.sources (installed_in b) (installed_in c) (goes.more start notes sound under)) sets.aside (goes.aside start notes sound under);
+}
 
 -- where nothing is left, all sets are committed
 pub all_committed : (together : Bool) (start : RunStart) (notes : List Note) (opened now : List State) (b : Board) → (together ≡ true → b.settled ≡ []) → HasCommittedSets (begun_of start) notes opened now b → HasCommittedAllBut together start notes opened now b []
@@ -87,7 +97,7 @@ last_none together b c old now groups isnt empty goes start notes sound under = 
   are = empty;
   each = tt;
   in_turn = tt;
-  sets = λ opened none sets. all_committed together start notes opened now c (λ so. let wrong : true ≡ false = sym so ∙ isnt in absurd (cc)) (goes.sets start notes opened sound under sets);
+  sets = λ opened none sets. all_committed together start notes opened now c (λ so. let wrong : true ≡ false = sym so ∙ isnt in absurd (cc)) (sets_kept start notes opened b c old now goes sound under sets);
 }
 
 pub last_stands : (together : Bool) (b c : Board) (old now : List State) (groups : List (List Change)) → MayCommit b old → LeavesUncommitted together b c old now groups → IsNow IsIdle now → MayCommit c now

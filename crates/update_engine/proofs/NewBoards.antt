@@ -1,11 +1,10 @@
 -- A run begins.
-use Rattle.std.proofs.Common.{◌≡◌, ◌∙◌, ◌≤◌, ◌-◌, ◌^◌, ⊎_elim, refl, sym, ap, subst, arith, ℕ, ℤ, zero, suc, Bool, true, false, List, [], ◌∷◌, ◌++◌, All, Contains, IsTrue, length, map, take, replicate, Option, Some, bytes_eq}
-use Rattle.std.specs.Prelude.{if◌then◌else◌, nat_lt, unwrap_or}
+use Rattle.std.proofs.Common.{◌≡◌, ◌∙◌, ◌≤◌, ◌-◌, ◌^◌, ⊎_elim, refl, sym, ap, subst, arith, ℕ, ℤ, zero, suc, Bool, true, false, List, [], ◌∷◌, ◌++◌, All, Contains, IsTrue, length, map, take, replicate, Option, Some, None, bytes_eq}
+use Rattle.std.specs.Prelude.{if◌then◌else◌, nat_lt, slice_get, unwrap_or}
 use Rattle.std.specs.List.{flat_map, AllByRecursion as Each}
 use Rattle.std.proofs.lemmas.List.{length-replicate, length-take-le}
 use Rattle.std.proofs.lemmas.List.Elements.{All-head, All-tail}
 use Rattle.std.proofs.lemmas.Slice.Eq.{bytes_eq-Decides}
-use Rattle.acq_base.specs.Mirror.{MirrorMap}
 use Rattle.acq_base.specs.Plan.{IsPlanned, IsSound}
 use Rattle.acq_base.specs.declared.installed.Old.{Old}
 use Rattle.acq_base.specs.declared.plan.Plan.{Plan}
@@ -26,7 +25,11 @@ use Rattle.journal_model.specs.Rest.{IsAtRest, part_bytes, size_below}
 use Rattle.lists_dir.specs.Installed.{installed_of, listed, lists_of}
 use Rattle.release_file.specs.declared.changing.Change.{Change}
 use Rattle.run_jobs.specs.Coupling.{HasWantedPart, HasWantedParts}
-use Rattle.run_jobs.specs.Running.{AgreesWhereKnown}
+use Rattle.run_jobs.specs.Running.{AgreesWhereKnown, RunStart}
+use Rattle.lane_pool.specs.Pool.{Pool}
+use Rattle.lane_jobs.specs.Going.{AreOut, run_lanes}
+use Rattle.lane_jobs.specs.JobsOut.{none_out, number_of}
+use Rattle.lane_jobs.specs.declared.transfers.Transfer.{Transfer}
 use Rattle.update_core.specs.BoardRefinement.{config_for}
 use Rattle.update_model.specs.Next.{Keeps}
 use Rattle.update_model.specs.Outcomes.{PartFiles}
@@ -38,7 +41,7 @@ use Rattle.run_jobs.proofs.Rising.{for_any, none_told}
 use Rattle.update_engine.proofs.Known.{BeginningLaws}
 use Rattle.update_engine.specs.Reading.{size_of, sizes_in, sizes_of}
 use Rattle.update_engine.specs.Run.{IsReadFromDisk, run_of, resumable_part, target_names}
-use Rattle.update_engine.specs.Session.{IsNewRun, StartsRun}
+use Rattle.update_engine.specs.Session.{IsNewPool, IsNewRun, StartsRun}
 
 -- ---- sizes
 
@@ -92,12 +95,12 @@ use_at_first : (n : ℕ) (now : List State) (name : List ℕ) → n ≤ length (
 use_at_first zero now name within = tt
 use_at_first (suc n) now name within = record { front = take_twice (suc n) (part_bytes now name); within = within }
 
-uses_at_first : BeginningLaws → (config : Setup) (olds : List Old) (now : List State) → (IsTold now → (name : List ℕ) → config.sizes name ≤ length (part_bytes now name)) → HasWantedParts (wanted_part (first_board config olds 1)) (parts_at now config.sizes) now
+uses_at_first : BeginningLaws → (config : Setup) (olds : List Old) (lanes : ℕ) (now : List State) → (IsTold now → (name : List ℕ) → config.sizes name ≤ length (part_bytes now name)) → HasWantedParts (wanted_part (first_board config olds lanes)) (parts_at now config.sizes) now
 unfolding parts_at
-uses_at_first laws config olds [] within = record { each = λ name told. absurd told }
-uses_at_first laws config olds (s ∷ past) within = record {
-  each = λ name told. falls_holds (use_from (config.sizes name)) (wanted_part (first_board config olds 1) name) name (take (config.sizes name) (part_bytes (s ∷ past) name)) (s ∷ past)
-      (laws.rest config olds 1 name) (use_at_first (config.sizes name) (s ∷ past) name (within tt name));
+uses_at_first laws config olds lanes [] within = record { each = λ name told. absurd told }
+uses_at_first laws config olds lanes (s ∷ past) within = record {
+  each = λ name told. falls_holds (use_from (config.sizes name)) (wanted_part (first_board config olds lanes) name) name (take (config.sizes name) (part_bytes (s ∷ past) name)) (s ∷ past)
+      (laws.rest config olds lanes name) (use_at_first (config.sizes name) (s ∷ past) name (within tt name));
 }
 
 -- ---- what is installed, and the lists on their way, as they are read
@@ -177,11 +180,29 @@ olds_are_read laws tells files (s ∷ past) olds sources sources' planned shown 
     ∙ ap (λ (f : Files). map (installed_of f) sources) shown.1
     ∙ all_alike sources lists (reads s) planned (λ source is. laws.read source lists s is rest)
 
+-- ---- no job is out
+
+none_numbered : (lanes : ℕ) → replicate lanes None ≡ map number_of (replicate lanes None)
+none_numbered zero = refl
+none_numbered (suc lanes) = ap (λ (ns : List (Option ℕ)). None ∷ ns) (none_numbered lanes)
+
+none_there : (lanes lane : ℕ) (t : Transfer) → slice_get (replicate lanes None) lane ≡ Some (Some t) → ⊥
+none_there zero lane t at = absurd (cc)
+none_there (suc lanes) zero t at = absurd (cc)
+none_there (suc lanes) (suc lane) t at = none_there lanes lane t at
+
+none_is_out : (start : RunStart) (pool : Pool) (lanes : ℕ) (b : Board) (now : List State) → IsNewPool pool → b.out ≡ replicate lanes None → AreOut start (run_lanes pool (none_out lanes) b) now
+none_is_out start pool lanes b now new none = record {
+  numbers = none ∙ none_numbered lanes;
+  each = λ lane t at. absurd (none_there lanes lane t at);
+  given = λ used lane fetch at. absurd (new.idle lane fetch at);
+}
+
 -- ---- it begins
 
-pub starts : BeginningLaws → (plan : Plan) (settings : Settings) (change : Change) (moment : ℤ) (together : Bool) (olds : List Old) (sizes : List (ListName × ℕ)) (now : List State) (b : Board) → IsSound plan → All IsPlanned plan.sources
-    → length olds ≡ length plan.sources → ((lists : Files) → ToldAs (IsAtRest lists) now → olds ≡ map (installed_of lists) plan.sources) → (IsTold now → sizes ≡ sizes_of now plan.sources) → b ≡ first_board (config_for plan sizes settings change moment) olds 1 → StartsRun (run_of plan settings change moment together) now b
-starts laws plan settings change moment together olds sizes now b sound planned each wanted_part read is = subst (StartsRun (run_of plan settings change moment together) now) (sym is) (λ mirrors counts. started mirrors counts)
+pub starts : BeginningLaws → (plan : Plan) (settings : Settings) (change : Change) (moment : ℤ) (together : Bool) (olds : List Old) (sizes : List (ListName × ℕ)) (lanes : ℕ) (now : List State) (b : Board) → IsSound plan → 1 ≤ lanes → All IsPlanned plan.sources
+    → length olds ≡ length plan.sources → ((lists : Files) → ToldAs (IsAtRest lists) now → olds ≡ map (installed_of lists) plan.sources) → (IsTold now → sizes ≡ sizes_of now plan.sources) → b ≡ first_board (config_for plan sizes settings change moment) olds lanes → StartsRun (run_of plan settings change moment together) lanes now b
+starts laws plan settings change moment together olds sizes lanes now b sound some planned each wanted_part read is = subst (StartsRun (run_of plan settings change moment together) lanes now) (sym is) (λ pool new. started pool new)
   where
     config : Setup
     config = config_for plan sizes settings change moment
@@ -210,9 +231,9 @@ starts laws plan settings change moment together olds sizes now b sound planned 
           (subst (λ (rows : List (ListName × ℕ)). size_under rows name ≡ part_size now name) (sym (read told)) (sizes_are_read now plan.sources name is));
     }
 
-    started : (mirrors : List (Option MirrorMap)) (counts : List ℕ) → IsNewRun (run_of plan settings change moment together) mirrors counts now (first_board config olds 1)
-    started mirrors counts = record {
-      start = record { config = config; olds = olds; parts = parts_at now config.sizes; mirrors = mirrors; counts = counts };
+    started : (pool : Pool) → IsNewPool pool → IsNewRun (run_of plan settings change moment together) pool lanes now (first_board config olds lanes)
+    started pool new = record {
+      start = record { config = config; olds = olds; parts = parts_at now config.sizes; mirrors = pool.worlds; counts = pool.counts };
       from = refl;
       at = refl;
       sound = record { planned = planned; apart = sound.distinct; few = sound.few; sizes = long };
@@ -221,14 +242,15 @@ starts laws plan settings change moment together olds sizes now b sound planned 
         under_way = record {
           heard = record {
             config = refl;
-            reached = laws.reached config olds 1 each (omega arith);
+            reached = laws.reached config olds lanes each some;
             sound = tt;
-            answers = for_any mirrors (λ mirror. AgreesWhereKnown now mirror (parts_at now config.sizes) plan.sources []) (λ mirror. tt);
+            answers = for_any pool.worlds (λ mirror. AgreesWhereKnown now mirror (parts_at now config.sizes) plan.sources []) (λ mirror. tt);
           };
-          uses = uses_at_first laws config olds now within;
+          uses = uses_at_first laws config olds lanes now within;
         };
-        counted = record { sized = refl; faults = none_told counts };
-        none_out = refl;
+        counted = record { sized = refl; faults = none_told pool.counts };
+        methods = record { worlds = refl; mirrors = new.worlds; outs = new.outs; some = new.some };
+        out = none_is_out (record { config = config; olds = olds; parts = parts_at now config.sizes; mirrors = pool.worlds; counts = pool.counts }) pool lanes (first_board config olds lanes) now new refl;
       };
       none = refl;
       read = begins;

@@ -1,5 +1,5 @@
 -- What is asked of a run, and what it promises.
-use Rattle.std.specs.Prelude.{◌≡◌, ◌≢◌, ◌⊎◌, ℕ, ℤ, ◌-◌, ◌^◌, Bool, true, false, Contains, IfOk, IsTrue, List, [], length, map, slice_get, take, Option, Some, None, Result, Err}
+use Rattle.std.specs.Prelude.{◌≡◌, ◌≢◌, ◌⊎◌, ◌≤◌, ℕ, suc, ℤ, ◌-◌, ◌^◌, Bool, true, false, Contains, IfOk, IsTrue, List, [], length, map, slice_get, take, Option, Some, None, Result, Err}
 use Rattle.std.specs.List.{flat_map}
 use Rattle.acq_base.specs.Mirror.{MirrorMap}
 use Rattle.acq_base.specs.Plan.{names_of}
@@ -22,8 +22,11 @@ use Rattle.journal_model.specs.Reopen.{installed_now}
 use Rattle.journal_model.specs.Rest.{IsAtRest, IsSynced, file_now, part_bytes, size_below}
 use Rattle.list_commits.specs.Loose.{IsLoose, NoneIsLoose}
 use Rattle.list_commits.specs.Made.{CommitsMade, after_all}
+use Rattle.lane_jobs.specs.Begins.{BeginsMore}
+use Rattle.lane_pool.specs.Pool.{Pool}
 use Rattle.lists_dir.specs.Installed.{installed_of}
 use Rattle.release_file.specs.declared.changing.Change.{Change}
+use Rattle.update_model.specs.declared.log.Asked.{Asked}
 use Rattle.update_model.specs.declared.log.RunLog.{RunLog}
 use Rattle.run_jobs.specs.Counting.{BeginsAsTold, FaultsRise}
 use Rattle.run_jobs.specs.Mirrors.{ForMirror}
@@ -54,6 +57,10 @@ pub record Engine : Type 0 where
 
 abbrev pub engine : {D M : Type 0} → Disks D → Methods M → D → List M → Engine
 engine d m disk methods = record { trace = d.trace disk; mirrors = map m.world methods; faults = map m.faults methods }
+
+-- the same, of lanes
+abbrev pub engine_over : {D : Type 0} → Disks D → D → Pool → Engine
+engine_over d disk pool = record { trace = d.trace disk; mirrors = pool.worlds; faults = pool.counts }
 
 -- ---- the methods
 
@@ -188,15 +195,27 @@ pub record LogIsTrue (run : Run) (before after : Engine) (log : RunLog) : Type 0
   pub faults : FaultsRise before.faults after.faults log.asks
   pub commits : ToldAs IsSynced before.trace → HasFinished run begun heard before.trace after.trace log
 
+-- Since these counts just as many fetches were begun over the coordinator's lane as the log tells, and each worker was handed as
+-- many jobs or one more.
+pub record TellsBegins (first begins : List ℕ) (asks : List Asked) : Type 0 where
+  pub own : BeginsMore first begins asks 0 0
+  pub workers : (lane : ℕ) → (more : ℕ) × (more ≤ 1) × BeginsMore first begins asks (suc lane) more
+
 -- What a run answers, and what it does to the outside: a journal that is damaged changes no file, damage is told just
--- where it is there, a log has a verdict for each source, tells each fetch that was begun and is true, a crash at any
--- moment leaves whole commits, and want of memory stops no commit that was begun.
-pub record Runs {D M : Type 0} (d : Disks D) (m : Methods M) (run : Run) (old new : D) (asked answered : List M)
+-- where it is there, a log has a verdict for each source and is true, a crash at any moment leaves whole commits, and want of
+-- memory stops no commit that was begun.
+pub record RunsBetween {D : Type 0} (d : Disks D) (run : Run) (old new : D) (before after : Engine)
     (result : Result RunLog RunError) : Type 0 where
   pub unchanged : (at : ℕ) → result ≡ Err (BadJournal at) → d.files new ≡ d.files old
   pub damage : IsTrue (d.tells old) → RunFindsDamage (damage_of (d.files old)) result
   pub verdicts : IfOk result (λ log. length log.verdicts ≡ length run.plan.sources)
+  pub log : IfOk result (LogIsTrue run before after)
+  pub crash : SurvivesCrash run before after
+  pub dry : result ≡ Err NoMemory → ToldAs IsSynced (d.trace old) → StopsForMemory run before.mirrors (d.trace old) (d.trace new)
+
+-- So it does over these methods. A log tells each fetch that the first one began, and of each other one all but one at most.
+pub record Runs {D M : Type 0} (d : Disks D) (m : Methods M) (run : Run) (old new : D) (asked answered : List M)
+    (result : Result RunLog RunError) : Type 0 where
+  pub between : RunsBetween d run old new (engine d m old asked) (engine d m new answered) result
+  pub open between use *
   pub begins : IfOk result (λ log. BeginsAsTold (map m.begins asked) (map m.begins answered) log.asks)
-  pub log : IfOk result (LogIsTrue run (engine d m old asked) (engine d m new answered))
-  pub crash : SurvivesCrash run (engine d m old asked) (engine d m new answered)
-  pub dry : result ≡ Err NoMemory → ToldAs IsSynced (d.trace old) → StopsForMemory run (map m.world asked) (d.trace old) (d.trace new)

@@ -1,11 +1,11 @@
 -- A run between two of its steps, with the commits that it has made.
-use Rattle.std.specs.Prelude.{◌≡◌, ◌<◌, ◌&&◌, ℕ, Bool, true, false, not, if◌then◌else◌, Contains, List, [], ◌∷◌, ◌++◌, filter, map, slice_get, Option, Some, None}
+use Rattle.std.specs.Prelude.{◌≡◌, ◌≢◌, ◌⊎◌, ◌<◌, ◌&&◌, ℕ, suc, length, Bool, true, false, not, if◌then◌else◌, Contains, List, [], ◌∷◌, ◌++◌, filter, map, slice_get, Option, Some, None}
 use Rattle.std.specs.List.{AllByRecursion as Each, list_all}
-use Rattle.acq_base.specs.Mirror.{MirrorMap}
 use Rattle.acq_base.specs.declared.plan.Source.{Source}
 use Rattle.acq_outside.specs.Crash.{State, reads}
 use Rattle.acq_outside.specs.Disk.{Files}
 use Rattle.acq_outside.specs.States.{IsTold, IsNow, ToldAs}
+use Rattle.acq_outside.specs.declared.word.Fetch.{Fetch}
 use Rattle.board_model.specs.Agreeing.{Agrees}
 use Rattle.board_model.specs.Boards.{Board, first_ready, settled_as, settled_of}
 use Rattle.board_model.specs.Jobs.{NoneAsks}
@@ -21,7 +21,10 @@ use Rattle.list_commits.specs.Made.{CommitsMade}
 use Rattle.list_commits.specs.RecordLaws.{IsSyncedPart, names_of_group}
 use Rattle.list_commits.specs.SetLaws.{HasPutNames, HaveSums, OwnsChanges}
 use Rattle.run_jobs.specs.Mirrors.{ForMirror}
-use Rattle.run_jobs.specs.Running.{RunStart, IsRunning, IsSoundBegun, IsUnderWay}
+use Rattle.lane_jobs.specs.Going.{AreOut, IsRunningOver, RunLanes, run_lanes}
+use Rattle.lane_jobs.specs.JobsOut.{JobsOut, is_filled, none_out}
+use Rattle.lane_pool.specs.Pool.{Pool}
+use Rattle.run_jobs.specs.Running.{RunStart, IsSoundBegun, IsUnderWay}
 use Rattle.run_jobs.specs.declared.error.RunError.{RunError}
 use Rattle.run_jobs.specs.declared.error.RunError.TheVariants.{NoMemory}
 use Rattle.run_model.specs.Begun.{RunInput}
@@ -66,6 +69,15 @@ pub record HasCommittedSets (begun : RunInput) (heard : List Note) (opened now :
   pub open sets use *
   pub aside : KeepsAside begun.config.sources (IsListOf begun.config.sources (installed_in b)) heard opened now
 
+-- a list that a run may have moved from its way, or whose file is being filled
+abbrev pub IsMovedOrFilled : List Source → List ℕ → JobsOut → List ℕ → Type 0
+IsMovedOrFilled sources installed jobs name = IsListOf sources installed name ⊎ (is_filled jobs name ≡ true)
+
+-- The same while jobs are out: of a list that is being filled nothing is said.
+pub record HasCommittedBeside (begun : RunInput) (jobs : JobsOut) (heard : List Note) (opened now : List State) (b : Board) : Type 0 where
+  pub sets : HasMadeSets begun heard opened now b
+  pub aside : KeepsAside begun.config.sources (IsMovedOrFilled begun.config.sources (installed_in b) jobs) heard opened now
+
 -- The commits of a run over these lists are made one after another since the journal was open: so many are acknowledged and
 -- so many begun, and as many where it stops for want of memory. Where the disk was at rest then, it is synced.
 pub record HasProgress (error : RunError) (start : RunStart) (together : Bool) (lists : Files) (opened now : List State) : Type 0 where
@@ -100,40 +112,43 @@ pub record OnlySettles (before after : Board) : Type 0 where
   pub out : after.out ≡ before.out
   pub quiet : NoneAsks before → NoneAsks after
 
--- A run that is under way still is where nothing was heard, and so is its having committed its sets. What lies beside the lists
--- stays, but for what is on its way of the sources that were installed.
+-- A run that is under way still is where nothing was heard, and so is its having made its sets, and each job that is out is its
+-- item's. What lies beside the lists stays, but for what is on its way of the sources that were installed.
 pub record KeepsRunGoing (before after : Board) (old now : List State) : Type 0 where
   pub under_way : (start : RunStart) (notes : List Note) → IsSoundBegun start → IsUnderWay start notes before old → IsUnderWay start notes after now
-  pub sets : (start : RunStart) (notes : List Note) (opened : List State) → IsSoundBegun start → IsUnderWay start notes before old
-      → HasCommittedSets (begun_of start) notes opened old before → HasCommittedSets (begun_of start) notes opened now after
+  pub made : (start : RunStart) (notes : List Note) (opened : List State) → IsSoundBegun start → IsUnderWay start notes before old
+      → HasMadeSets (begun_of start) notes opened old before → HasMadeSets (begun_of start) notes opened now after
   pub aside : (start : RunStart) (notes : List Note) → IsSoundBegun start → IsUnderWay start notes before old
       → KeepsAside start.config.sources (IsListOf start.config.sources (installed_in after)) [] old now
   pub more : (start : RunStart) (notes : List Note) → IsSoundBegun start → IsUnderWay start notes before old → (n : ℕ) → Contains (installed_in before) n → Contains (installed_in after) n
+  pub out : (start : RunStart) (notes : List Note) (pool : Pool) (jobs : JobsOut) → IsSoundBegun start → IsUnderWay start notes before old
+      → AreOut start (run_lanes pool jobs before) old → AreOut start (run_lanes pool jobs after) now
 
 -- and where it stops, its commits have got so far
 abbrev pub StopsBetweenAsks : RunError → Board → List State → List State → Type 0
 StopsBetweenAsks error before old now =
     (start : RunStart) (notes : List Note) (lists : Files) (opened : List State) → IsSoundBegun start → IsUnderWay start notes before old
-    → HasCommittedSets (begun_of start) notes opened old before → HasProgress error start false lists opened now
+    → HasMadeSets (begun_of start) notes opened old before → HasProgress error start false lists opened now
 
 -- ---- over jobs
 
 -- a run that goes on has heard more, and has committed its sets where it had before
-pub record RunGoesOnWith (start : RunStart) (notes : List Note) (later : List ℕ) (before after : Board) (old now : List State) : Type 0 where
+pub record RunGoesOnWith (start : RunStart) (notes : List Note) (before after : RunLanes) (old now : List State) : Type 0 where
   pub more : List Note
-  pub running : IsRunning start (notes ++ more) later after now
-  pub sets : (opened : List State) → HasCommittedSets (begun_of start) notes opened old before → HasCommittedSets (begun_of start) (notes ++ more) opened now after
+  pub running : IsRunningOver start (notes ++ more) after now
+  pub sets : (opened : List State) → HasCommittedBeside (begun_of start) before.jobs notes opened old before.board
+      → HasCommittedBeside (begun_of start) after.jobs (notes ++ more) opened now after.board
 
--- so does each run that goes on over these mirrors
-abbrev pub RunGoesOn : List (Option MirrorMap) → List ℕ → List ℕ → Board → Board → List State → List State → Type 0
-RunGoesOn mirrors counts later before after old now =
-    (start : RunStart) (notes : List Note) → IsSoundBegun start → start.mirrors ≡ mirrors → IsRunning start notes counts before old → RunGoesOnWith start notes later before after old now
+-- so does each run that goes on over these lanes
+abbrev pub RunGoesOn : RunLanes → RunLanes → List State → List State → Type 0
+RunGoesOn before after old now =
+    (start : RunStart) (notes : List Note) → IsSoundBegun start → IsRunningOver start notes before old → RunGoesOnWith start notes before after old now
 
 -- and where it stops, its commits have got so far
-abbrev pub StopsWhileAsking : RunError → List (Option MirrorMap) → List ℕ → Board → List State → List State → Type 0
-StopsWhileAsking error mirrors counts before old now =
-    (start : RunStart) (notes : List Note) (lists : Files) (opened : List State) → IsSoundBegun start → start.mirrors ≡ mirrors → IsRunning start notes counts before old
-    → HasCommittedSets (begun_of start) notes opened old before → HasProgress error start false lists opened now
+abbrev pub StopsWhileAsking : RunError → RunLanes → List State → List State → Type 0
+StopsWhileAsking error before old now =
+    (start : RunStart) (notes : List Note) (lists : Files) (opened : List State) → IsSoundBegun start → IsRunningOver start notes before old
+    → HasCommittedBeside (begun_of start) before.jobs notes opened old before.board → HasProgress error start false lists opened now
 
 -- ---- all together
 
@@ -272,17 +287,24 @@ EndsWithLog cleanup b old log =
 
 -- ---- the beginning
 
--- A run over these mirrors and counts begins: its board is new, and over a disk that is at rest it begins with what was read.
-pub record IsNewRun (run : Run) (mirrors : List (Option MirrorMap)) (counts : List ℕ) (now : List State) (b : Board) : Type 0 where
+-- lanes of some methods on which nothing was asked yet
+pub record IsNewPool (pool : Pool) : Type 0 where
+  pub worlds : length pool.worlds ≡ length pool.counts
+  pub outs : length pool.outs ≡ length pool.counts
+  pub some : 0 < length pool.counts
+  pub idle : (lane : ℕ) (fetch : Fetch) → slice_get pool.outs (suc lane) ≢ Some (Some fetch)
+
+-- A run over these lanes begins: its board is new, and over a disk that is at rest it begins with what was read.
+pub record IsNewRun (run : Run) (pool : Pool) (lanes : ℕ) (now : List State) (b : Board) : Type 0 where
   pub start : RunStart
-  pub from : start.mirrors ≡ mirrors
-  pub at : start.counts ≡ counts
+  pub from : start.mirrors ≡ pool.worlds
+  pub at : start.counts ≡ pool.counts
   pub sound : IsSoundBegun start
   pub of_run : IsConfiguredBy run (begun_of start)
-  pub running : IsRunning start [] counts b now
+  pub running : IsRunningOver start [] (run_lanes pool (none_out lanes) b) now
   pub none : b.settled ≡ []
   pub read : (entry : List State) → ToldAs (IsAtRest (installed_now entry)) now → IsReadFromDisk entry now (begun_of start)
 
 -- so does each run
-abbrev pub StartsRun : Run → List State → Board → Type 0
-StartsRun run now b = (mirrors : List (Option MirrorMap)) (counts : List ℕ) → IsNewRun run mirrors counts now b
+abbrev pub StartsRun : Run → ℕ → List State → Board → Type 0
+StartsRun run lanes now b = (pool : Pool) → IsNewPool pool → IsNewRun run pool lanes now b

@@ -1,5 +1,5 @@
 //! The beginning of a run over an open journal.
-ghost use Rattle.std.specs.Prelude.{◌≡◌, [], Bool, IfOk};
+ghost use Rattle.std.specs.Prelude.{◌≡◌, ◌≤◌, [], Bool, IfOk};
 ghost use Rattle.acq_base.specs.Plan.{IsSound};
 ghost use Rattle.acq_outside.specs.Stays.{ReadsCounting};
 ghost use Rattle.update_core.specs.BoardRefinement.{board_of};
@@ -13,7 +13,7 @@ use release_file::Change;
 use std::alloc::Global;
 use update_core::Board;
 
-/// A new board beside what is installed and what is on its way. Nothing is changed.
+/// A new board with so many lanes, beside what is installed and what is on its way. Nothing is changed.
 ///
 /// The plan is sound; `now` is the moment of the run in seconds since 1970-01-01 00:00:00 UTC. `Fault` only where the disk's
 /// count of faults rose.
@@ -24,14 +24,16 @@ pub fn begin_run<D: Disk>(
     settings: Settings,
     change: Change,
     now: i64,
+    lanes: u32,
 ) -> Result<Board, OutError>
-    requires { IsSound plan }
+    requires plan { IsSound plan }
+    requires lanes { 1 ≤ lanes }
     ensures frame { ReadsCounting OutError.Fault D.Disk disk.old disk.new result }
     ensures unasked { IfOk result (λ board. (board_of board).asks ≡ []) }
-    ensures starts { (together : Bool) → IfOk result (λ board. StartsRun (run_of plan settings change now together) (D.trace disk.old) (board_of board)) }
+    ensures starts { (together : Bool) → IfOk result (λ board. StartsRun (run_of plan settings change now together) lanes (D.trace disk.old) (board_of board)) }
 {
     sources_are_planned();
     let olds = read_installed(alloc, disk, plan.sources.as_slice())?;
     let sizes = read_sizes(alloc, disk, plan.sources.as_slice())?;
-    Ok(Board::new(alloc, plan, olds, sizes, settings, change, now, 1)?)
+    Ok(Board::new(alloc, plan, olds, sizes, settings, change, now, lanes)?)
 }

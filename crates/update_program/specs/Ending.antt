@@ -57,8 +57,8 @@ WritesWhyNoLog run before after status =
     ⊎ (((at : ℕ) × (IsTrue before.tells → damage_of before.files ≡ Some at) × (after.files ≡ before.files) × WritesFault before.out after.out (Journal at) status)
     ⊎ (StopsNoCommit run before after × WritesLine before.out after.out Memory status))
 
--- A run, whether it answers a log or not: what a stop leaves, what the log tells, which is each fetch that was begun, and
--- what was written. No run that answers a log goes on over a damaged journal.
+-- A run, whether it answers a log or not: what a stop leaves, what the log tells, how many fetches were begun, and what was
+-- written. No run that answers a log goes on over a damaged journal.
 pub record MakesRun (run : Run) (before after : Objects) (answer : Option RunLog) (status : ℕ) : Type 0 where
   pub crash : SurvivesCrash run before.engine after.engine
   pub log : IfSome answer (LogIsTrue run before.engine after.engine)

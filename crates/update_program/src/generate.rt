@@ -14,14 +14,21 @@ use acq_outside::Sink;
 use generated_days::{Day, both_days};
 use report_text::FaultLine;
 use std::alloc::Global;
+use std::sync::Wait;
+use std::thread::Threads;
 
 /// Updates from the mirror of a number on both days, and writes one line. The status is 0 where four sources got a new set
 /// on each day, 100 where fewer did, 103 for want of memory and 105 where the output fails.
-pub fn generate<S: Sink>(alloc: Global, number: u64, out: &mut S) -> Status
+pub fn generate<R: Threads + Wait + Copy + Send + 'static, S: Sink>(
+    rt: &R,
+    alloc: Global,
+    number: u64,
+    out: &mut S,
+) -> Status
     ensures frame { BlamesOutput (S.faults out.old) (S.faults out.new) result.0 }
     ensures days { IsGenerated number (output S.Sink out.old) (output S.Sink out.new) result.0 }
 {
-    match both_days(alloc, number) {
+    match both_days(rt, alloc, number) {
         Ok((first, second)) => tell_days(alloc, number, &first, &second, out),
         Err(NoMemory) => write_fixed(out, &FaultLine::Memory),
     }

@@ -15,10 +15,19 @@ use acq_outside::{Clock, Disk, HoldError, Method, Sink};
 use configuration::Configured;
 use report_text::FaultLine;
 use std::alloc::Global;
+use std::sync::Wait;
+use std::thread::Threads;
 
 /// Takes the hold, reads the moment, and runs what is configured.
 #[tactic(auto, using(update_engine::proofs::Lists::none_fall, crate::proofs::Endings::with_time))]
-pub fn run_with_hold<D: Disk, M: Method, C: Clock, S: Sink>(
+pub fn run_with_hold<
+    R: Threads + Wait + Copy + Send + 'static,
+    D: Disk,
+    M: Method + Send + 'static,
+    C: Clock,
+    S: Sink,
+>(
+    rt: &R,
     alloc: Global,
     it: Configured,
     together: bool,
@@ -45,7 +54,7 @@ pub fn run_with_hold<D: Disk, M: Method, C: Clock, S: Sink>(
     match disk.hold() {
         Ok(()) => {
             let now = clock.moment();
-            run_plan(alloc, it, together, now, disk, methods, out)
+            run_plan(rt, alloc, it, together, now, disk, methods, out)
         }
         Err(HoldError::Held) => Ran::without_log(write_fixed(out, &FaultLine::Held)),
         Err(HoldError::Fault) => Ran::without_log(write_fixed(out, &FaultLine::Disk)),

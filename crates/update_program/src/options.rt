@@ -17,10 +17,20 @@ use command_words::Options;
 use configuration::{ConfigurationError, configure};
 use report_text::FaultLine;
 use std::alloc::Global;
+use std::sync::Wait;
+use std::thread::Threads;
 
 /// Reads the configuration, and runs what it plans. The headline of the call above follows of how it ended.
 #[tactic(auto, using(update_engine::proofs::Lists::none_fall, crate::proofs::Endings::configured_ends, crate::proofs::Endings::refusal_ends))]
-pub fn run_options<E: Etc, D: Disk, M: Method, C: Clock, S: Sink>(
+pub fn run_options<
+    R: Threads + Wait + Copy + Send + 'static,
+    E: Etc,
+    D: Disk,
+    M: Method + Send + 'static,
+    C: Clock,
+    S: Sink,
+>(
+    rt: &R,
     alloc: Global,
     options: &Options,
     etc: &mut E,
@@ -48,7 +58,7 @@ pub fn run_options<E: Etc, D: Disk, M: Method, C: Clock, S: Sink>(
         (span D.Disk M.Method S.Sink disk.old disk.new methods.old methods.new out.old out.new) result options.now }
 {
     match configure(alloc, etc, &options.pairs) {
-        Ok(it) => run_with_hold(alloc, it, options.together, disk, methods, clock, out),
+        Ok(it) => run_with_hold(rt, alloc, it, options.together, disk, methods, clock, out),
         Err(ConfigurationError::Fault) => Ran::without_log(write_fixed(out, &FaultLine::Etc)),
         Err(ConfigurationError::NoMemory) => Ran::without_log(write_fixed(out, &FaultLine::Memory)),
         Err(refusal) => refuse(alloc, refusal, out),

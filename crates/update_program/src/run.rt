@@ -18,13 +18,21 @@ use release_file::{Head, is_allowed};
 use report_text::FaultLine;
 use run_jobs::RunError;
 use std::alloc::Global;
+use std::sync::Wait;
+use std::thread::Threads;
 use update_engine::run_update;
 
 /// Runs what is configured and tells what became of it.
 ///
 /// `now` is the moment of the run in seconds since 1970-01-01 00:00:00 UTC.
 #[tactic(auto, using(update_engine::proofs::Lists::none_fall, crate::proofs::Damage::told_at, crate::proofs::Damage::none_told))]
-pub fn run_plan<D: Disk, M: Method, S: Sink>(
+pub fn run_plan<
+    R: Threads + Wait + Copy + Send + 'static,
+    D: Disk,
+    M: Method + Send + 'static,
+    S: Sink,
+>(
+    rt: &R,
     alloc: Global,
     it: Configured,
     together: bool,
@@ -59,7 +67,9 @@ pub fn run_plan<D: Disk, M: Method, S: Sink>(
         return Ran::without_log(write_fixed(out, &FaultLine::Memory));
     };
     let judge = Judge::new(test, change);
-    match run_update(alloc, plan, settings, now, together, disk, methods, &judge) {
+    match run_update(
+        rt, alloc, plan, settings, now, together, disk, methods, &judge,
+    ) {
         Ok(log) => Ran {
             status: write_report(alloc, &kept, &log, out),
             log: Some(log),

@@ -81,9 +81,9 @@ pub fn update_call<
     let alloc = rt.alloc();
     match read_words(alloc, words) {
         Ok(Some(Request::Update(options))) => {
-            run_options(alloc, &options, etc, disk, methods, clock, out)
+            run_options(rt, alloc, &options, etc, disk, methods, clock, out)
         }
-        Ok(Some(Request::Generate(number))) => Ran::without_log(generate(alloc, number, out)),
+        Ok(Some(Request::Generate(number))) => Ran::without_log(generate(rt, alloc, number, out)),
         Ok(None) => Ran::without_log(write_fixed(out, &FaultLine::Words)),
         Err(NoMemory) => Ran::without_log(write_fixed(out, &FaultLine::Memory)),
     }
