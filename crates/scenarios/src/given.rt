@@ -92,13 +92,24 @@ impl<T: Drop> Kept<T> {
     }
 }
 
+/// The calls of one method that are to fail in place of those of all methods.
+#[derive(Drop)]
+pub struct LaneFails {
+    /// The method's number, from 0 on.
+    pub lane: u8,
+    pub begin: Row<u64>,
+    pub more: Row<u64>,
+}
+
 /// The numbers of the calls that are to fail, of each object, counted from 1.
 #[derive(Drop)]
 pub struct Fails {
-    /// Those that begin a fetch.
+    /// Those that begin a fetch, of each method.
     pub begin: Row<u64>,
     /// Those that go on with one.
     pub more: Row<u64>,
+    /// The methods that fail in another way.
+    pub lanes: Row<LaneFails>,
     pub disk: Row<u64>,
     pub etc: Row<u64>,
     pub sink: Row<u64>,
@@ -111,6 +122,7 @@ impl Fails {
         Fails {
             begin: Row::new(alloc),
             more: Row::new(alloc),
+            lanes: Row::new(alloc),
             disk: Row::new(alloc),
             etc: Row::new(alloc),
             sink: Row::new(alloc),
@@ -134,6 +146,17 @@ pub struct Tell {
     pub journal: bool,
     /// Whether the first call of the lists folder, which is to fail, is still to come.
     pub untouched: bool,
+    /// The asks source by source and list by list.
+    pub items: bool,
+    /// Which methods answered, and how many came back.
+    pub lanes: bool,
+}
+
+/// What one host answers is held until another one has answered.
+#[derive(Drop)]
+pub struct Held {
+    pub host: Text,
+    pub awaited: Text,
 }
 
 /// How a run is stopped.
@@ -172,6 +195,8 @@ pub struct Given {
     /// Whether another process holds the lists folder.
     pub held: bool,
     pub methods: u8,
+    /// The gate that the methods share, if there is one.
+    pub gate: Option<Held>,
     pub fails: Fails,
     pub stop: Stop,
     pub tell: Tell,
@@ -194,6 +219,7 @@ impl Given {
             former: false,
             held: false,
             methods: 1,
+            gate: None,
             fails: Fails::new(alloc),
             stop: Stop::Never,
             tell: Tell {
@@ -203,6 +229,8 @@ impl Given {
                 partial: false,
                 journal: false,
                 untouched: false,
+                items: false,
+                lanes: false,
             },
         }
     }
@@ -241,6 +269,7 @@ impl Given {
         self.disk = left;
         self.former = true;
         self.held = false;
+        self.gate = None;
         self.fails = Fails::new(alloc);
         self.stop = Stop::Never;
     }

@@ -1,6 +1,6 @@
 //! The lines of a scenario.
 
-use crate::given::{Configured, Fails, Given, Has, Kind, Server, Stop, Tell};
+use crate::given::{Configured, Fails, Given, Has, Held, Kind, LaneFails, Server, Stop, Tell};
 use crate::quoted::{read_bytes, read_named, read_pieces};
 use crate::refused::{Refused, said, utf8};
 use acq_base::{Bytes, Row, Text};
@@ -30,6 +30,8 @@ fn take_way(alloc: Global, given: &mut Given, kind: &str, rest: &str) -> Result<
         "methods" => given.methods = said(rest.parse::<u8>())?,
         "server" => given.server = Some(read_server(alloc, rest)?),
         "fails" => take_fails(&mut given.fails, rest)?,
+        "lane" => take_lane(alloc, &mut given.fails, rest)?,
+        "gate" => given.gate = Some(read_held(alloc, rest)?),
         "stop" => given.stop = read_stop(alloc, rest)?,
         "tell" => take_tell(&mut given.tell, rest)?,
         "held" if rest.is_empty() => given.held = true,
@@ -140,10 +142,42 @@ fn take_fails(fails: &mut Fails, rest: &str) -> Result<(), Refused> {
         "link" => &mut fails.link,
         _ => return Err(Refused::Line),
     };
+    take_numbers(calls, numbers)
+}
+
+/// The number of a method, and which of its calls of one kind are to fail. A method has one such line.
+fn take_lane(alloc: Global, fails: &mut Fails, rest: &str) -> Result<(), Refused> {
+    let (lane, rest) = halves(rest);
+    let (object, numbers) = halves(rest);
+    let mut of_lane = LaneFails {
+        lane: said(lane.parse::<u8>())?,
+        begin: Row::new(alloc),
+        more: Row::new(alloc),
+    };
+    let calls = match object {
+        "begin" => &mut of_lane.begin,
+        "more" => &mut of_lane.more,
+        _ => return Err(Refused::Line),
+    };
+    take_numbers(calls, numbers)?;
+    Ok(fails.lanes.push(of_lane)?)
+}
+
+/// Numbers with a space between two of them.
+fn take_numbers(calls: &mut Row<u64>, numbers: &str) -> Result<(), Refused> {
     for number in numbers.split(' ') {
         calls.push(read_number(number)?)?;
     }
     Ok(())
+}
+
+/// Two hosts.
+fn read_held(alloc: Global, rest: &str) -> Result<Held, Refused> {
+    let (host, awaited) = halves(rest);
+    Ok(Held {
+        host: Text::from_bytes(alloc, host.as_bytes())?,
+        awaited: Text::from_bytes(alloc, awaited.as_bytes())?,
+    })
 }
 
 /// A number without a sign.
@@ -190,6 +224,8 @@ fn take_tell(tell: &mut Tell, rest: &str) -> Result<(), Refused> {
             "partial" => tell.partial = true,
             "journal" => tell.journal = true,
             "untouched" => tell.untouched = true,
+            "items" => tell.items = true,
+            "lanes" => tell.lanes = true,
             _ => return Err(Refused::Line),
         }
     }

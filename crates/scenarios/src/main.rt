@@ -18,8 +18,10 @@
 //! | `methods N` | how many methods there are |
 //! | `disk NAME "B"` | a file of the lists folder before |
 //! | `held` | another process holds the lists folder |
-//! | `fails OBJECT N ..` | the calls that fail, from 1 on: `begin` and `more` of the method, `disk`, `etc`, `sink`, `tree`, `link` |
-//! | `tell WORD ..` | what is told too: `log`, `faults`, `moments`, `partial`, `journal`, `untouched` |
+//! | `fails OBJECT N ..` | the calls that fail, from 1 on: `begin` and `more` of each method, `disk`, `etc`, `sink`, `tree`, `link` |
+//! | `lane L begin N ..`, `lane L more N ..` | those of the method of this number, from 0 on, in place of those of each |
+//! | `gate HOST OTHER` | a fetch from the host is held until one from the other host was answered |
+//! | `tell WORD ..` | what is told too: `log`, `faults`, `moments`, `partial`, `journal`, `untouched`, `items`: the asks list by list, `lanes`: which methods answered, and how many came back |
 //! | `stop N C ..` | the run is stopped after so many calls of the lists folder; the crash leaves what these bytes choose |
 //! | `stop all N` | so it is after each call, of which there are N at least, in each of 16 ways |
 //! | `stop fault N` | each call of the lists folder fails by itself |
@@ -50,6 +52,7 @@ mod change;
 mod crashes;
 mod ends;
 mod folder;
+mod gated;
 mod generated;
 mod given;
 mod items;

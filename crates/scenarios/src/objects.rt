@@ -4,7 +4,8 @@ ghost use Rattle.std.specs.Prelude.{IfOk};
 ghost use Rattle.acq_base.specs.Fetch.{IsSoundAnswer};
 ghost use Rattle.acq_memory.specs.MapMethod.{HasSoundAnswers};
 
-use crate::given::{Configured, Folder, Given, Has, Server};
+use crate::gated::{Gate, GatedMethod};
+use crate::given::{Configured, Folder, Given, Has, Held, Server};
 use crate::refused::Refused;
 use acq_base::{Answer, Bytes, Mirror, NoMemory, Row, Text, TryCopy};
 use acq_memory::{MapMethod, MemDisk, MemEtc, MemTree};
@@ -14,6 +15,7 @@ use file_method::FileMethod;
 use http_method::HttpMethod;
 use served_link::ServedLink;
 use std::alloc::Global;
+use std::sync::Arc;
 use uri_names::read_uri;
 
 /// A method over HTTP whose peer is a server in memory.
@@ -50,12 +52,32 @@ fn mirror(alloc: Global, given: &[(Text, Has)]) -> Result<Mirror, Refused>
     Ok(Mirror { rows })
 }
 
-/// A method that gives the mirror.
-pub fn map_method(alloc: Global, given: &Given) -> Result<MapMethod, Refused> {
+/// The method of this number, which gives the mirror.
+pub fn map_method(alloc: Global, given: &Given, lane: u8) -> Result<MapMethod, Refused> {
     let mirror = mirror(alloc, given.mirror.as_slice())?;
-    let begin = given.fails.begin.copy(alloc)?;
-    let more = given.fails.more.copy(alloc)?;
-    Ok(MapMethod::new(mirror, begin, more))
+    let fails = &given.fails;
+    let (begin, more) = match fails.lanes.as_slice().iter().find(|row| row.lane == lane) {
+        Some(own) => (&own.begin, &own.more),
+        None => (&fails.begin, &fails.more),
+    };
+    Ok(MapMethod::new(mirror, begin.copy(alloc)?, more.copy(alloc)?))
+}
+
+/// A gate that the methods share.
+pub fn gate_of(alloc: Global, held: &Held) -> Result<Arc<Gate>, Refused> {
+    let gate = Gate::new(held.host.copy(alloc)?, held.awaited.copy(alloc)?);
+    Ok(Arc::new(alloc, gate)?)
+}
+
+/// The method of this number behind a gate.
+pub fn gated_method(
+    alloc: Global,
+    given: &Given,
+    gate: &Arc<Gate>,
+    lane: u8,
+) -> Result<GatedMethod, Refused> {
+    let method = map_method(alloc, given, lane)?;
+    Ok(GatedMethod::new(method, Arc::try_clone(gate)?))
 }
 
 /// A file with its name.

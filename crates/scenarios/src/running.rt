@@ -1,7 +1,9 @@
 //! Runs the top call over what is given.
 
-use crate::given::{Given, Server};
-use crate::objects::{Served, etc_of, file_method, http_method, map_method, served_method};
+use crate::given::{Given, Held, Server};
+use crate::objects::{
+    Served, etc_of, file_method, gate_of, gated_method, http_method, map_method, served_method,
+};
 use crate::refused::Refused;
 use crate::watch::Watch;
 use acq_base::TryCopy;
@@ -24,6 +26,10 @@ pub struct Came {
     pub faults: u64,
     /// How many moments the clock gave.
     pub moments: u64,
+    /// How many methods came back.
+    pub methods: usize,
+    /// Whether a fetch was held at the gate for too long.
+    pub late: bool,
 }
 
 impl Came {
@@ -52,13 +58,15 @@ impl Lent {
     }
 
     /// What a call that was lent them came to.
-    fn came(self, ran: Ran, faults: u64) -> Came {
+    fn came(self, ran: Ran, faults: u64, methods: usize) -> Came {
         Came {
             status: ran.status.0,
             moments: self.clock.given(),
             out: self.out,
             log: ran.log,
             faults,
+            methods,
+            late: false,
         }
     }
 }
@@ -88,7 +96,7 @@ where
         &mut lent.clock,
         &mut lent.out,
     );
-    Ok(lent.came(ran, faults_of(methods.as_slice())))
+    Ok(lent.came(ran, faults_of(methods.as_slice()), methods.len()))
 }
 
 /// The same over methods whose peer is a server in memory.
@@ -115,7 +123,7 @@ where
         &mut lent.clock,
         &mut lent.out,
     );
-    Ok(lent.came(ran, faults_of(methods.as_slice())))
+    Ok(lent.came(ran, faults_of(methods.as_slice()), methods.len()))
 }
 
 /// How often methods failed.
@@ -150,11 +158,28 @@ fn over_mirror<R>(rt: &R, given: &Given, disk: &mut MemDisk) -> Result<Came, Ref
 where
     R: AllocGlobal + Threads + Wait + Copy + Send + 'static,
 {
+    if let Some(held) = &given.gate {
+        return over_gate(rt, given, held, disk);
+    }
     let mut methods = Vec::new(rt.alloc());
-    for _ in 0..given.methods {
-        methods.push(map_method(rt.alloc(), given)?)?;
+    for lane in 0..given.methods {
+        methods.push(map_method(rt.alloc(), given, lane)?)?;
     }
     called(rt, given, disk, &mut methods)
+}
+
+fn over_gate<R>(rt: &R, given: &Given, held: &Held, disk: &mut MemDisk) -> Result<Came, Refused>
+where
+    R: AllocGlobal + Threads + Wait + Copy + Send + 'static,
+{
+    let gate = gate_of(rt.alloc(), held)?;
+    let mut methods = Vec::new(rt.alloc());
+    for lane in 0..given.methods {
+        methods.push(gated_method(rt.alloc(), given, &gate, lane)?)?;
+    }
+    let mut came = called(rt, given, disk, &mut methods)?;
+    came.late = gate.was_late();
+    Ok(came)
 }
 
 fn over_tree<R>(rt: &R, given: &Given, disk: &mut MemDisk) -> Result<Came, Refused>

@@ -4,9 +4,10 @@ use crate::given::{Folder, Tell};
 use crate::quoted::put_bytes;
 use crate::refused::{Refused, finished};
 use crate::running::Came;
-use acq_base::{NotServed, Uri};
+use acq_base::{NoMemory, NotServed, Text, TryCopy, Uri};
 use case_words::Page;
 use std::alloc::Global;
+use std::collections::BTreeMap;
 use update_model::{Asked, Heard, RunLog};
 use uri_names::uri_text;
 
@@ -36,15 +37,82 @@ pub fn put_came(alloc: Global, page: &mut Page, came: &Came, tell: Tell) {
     if tell.moments {
         put_count(page, "moments", came.moments);
     }
+    if tell.lanes {
+        put_count(page, "methods", came.methods as u64);
+        page.put(if came.late { "late\n" } else { "" });
+    }
 }
 
 /// Puts the asks of a log.
 fn put_log(alloc: Global, page: &mut Page, log: &RunLog, tell: Tell) {
-    for ask in log.asks.as_slice() {
-        put_ask(alloc, page, ask, tell);
+    let asks = log.asks.as_slice();
+    if tell.items {
+        put_items(alloc, page, asks, tell);
+    } else {
+        put_asks(alloc, page, asks, tell);
     }
     if tell.log {
         page.put("log\n");
+    }
+    if tell.lanes {
+        put_lanes(page, asks);
+    }
+}
+
+/// Puts asks in the order in which they were answered.
+fn put_asks(alloc: Global, page: &mut Page, asks: &[Asked], tell: Tell) {
+    for ask in asks {
+        put_ask(alloc, page, ask, tell);
+    }
+}
+
+/// Puts the numbers of the methods that answered, each once.
+fn put_lanes(page: &mut Page, asks: &[Asked]) {
+    page.put("lanes");
+    for lane in 0..9 {
+        if asks.iter().any(|ask| ask.lane == lane) {
+            page.put(" ");
+            page.show(lane);
+        }
+    }
+    page.put("\n");
+}
+
+/// The items that asked, each once: the source's place, and the list's path.
+fn items_of(alloc: Global, asks: &[Asked]) -> Result<BTreeMap<u32, BTreeMap<Text, ()>>, NoMemory> {
+    let mut items = BTreeMap::new(alloc);
+    for ask in asks {
+        let mut paths = items.remove(&ask.source).unwrap_or(BTreeMap::new(alloc));
+        paths.insert(ask.path.copy(alloc)?, ())?;
+        items.insert(ask.source, paths)?;
+    }
+    Ok(items)
+}
+
+/// Puts the asks of each item in the order in which they were answered, source by source and path by path.
+fn put_items(alloc: Global, page: &mut Page, asks: &[Asked], tell: Tell) {
+    let Ok(items) = items_of(alloc, asks) else {
+        page.cut();
+        return;
+    };
+    for (source, paths) in items.iter() {
+        for (path, _) in paths.iter() {
+            put_item(alloc, page, asks, (*source, path), tell);
+        }
+    }
+}
+
+/// Puts the asks of one item.
+fn put_item(alloc: Global, page: &mut Page, asks: &[Asked], item: (u32, &Text), tell: Tell) {
+    page.put("item ");
+    page.show(item.0);
+    page.put(" ");
+    page.put_name(item.1.as_bytes());
+    page.put("\n");
+    for ask in asks {
+        if ask.source == item.0 && ask.path.as_bytes() == item.1.as_bytes() {
+            put_ask(alloc, page, ask, tell);
+        }
     }
 }
 
