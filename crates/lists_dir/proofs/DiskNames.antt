@@ -104,10 +104,16 @@ unfolding name_of_parts
 parts_some Http host port path some = name_some (host ++ port_text port ++ path) (omega (arith, some, length-append (host ++ port_text port) path))
 parts_some File host port path some = name_some path some
 
+pub list_name_ascii : (uri : Uri) → IsSound uri → IsAscii (list_name uri)
+list_name_ascii uri sound = parts_ascii uri.scheme uri.host uri.port uri.path sound.authority sound.port (ascii_all uri.path uri_small sound.path)
+
+pub list_name_some : (uri : Uri) → IsSound uri → 1 ≤ length (list_name uri)
+list_name_some uri sound = parts_some uri.scheme uri.host uri.port uri.path (rooted_some uri.path sound.rooted)
+
 pub list_name_fits : (uri : Uri) → IsSound uri → length (list_name uri) ≤ 240 → IsName (list_name uri)
 list_name_fits uri sound short = record {
-  text = IsUtf8-from_ascii (list_name uri) (parts_ascii uri.scheme uri.host uri.port uri.path sound.authority sound.port (ascii_all uri.path uri_small sound.path));
-  nonempty = parts_some uri.scheme uri.host uri.port uri.path (rooted_some uri.path sound.rooted);
+  text = IsUtf8-from_ascii (list_name uri) (list_name_ascii uri sound);
+  nonempty = list_name_some uri sound;
   short = omega (arith, short);
 }
 

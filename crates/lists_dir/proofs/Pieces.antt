@@ -1,5 +1,5 @@
 -- A file read in pieces.
-use Rattle.std.proofs.Common.{◌≡◌, ◌⊎◌, ℕ, ◌+◌, ◌-◌, ◌<◌, List, [], ◌++◌, length, take, drop, Option, unwrap_or, ⊎_elim, sym, ap, subst, ◌∙◌, arith}
+use Rattle.std.proofs.Common.{◌≡◌, ℕ, ◌+◌, ◌<◌, List, [], ◌++◌, length, take, drop, Option, unwrap_or, ⊎_elim, sym, ap, subst, ◌∙◌, arith}
 use Rattle.std.proofs.lemmas.List.{length-drop, length-take-le, take_at, take-append-drop, take-take, drop-take}
 use Rattle.acq_base.specs.declared.sum.Sum.{Sum}
 use Rattle.acq_outside.specs.Disk.{IsRead, piece_at}
@@ -7,7 +7,7 @@ use Rattle.hash_gate.specs.declared.gate.Gate.{Gate}
 use Rattle.hash_gate.specs.Pieces.{HasTaken}
 use Rattle.lists_dir.specs.Verified.{TakesOn}
 
-take-more : (content : List ℕ) (at n : ℕ) → take at content ++ take n (drop at content) ≡ take (at + n) content
+pub take-more : (content : List ℕ) (at n : ℕ) → take at content ++ take n (drop at content) ≡ take (at + n) content
 take-more content at n =
     (λ i. (sym (take-take at (at + n) content (omega arith))) i ++ (sym (drop-take at n content)) i) ∙ take-append-drop at (take (at + n) content)
 

@@ -82,7 +82,8 @@ impl Page {
         }
     }
 
-    fn put_error(&mut self, error: OutError) {
+    /// That a call failed, or that memory ran out.
+    pub fn put_error(&mut self, error: OutError) {
         match error {
             OutError::Fault => self.put("fault"),
             OutError::NoMemory => self.fall_short(),

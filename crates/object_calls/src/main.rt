@@ -4,7 +4,8 @@
 //! A line is an object, a call and its arguments, with one blank between them. `disk`, `etc`, `tree`, `written`, `clock`,
 //! `input`, `sink`, `link` and `port` are the objects of the operating system that `acq_real` and `acq_net` have; `files` is
 //! the system itself, by which something is put or taken away behind their backs, and `peer` the other side of the link.
-//! `loopback serve FOLDER PATH` serves a folder in one thread and asks for a path over TCP in another.
+//! `loopback serve FOLDER PATH` serves a folder in one thread and asks for a path over TCP in another. `memory sums N TEXT`
+//! sums the lists that a sources list of this text plans, side by side in at most N threads.
 //! `memory` is a lists folder in memory, and `memory-written`, `memory-input` and `memory-port` are written files, an input
 //! and a port in memory. The program's own standard input holds the lines, so `input` reads a file in its place. In an
 //! argument `\n` and `\r` are line ends, `\x20` is the byte of that number, and `""` is the empty text. An empty line and one
@@ -29,6 +30,7 @@ mod objects;
 mod page;
 mod peer;
 mod port;
+mod sums;
 mod system;
 mod tree;
 mod words;
@@ -51,7 +53,7 @@ fn own_folder(rt: &HostRuntime) -> io::Result<String> {
 }
 
 /// Answers each line. The threads are those of the system.
-fn answer_all<T: Threads>(threads: &T, rt: HostRuntime, own: &str) -> io::Result<()> {
+fn answer_all<T: Threads + Sync>(threads: &T, rt: HostRuntime, own: &str) -> io::Result<()> {
     let mut objects = Objects::new(rt, own)?;
     for line in rt.lines(rt.alloc()) {
         answer(threads, rt, own, &mut objects, line?.as_str())?;
@@ -60,7 +62,7 @@ fn answer_all<T: Threads>(threads: &T, rt: HostRuntime, own: &str) -> io::Result
 }
 
 /// Prints a line, behind a call what it answers.
-fn answer<T: Threads>(
+fn answer<T: Threads + Sync>(
     threads: &T,
     rt: HostRuntime,
     own: &str,
@@ -71,9 +73,12 @@ fn answer<T: Threads>(
         return println!(rt; "{line}");
     }
     let mut page = Page::new(rt.alloc());
-    let answered = match line.strip_prefix("loopback serve ") {
-        Some(words) => loopback::answer(threads, rt, &mut page, own, words),
-        None => objects.answer(&mut page, line),
+    let answered = if let Some(words) = line.strip_prefix("loopback serve ") {
+        loopback::answer(threads, rt, &mut page, own, words)
+    } else if let Some(words) = line.strip_prefix("memory sums ") {
+        objects.sums(threads, &mut page, words)
+    } else {
+        objects.answer(&mut page, line)
     };
     match (answered, page.text()) {
         (Ok(()), Ok(text)) => println!(rt; "{line} -> {text}"),

@@ -1,12 +1,13 @@
 //! A lists folder in memory: its calls, what a crash leaves of it, and what it gives when its journal is opened.
 
-use crate::folder;
 use crate::page::Page;
 use crate::words::{Refused, number};
+use crate::{folder, sums};
 use acq_base::{Bytes, Row, Text, TryCopy};
 use acq_memory::MemDisk;
 use acq_outside::Disk;
 use std::alloc::Global;
+use std::thread::Threads;
 
 /// With what a folder begins.
 #[derive(Drop)]
@@ -128,11 +129,31 @@ impl Memory {
         Ok(())
     }
 
-    /// Puts what a call of the folder answers, once it has begun.
-    fn called(&mut self, page: &mut Page, call: &str, words: &[Text]) -> Result<(), Refused> {
+    /// Puts the sums of the lists that words plan, once the folder has begun.
+    pub fn sums<T: Threads + Sync>(
+        &mut self,
+        threads: &T,
+        page: &mut Page,
+        words: &[Text],
+    ) -> Result<(), Refused> {
+        self.begin_disk()?;
+        match &mut self.disk {
+            Some(disk) => sums::answer(threads, self.alloc, page, disk, words),
+            None => Err(Refused::NoCall),
+        }
+    }
+
+    /// The folder begins, if it has not yet.
+    fn begin_disk(&mut self) -> Result<(), Refused> {
         if self.disk.is_none() {
             self.disk = Some(self.start.disk(self.alloc)?);
         }
+        Ok(())
+    }
+
+    /// Puts what a call of the folder answers, once it has begun.
+    fn called(&mut self, page: &mut Page, call: &str, words: &[Text]) -> Result<(), Refused> {
+        self.begin_disk()?;
         match (&mut self.disk, call) {
             (Some(disk), "faults") => page.put_number(disk.faults()),
             (Some(disk), "dry") => page.put_number(disk.dry()),

@@ -10,6 +10,7 @@ use acq_base::{Row, Text};
 use acq_memory::{MemFiles, MemInlet};
 use acq_net::MemPort;
 use std::alloc::{AllocError, Global};
+use std::thread::Threads;
 
 /// The objects of a run.
 #[derive(Drop)]
@@ -50,6 +51,18 @@ impl Objects {
         };
         let words = texts(self.alloc, words)?;
         self.call(page, object, call, words.as_slice())
+    }
+
+    /// Puts the sums of lists of the lists folder in memory.
+    pub fn sums<T: Threads + Sync>(
+        &mut self,
+        threads: &T,
+        page: &mut Page,
+        words: &str,
+    ) -> Result<(), Refused> {
+        let words: Vec<&str> = words.split(' ').collect(self.alloc)?;
+        let words = texts(self.alloc, words.as_slice())?;
+        self.memory.sums(threads, page, words.as_slice())
     }
 
     fn call(

@@ -46,6 +46,14 @@ impl Page {
         }
     }
 
+    /// Puts two hexadecimal digits for each byte.
+    pub fn put_hex(&mut self, bytes: &[u8]) {
+        for byte in bytes {
+            let put = write!(self.text, "{byte:02x}");
+            self.note(put);
+        }
+    }
+
     fn put_byte(&mut self, byte: u8) {
         let put = match byte {
             b' '..=b'[' | b']'..=b'~' => self.text.push(char::from(byte)),
