@@ -1,5 +1,6 @@
 -- Cited by the public clauses:
 pub mod Refinement
+pub mod OldFiles
 pub mod Single
 pub mod Sound
 -- what the laws of this crate say:

@@ -7,7 +7,7 @@ ghost use Rattle.ed_apply.specs.Files.{IsOf};
 use acq_base::{Bytes, Sum};
 use ed_apply::Edit;
 
-/// The installed file, which is hashed once.
+/// The installed file with its bytes.
 #[derive(Drop)]
 pub struct Installed {
     pub file: Bytes,

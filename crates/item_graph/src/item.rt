@@ -1,24 +1,24 @@
 //! Items.
 
-ghost use Rattle.std.specs.Prelude.{◌≡◌, ◌≤◌, None, length, IfOk, IfSome, IsSome, OnOk, option_copied};
-ghost use Rattle.acq_base.specs.Plan.{IsPlanned, IsSoundTarget};
-ghost use Rattle.acq_base.specs.Uri.{IsSound};
-ghost use Rattle.release_file.specs.Release.{listed_sum};
+ghost use Rattle.std.specs.Prelude.{◌≡◌, ◌≤◌, None, length, IfOk, IfSome, OnOk, option_copied, option_map};
+ghost use Rattle.acq_base.specs.Plan.{IsPlanned};
+ghost use Rattle.acq_base.specs.Uri.{IsSound, list_name};
 ghost use Rattle.update_model.specs.Points.{Over, start, point_after};
-ghost use Rattle.update_model.specs.Walks.{release_walk};
-ghost use Rattle.item_graph.specs.Single.{file_walk, list_start};
+ghost use Rattle.update_model.specs.Walks.{release_walk, target_walk};
+ghost use Rattle.item_graph.specs.OldFiles.{IsEnough, bytes_of};
+ghost use Rattle.item_graph.specs.Single.{file_walk};
 ghost use Rattle.item_graph.specs.Sound.{IsSoundAnswer, IsSoundAt};
 
 use crate::list::plain;
+use crate::old_file::OldFile;
 use crate::patches::list;
 use crate::release::release as release_state;
 use crate::state::State;
-use crate::wanted::{single, want};
-use acq_base::{Bytes, NoMemory, Settings, Source, Sum, Target, Text, Uri};
-use release_file::{Release, find_file};
+use crate::wanted::single;
+use acq_base::{NoMemory, Settings, Source, Sum, Text, Uri};
 use std::alloc::Global;
 use std::mem;
-use update_model::{Ask, Closed, End};
+use update_model::{Ask, Closed, End, Wanted};
 
 /// A Release, a list or a single file that is being fetched.
 #[derive(Drop)]
@@ -47,32 +47,26 @@ impl Item {
         })
     }
 
-    /// A list that the Release names, beside its installed file and the size of its partial file. The installed file is
-    /// hashed here, once.
+    /// A list that a Release names, beside its installed file and the size of its partial file.
     ///
     /// Where the installed file is the wanted one, nothing is asked. Else come, each where the one before gave no
     /// fitting file: patches of the installed file, where they are on and the Release lists a patch Index; the rest
     /// behind the partial file, where that has some bytes and fewer than the list; the whole list under its digest,
-    /// where it is asked for there; and the whole list at its own URI.
-    pub fn for_target(
+    /// where it is asked for there; and the whole list at its own URI. Where patches may be asked for, the installed
+    /// file's bytes are needed, beside which its sum alone will do.
+    pub fn for_list(
         alloc: Global,
-        source: &Source,
-        target: &Target,
-        release: &Release,
-        old: Option<Bytes>,
+        wanted: Wanted,
+        old: Option<OldFile>,
         part: u64,
         settings: &Settings,
     ) -> Result<Item, NoMemory>
-        requires wanted { IsSome (listed_sum release.now target.now.path) }
-        ensures walk { IfSome (listed_sum release.now target.now.path)
-            (λ sum. IfOk result (λ item. point_of item ≡ list_start source.now release.now settings.now target.now old part sum)) }
+        requires enough { IsEnough old wanted }
+        ensures walk { IfOk result (λ item. point_of item ≡ start settings.now.retries (target_walk (option_map bytes_of old) part wanted)) }
         ensures retries { IfOk result (λ item. retries_of item ≡ settings.now.retries) }
-        ensures sound { IsSoundTarget target.now → length target.now.name.0 ≤ 240 → IfOk result (λ item. IsSoundAt (point_of item)) }
+        ensures sound { IsSound wanted.uri → IfSome wanted.hashed IsSound → length (list_name wanted.uri) ≤ 240
+            → IfOk result (λ item. IsSoundAt (point_of item)) }
     {
-        let Some(sum) = find_file(release, target.path.as_bytes()) else {
-            unreachable!()
-        };
-        let wanted = want(alloc, source, target, release, settings, sum)?;
         Ok(Item {
             retries: settings.retries,
             state: list(alloc, settings.retries, old, part, wanted)?,

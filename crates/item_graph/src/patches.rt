@@ -1,16 +1,18 @@
 //! The patch Index of a list, its patches, and what comes after each.
 
-ghost use Rattle.std.specs.Prelude.{◌≡◌, [], IfOk, option_map, option_and_then, reverse};
+ghost use Rattle.std.specs.Prelude.{◌≡◌, [], IfOk, Some, option_map, option_and_then, reverse};
 ghost use Rattle.acq_base.specs.Sum.{sum_of as summed};
 ghost use Rattle.update_model.specs.Files.{served, fitting};
 ghost use Rattle.update_model.specs.Points.{start};
 ghost use Rattle.update_model.specs.Walks.{patches_walk, index_walk, target_walk, resume_walk};
 ghost use Rattle.update_model.specs.Wanted.{patch_uri as uri_of_patch, chain as chain_of, edited_by};
 ghost use Rattle.item_graph.specs.Nexts.{after, after_index as behind_index, after_patch as behind_patch, point_in};
+ghost use Rattle.item_graph.specs.OldFiles.{IsEnough, bytes_of};
 ghost use Rattle.item_graph.specs.Patched.{file_in};
 
 use crate::editing::{Editing, Installed};
 use crate::list::resume;
+use crate::old_file::OldFile;
 use crate::patching::{Listing, Patching};
 use crate::release::whole_ask;
 use crate::state::{Next, State};
@@ -24,15 +26,35 @@ use update_model::{Body, End, Ending, Wanted};
 pub fn list(
     alloc: Global,
     retries: u32,
-    installed: Option<Bytes>,
+    installed: Option<OldFile>,
     part: u64,
     wanted: Wanted,
 ) -> Result<State, NoMemory>
-    ensures { IfOk result (λ state. point_in state ≡ start retries (target_walk installed part wanted)) }
+    requires { IsEnough installed wanted }
+    ensures { IfOk result (λ state. point_in state ≡ start retries (target_walk (option_map bytes_of installed) part wanted)) }
 {
-    let Some(file) = installed else {
-        return resume(alloc, retries, wanted, part);
-    };
+    match installed {
+        None => resume(alloc, retries, wanted, part),
+        Some(OldFile::Read(file)) => read_list(alloc, retries, file, part, wanted),
+        Some(OldFile::Summed(file)) => {
+            if file.sum() == wanted.sum {
+                return Ok(State::Ended(End::Stands));
+            }
+            resume(alloc, retries, wanted, part)
+        }
+    }
+}
+
+/// The same where the bytes of its installed file are here.
+fn read_list(
+    alloc: Global,
+    retries: u32,
+    file: Bytes,
+    part: u64,
+    wanted: Wanted,
+) -> Result<State, NoMemory>
+    ensures { IfOk result (λ state. point_in state ≡ start retries (target_walk (Some file) part wanted)) }
+{
     let installed = Installed {
         sum: sum_of(file.as_slice()),
         file,
