@@ -23,4 +23,5 @@ pub mod Naming
 pub mod Notes
 pub mod Few
 pub mod Showing
+pub mod ReadAnew
 pub mod Theorems

@@ -10,6 +10,7 @@ use Rattle.board_model.proofs.Making.{changes-leave}
 use Rattle.board_model.proofs.Naming.{puts-rest, sources-free, staged-rest}
 use Rattle.board_model.proofs.Once.{settled-once}
 use Rattle.board_model.proofs.Reaching.{absorbed-reached, issued-reached, new-reached, settled-reached}
+use Rattle.board_model.proofs.ReadAnew.{read-anew-reached}
 use Rattle.board_model.proofs.Resting.{absorbed-rest, asks-begin, new-rest, settled-rest}
 use Rattle.board_model.proofs.Showing.{causes-shown, outcomes-shown, releases-shown}
 use Rattle.board_model.proofs.Touching.{touched-apart, touched-own}
@@ -19,6 +20,7 @@ use Rattle.board_model.specs.CountLaws.{AsksAreFewByReading}
 use Rattle.board_model.specs.Laws.{BoardsStand, FinishedExactly, ItemsAskNext, SetsThereAreHeld, SettledSourcesCome, VerdictsAreMirrors}
 use Rattle.board_model.specs.NameLaws.{SettledPutsAreWanted, SettledSourcesFree, StagedAsksAreWanted}
 use Rattle.board_model.specs.Reached.{AbsorbedBoardsAreReached, IssuedBoardsAreReached, NewBoardsAreReached, SettledBoardsAreReached}
+use Rattle.board_model.specs.ReadAnew.{ReadAnewAreReached}
 use Rattle.board_model.specs.RunLaws.{FinishedBoardsTell, FinishedBoardsTellMirrors, FinishedRunsAgree, ReadySourcesLeaveOutcomes, ToldSetsAreListed, ToldSetsAreMirrors}
 use Rattle.board_model.specs.SetLaws.{ChangesLeaveOutcomes, TouchedAreApart, TouchedAreOwn}
 use Rattle.host_queues.proofs.Theorems.{hosts_keep_lanes}
@@ -140,3 +142,6 @@ last_answers_show_releases = releases-shown
 
 pub last_answers_show_outcomes : LastAnswersShowOutcomes
 last_answers_show_outcomes = outcomes-shown
+
+pub read_anew_are_reached : ReadAnewAreReached
+read_anew_are_reached = read-anew-reached

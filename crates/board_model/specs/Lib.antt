@@ -7,6 +7,7 @@ pub mod Boards
 pub mod Runs
 pub mod Jobs
 pub mod Reached
+pub mod ReadAnew
 pub mod Uses
 -- what laws and lemmas (proofs/Theorems) say:
 pub mod Stands

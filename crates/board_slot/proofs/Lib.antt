@@ -1,3 +1,4 @@
 pub mod Files
+pub mod Heard
 pub mod ListEnds
 pub mod Settled

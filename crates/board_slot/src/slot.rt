@@ -1,20 +1,25 @@
 //! Where a source stands.
 
 ghost use Rattle.std.specs.Prelude.{◌≡◌, ◌≤◌, ◌^◌, [], ◌∷◌, length, true, Some, None, IfOk, option_copied, slice_get};
+ghost use Rattle.board_source.specs.Names.{HasDiskNames, NamesDiffer};
+ghost use Rattle.acq_outside.specs.Stays.{ReadsCounting};
 ghost use Rattle.board_model.specs.Boards.{first_release};
 ghost use Rattle.board_model.specs.Settling.{settled_in};
 ghost use Rattle.board_model.specs.Slots as model;
 ghost use Rattle.board_source.specs.Listed.{standing_of, standings};
-ghost use Rattle.board_source.specs.Names.{NamesDiffer};
 ghost use Rattle.board_source.specs.Refinement.{config_of};
+ghost use Rattle.lists_dir.specs.Refinement.{old_in};
+ghost use Rattle.board_slot.specs.Heard.{HearsAnew};
 ghost use Rattle.board_slot.specs.Refinement.{slot_of};
 
 use crate::hearing::{hear_list, hear_release};
 use crate::settling::{settle_lists, unchanged};
-use acq_base::{NoMemory, Old, Source};
+use acq_base::{NoMemory, Source};
+use acq_outside::{Disk, OutError};
 use board_source::{AdmittedRelease, Lists, Setup, Staying};
 use item_graph::Item;
 use kept_hooks::Judge;
+use lists_dir::Installed;
 use std::alloc::Global;
 use update_model::{Ask, Closed, Settled};
 
@@ -22,7 +27,7 @@ use update_model::{Ask, Closed, Settled};
 #[derive(Drop)]
 pub struct Asking {
     /// What is installed of it.
-    pub old: Old,
+    pub old: Installed,
     pub release: Item,
 }
 
@@ -48,8 +53,13 @@ pub enum Slot {
 
 impl Slot {
     /// A source whose Release is to be asked for, beside what is installed of it.
-    pub fn begin(alloc: Global, setup: &Setup, source: &Source, old: Old) -> Result<Slot, NoMemory>
-        ensures { IfOk result (λ slot. slot_of slot ≡ model.Asking old (first_release (config_of setup.now) source.now)) }
+    pub fn begin(
+        alloc: Global,
+        setup: &Setup,
+        source: &Source,
+        old: Installed,
+    ) -> Result<Slot, NoMemory>
+        ensures { IfOk result (λ slot. slot_of slot ≡ model.Asking (old_in old) (first_release (config_of setup.now) source.now)) }
     {
         let release = Item::for_release(alloc, source, &setup.settings)?;
         Ok(Slot::Asking(Asking { old, release }))
@@ -91,27 +101,33 @@ impl Slot {
     }
 
     /// The item at a place hears an answer of this lane. Once the Release has ended it is judged, and where it may be
-    /// installed its lists begin.
-    pub fn hear(
+    /// installed its lists begin, beside their installed files. `Fault` only where the disk's count of faults rose.
+    pub fn hear<D: Disk>(
         self,
         alloc: Global,
         judge: &Judge,
+        disk: &mut D,
         setup: &Setup,
         source: &Source,
         place: usize,
         lane: u32,
         closed: Closed,
-    ) -> Result<Slot, NoMemory>
+    ) -> Result<Slot, OutError>
         requires named { NamesDiffer source.now }
+        requires fits { HasDiskNames source.now }
         requires change { judge.now.change ≡ setup.now.change }
-        ensures { IfOk result (λ slot. slot_of slot
-            ≡ model.heard_at (config_of setup.now) source.now place (record { lane = lane; closed = closed }) (slot_of self)) }
+        ensures frame { ReadsCounting OutError.Fault D.Disk disk.old disk.new result }
+        ensures heard { IfOk result (λ slot. HearsAnew (D.tells disk.old) (D.files disk.old) (config_of setup.now) source.now place
+            (record { lane = lane; closed = closed }) (slot_of self) (slot_of slot)) }
     {
         match self {
-            Slot::Asking(asking) => {
-                hear_release(alloc, judge, setup, source, asking, place, lane, closed)
+            Slot::Asking(asking) => hear_release(
+                alloc, judge, disk, setup, source, asking, place, lane, closed,
+            ),
+            Slot::Listing(listing) => {
+                let slot = hear_list(alloc, listing, place, lane, closed)?;
+                Ok(slot)
             }
-            Slot::Listing(listing) => hear_list(alloc, listing, place, lane, closed),
             Slot::Refused(why) => {
                 drop(closed);
                 Ok(Slot::Refused(why))

@@ -3,3 +3,5 @@ pub mod Heads
 pub mod Reasons
 pub mod Rows
 pub mod Taken
+pub mod Beside
+pub mod Planned

@@ -1,5 +1,5 @@
 -- A map's values under the names of the targets that are left, once the value of one was taken out.
-use Rattle.std.proofs.Common.{◌≡◌, ◌≢◌, ◌∙◌, ◌+◌, ◌<◌, ◌++◌, ◌&&◌, [], ◌∷◌, ℕ, suc, cond, Bool, true, false, List, length, get_or, Option, None, refl, sym, ap, arith}
+use Rattle.std.proofs.Common.{◌≡◌, ◌≢◌, ◌∙◌, ◌+◌, ◌<◌, ◌++◌, ◌&&◌, [], ◌∷◌, ℕ, suc, cond, Bool, true, false, List, length, get_or, Option, None, refl, sym, ap, subst, arith}
 use Rattle.std.specs.Prelude.{bytes_eq}
 use Rattle.std.specs.Cmp.Lexicographic.{slice_cmp}
 use Rattle.std.specs.List.{AllWithin, list_all}
@@ -9,12 +9,24 @@ use Rattle.std.proofs.lemmas.List.{get_or-map, length-map}
 use Rattle.std.proofs.lemmas.List.Folds.{list_all-append}
 use Rattle.std.proofs.lemmas.Map.Text.{is_eq-slice_cmp}
 use Rattle.std.proofs.lemmas.Slice.Eq.{bytes_eq-Decides}
+use Rattle.std.proofs.lemmas.Str.{IsUtf8-from_ascii}
+use Rattle.acq_base.specs.Plan.{names_of}
 use Rattle.acq_base.specs.declared.plan.Source.{Source}
 use Rattle.acq_base.specs.declared.plan.Target.{Target}
-use Rattle.board_source.specs.Names.{NamesDiffer}
+use Rattle.acq_outside.specs.Disk.{IsName}
+use Rattle.board_source.specs.Names.{HasDiskNames, NamesDiffer}
+
+-- a disk may have the name of the n-th target
+pub target-name : (source : Source) (n : ℕ) (target : Target) → HasDiskNames source → n < length source.targets → target ≡ get_or source.targets n target → IsName target.name.0
+target-name source n target fits below is =
+    let count = length-map source.targets (λ (t : Target). t.name.0) in
+    let plain = fits (suc n) target.name.0 (omega (arith, below, count)) in
+    let name = get_or (names_of source) (suc n) target.name.0 in
+    subst IsName (get_or-map (λ (t : Target). t.name.0) source.targets n target target.name.0 below ∙ sym (ap (λ (t : Target). t.name.0) is))
+    (record { text = IsUtf8-from_ascii name plain.ascii; nonempty = plain.nonempty; short = plain.short })
 
 -- no later target has the name of the n-th
-later-differs : (source : Source) (n k : ℕ) (d e : Target) → NamesDiffer source
+pub later-differs : (source : Source) (n k : ℕ) (d e : Target) → NamesDiffer source
     → n < k → k < length source.targets → (get_or source.targets n d).name.0 ≢ (get_or source.targets k e).name.0
 later-differs source n k d e distinct before below same =
     let d_name = d.name.0 in

@@ -8,7 +8,7 @@ ghost use Rattle.board_source.specs.Refinement.{admission_of, found_of, staying_
 
 use crate::found::{AdmittedRelease, Staying};
 use crate::setup::Setup;
-use acq_base::{Bytes, NoMemory, Old, Refusal, Row, TryCopy};
+use acq_base::{Bytes, NoMemory, Refusal, Row, TryCopy};
 use kept_hooks::Judge;
 use release_file::{DateError, Release, ReleaseError, judge_dates, read_release, refused_field};
 use std::alloc::Global;
@@ -21,16 +21,16 @@ pub enum Admission {
     Stays(Staying),
 }
 
-/// The Release that came, where it may be installed beside the installed one, or the first reason against it.
+/// The Release that came, where it may be installed beside the installed one of these bytes, or the first reason against it.
 pub fn admit(
     alloc: Global,
     judge: &Judge,
     setup: &Setup,
     end: End,
-    old: &Old,
+    old: &Option<Bytes>,
 ) -> Result<Admission, NoMemory>
     requires { judge.now.change ≡ setup.now.change }
-    ensures { IfOk result (λ admission. admission_of admission ≡ admitted end old.now.release setup.now.settings setup.now.change setup.now.moment) }
+    ensures { IfOk result (λ admission. admission_of admission ≡ admitted end old.now setup.now.settings setup.now.change setup.now.moment) }
 {
     match release_bytes(alloc, end) {
         Ok(bytes) => admit_bytes(alloc, judge, setup, bytes, old),
@@ -55,10 +55,10 @@ fn admit_bytes(
     judge: &Judge,
     setup: &Setup,
     bytes: Bytes,
-    old: &Old,
+    old: &Option<Bytes>,
 ) -> Result<Admission, NoMemory>
     requires { judge.now.change ≡ setup.now.change }
-    ensures { IfOk result (λ admission. admission_of admission ≡ admitted_bytes bytes old.now.release setup.now.settings setup.now.change setup.now.moment) }
+    ensures { IfOk result (λ admission. admission_of admission ≡ admitted_bytes bytes old.now setup.now.settings setup.now.change setup.now.moment) }
 {
     match read_release(alloc, bytes.as_slice()) {
         Ok(release) => admit_release(alloc, judge, setup, AdmittedRelease { bytes, release }, old),
@@ -76,10 +76,10 @@ fn admit_release(
     judge: &Judge,
     setup: &Setup,
     found: AdmittedRelease,
-    old: &Old,
+    old: &Option<Bytes>,
 ) -> Result<Admission, NoMemory>
     requires { judge.now.change ≡ setup.now.change }
-    ensures { IfOk result (λ admission. admission_of admission ≡ admitted_release (found_of found) (installed_of old.now.release) setup.now.settings setup.now.change setup.now.moment) }
+    ensures { IfOk result (λ admission. admission_of admission ≡ admitted_release (found_of found) (installed_of old.now) setup.now.settings setup.now.change setup.now.moment) }
 {
     let installed = installed_release(alloc, old)?;
     let reason = first_reason(alloc, judge, setup, &found.release, installed)?;
@@ -90,10 +90,10 @@ fn admit_release(
 }
 
 /// The installed Release; bytes that are refused count as none.
-fn installed_release(alloc: Global, old: &Old) -> Result<Option<Release>, NoMemory>
-    ensures { IfOk result (λ release. release ≡ installed_of old.now.release) }
+fn installed_release(alloc: Global, old: &Option<Bytes>) -> Result<Option<Release>, NoMemory>
+    ensures { IfOk result (λ release. release ≡ installed_of old.now) }
 {
-    let Some(bytes) = &old.release else {
+    let Some(bytes) = old else {
         return Ok(None);
     };
     match read_release(alloc, bytes.as_slice()) {

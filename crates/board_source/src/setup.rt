@@ -1,7 +1,7 @@
 //! What a run was begun with.
 
 ghost use Rattle.std.specs.Prelude.{All};
-ghost use Rattle.board_source.specs.Names.{NamesDiffer};
+ghost use Rattle.board_source.specs.Names.{HasDiskNames, NamesDiffer};
 
 use acq_base::{ListName, Row, Settings, Source, Text};
 use release_file::Change;
@@ -19,6 +19,7 @@ pub struct Setup {
     /// The moment of the run, in seconds since 1970-01-01 00:00:00 UTC.
     pub moment: i64,
     ghost named: { All NamesDiffer sources },
+    ghost fits: { All HasDiskNames sources },
 }
 
 impl Setup {

@@ -8,5 +8,5 @@ use Rattle.board_source.proofs.admitting.admit.Goals as goal
 pub returns-in-Ok : goal.returns-in-Ok
 returns-in-Ok g c =
     subst (λ (x : Result AdmittedRelease Staying). IfOk c.admit_bytes.result (λ admission. admission_of admission ≡ x))
-    (sym (admitted-by c.args.end c.in-Ok.bytes c.args.old.now.release c.args.setup.now.settings c.args.setup.now.change c.args.setup.now.moment c.in-Ok.ensures))
+    (sym (admitted-by c.args.end c.in-Ok.bytes c.args.old.now c.args.setup.now.settings c.args.setup.now.change c.args.setup.now.moment c.in-Ok.ensures))
     c.admit_bytes.ensures
