@@ -1,6 +1,6 @@
 -- Which item asks under a number, in steps.
 use Rattle.std.proofs.Common.{◌≡◌, ◌∙◌, ℕ, Option, Some, None, refl, ap, subst}
-use Rattle.std.specs.Prelude.{option_map, slice_get}
+use Rattle.std.specs.Prelude.{OnOk, Result, Ok, Err, option_map, slice_get}
 use Rattle.update_model.specs.Obtained.{◌>>=◌}
 use Rattle.update_model.specs.declared.ask.Closed.{Closed}
 use Rattle.board_model.specs.Boards.{Asker, Board, absorbed, asker_of, lane_with, took, took_from}
@@ -33,6 +33,15 @@ asker-asks b number a e =
 pub mapped : {A B : Type 0} (f : A → B) (o : Option A) (y : B) → Some y ≡ option_map f o → (a : A) × (o ≡ Some a) × (f a ≡ y)
 mapped f None y e = absurd (cc)
 mapped f (Some a) y e = (a, refl, cc)
+
+pub none-mapped : {A B : Type 0} (f : A → B) (o : Option A) → None ≡ option_map f o → o ≡ None
+none-mapped f None e = refl
+none-mapped f (Some a) e = absurd (cc)
+
+-- where a call ends well
+pub ok-mapped : {T E P Q : Type 0} (result : Result T E) → (P → Q) → OnOk result P → OnOk result Q
+ok-mapped (Ok x) f p = f p
+ok-mapped (Err e) f p = tt
 
 pub absorbed-is : (b : Board) (lane number from : ℕ) (closed : Closed) (a : Asker) → lane_with b.out number ≡ Some from → asker_of b number ≡ Some a
     → absorbed b lane number closed ≡ took b number a from (record { lane = lane; closed = closed })

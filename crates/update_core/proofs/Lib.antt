@@ -1,3 +1,4 @@
+pub mod Anew
 pub mod Changed
 pub mod Askers
 pub mod Waiting

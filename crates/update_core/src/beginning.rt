@@ -1,6 +1,6 @@
 //! How a board begins.
 
-ghost use Rattle.std.specs.Prelude.{◌≡◌, ◌<◌, ◌≤◌, ◌++◌, ◌∷◌, [], length, replicate, Some, None, IfOk, OnOk};
+ghost use Rattle.std.specs.Prelude.{◌≡◌, ◌<◌, ◌≤◌, ◌++◌, ◌∷◌, [], length, map, replicate, Some, None, IfOk, OnOk};
 ghost use Rattle.board_model.specs.Boards as model;
 ghost use Rattle.board_model.specs.Keys as keys;
 ghost use Rattle.board_model.specs.Slots as slots;
@@ -8,14 +8,16 @@ ghost use Rattle.board_slot.specs.Refinement.{slot_of};
 ghost use Rattle.board_source.specs.Refinement.{config_of};
 ghost use Rattle.host_queues.specs.Lanes.{no_hosts};
 ghost use Rattle.host_queues.specs.Refinement.{lanes_of};
+ghost use Rattle.lists_dir.specs.Refinement.{old_in};
 ghost use Rattle.update_core.specs.Refinement.{slots_of};
 
 use crate::asks::put_ask;
-use acq_base::{NoMemory, Old, Row, Source};
+use acq_base::{NoMemory, Row, Source};
 use board_model::Key;
 use board_slot::Slot;
 use board_source::Setup;
 use host_queues::Queues;
+use lists_dir::Installed;
 use std::alloc::Global;
 use update_model::Verdict2;
 
@@ -31,14 +33,14 @@ pub struct Beginning {
 pub fn begin_board(
     alloc: Global,
     setup: &Setup,
-    old: Row<Old>,
+    old: Row<Installed>,
     lanes: u32,
 ) -> Result<Beginning, NoMemory>
     requires few { length setup.now.sources ≤ 4096 }
     requires each { length old ≡ length setup.now.sources }
     requires lanes { 1 ≤ lanes }
     ensures keys { IfOk result (λ begun. begun.keys.items ≡ keys.keys_from 0 setup.now.sources) }
-    ensures slots { IfOk result (λ begun. slots_of begun.slots.items ≡ model.first_slots (config_of setup.now) setup.now.sources old) }
+    ensures slots { IfOk result (λ begun. slots_of begun.slots.items ≡ model.first_slots (config_of setup.now) setup.now.sources (map old_in old)) }
     ensures queues { IfOk result (λ begun. lanes_of begun.queues ≡ model.put_releases (config_of setup.now) 0 setup.now.sources (no_hosts lanes)) }
 {
     let mut rest = old.into_vec();

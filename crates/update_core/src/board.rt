@@ -1,10 +1,11 @@
 //! The board of all sources.
 
-ghost use Rattle.std.specs.Prelude.{◌≡◌, ◌<◌, ◌≤◌, length, true, [], Some, IfOk, OnOk, IsSome, option_and_then, option_copied, option_map};
+ghost use Rattle.std.specs.Prelude.{◌≡◌, ◌<◌, ◌≤◌, length, map, true, [], Some, IfOk, OnOk, IsSome, option_and_then, option_copied, option_map};
 ghost use Rattle.acq_base.specs.Plan.{IsSound};
 ghost use Rattle.board_model.specs.Boards as model;
 ghost use Rattle.board_model.specs.Keys.{key_at, keys_from, name_at};
 ghost use Rattle.board_model.specs.Slots as asks;
+ghost use Rattle.acq_outside.specs.Stays.{ReadsCounting};
 ghost use Rattle.board_source.specs.Refinement.{config_of};
 
 use crate::beginning::{Beginning, begin_board, no_verdicts, none_out};
@@ -12,13 +13,15 @@ use crate::jobs::{lane_with, put_out, take_back};
 use crate::sources::Sources;
 use crate::telling::{log, log_verdict};
 use acq_base::{
-    Job, ListName, NoMemory, Old, Plan, Row, Settings, Source, TryCopy, sources_are_planned,
+    Job, ListName, NoMemory, Plan, Row, Settings, Source, TryCopy, sources_are_planned,
 };
+use acq_outside::{Disk, OutError};
 use board_model::Key;
 use board_slot::list_name;
 use board_source::{Setup, by_name};
 use host_queues::Queues;
 use kept_hooks::Judge;
+use lists_dir::Installed;
 use release_file::Change;
 use std::alloc::Global;
 use std::collections::BTreeSet;
@@ -50,6 +53,8 @@ pub struct Board {
 
 impl Board {
     ghost use Rattle.update_core.specs.BoardRefinement.{board_of, config_for};
+    ghost use Rattle.lists_dir.specs.Refinement.{old_in};
+    ghost use Rattle.update_core.specs.TakenIn.{TakesIn, TookAnew};
 
     /// A board of a plan of at most 4,096 sources and targets, on which each Release is asked for.
     ///
@@ -58,7 +63,7 @@ impl Board {
     pub fn new(
         alloc: Global,
         plan: Plan,
-        old: Row<Old>,
+        old: Row<Installed>,
         parts: Row<(ListName, u64)>,
         settings: Settings,
         change: Change,
@@ -68,7 +73,7 @@ impl Board {
         requires plan { IsSound plan }
         requires each { length old ≡ length plan.sources }
         requires lanes { 1 ≤ lanes }
-        ensures { IfOk result (λ board. board_of board ≡ model.first_board (config_for plan parts settings change now) old lanes) }
+        ensures { IfOk result (λ board. board_of board ≡ model.first_board (config_for plan parts settings change now) (map old_in old) lanes) }
     {
         sources_are_planned();
         let setup = Setup {
@@ -83,11 +88,16 @@ impl Board {
 
     /// The board with which a run begins.
     #[tactic(auto, unfolding(crate::specs::BoardRefinement::board_of))]
-    fn first(alloc: Global, setup: Setup, old: Row<Old>, lanes: u32) -> Result<Board, NoMemory>
+    fn first(
+        alloc: Global,
+        setup: Setup,
+        old: Row<Installed>,
+        lanes: u32,
+    ) -> Result<Board, NoMemory>
         requires few { length (keys_from 0 setup.sources) ≤ 4096 }
         requires each { length old ≡ length setup.sources }
         requires lanes { 1 ≤ lanes }
-        ensures { IfOk result (λ board. board_of board ≡ model.first_board (config_of setup) old lanes) }
+        ensures { IfOk result (λ board. board_of board ≡ model.first_board (config_of setup) (map old_in old) lanes) }
     {
         let Beginning {
             keys,
@@ -153,19 +163,24 @@ impl Board {
         self.name(number)
     }
 
-    /// The answer of a lane's method to a job comes in. `judge` says which heads of Releases may follow which.
+    /// The answer of a lane's method to a job comes in. `judge` says which heads of Releases may follow which. Where a Release came,
+    /// its lists begin; what is installed of one that patches may lead from is read of the disk then.
+    ///
+    /// `Fault` only where the disk's count of faults rose.
     #[tactic(auto, unfolding(crate::specs::BoardRefinement::board_of))]
-    pub fn absorb(
+    pub fn absorb<D: Disk>(
         &mut self,
         alloc: Global,
         judge: &Judge,
+        disk: &mut D,
         lane: u32,
         number: u64,
         closed: Closed,
-    ) -> Result<(), NoMemory>
+    ) -> Result<(), OutError>
         requires out { model.is_out (board_of self.old) number ≡ true }
         requires change { judge.now.change ≡ (board_of self.old).config.change }
-        ensures { OnOk result (board_of self.new ≡ model.absorbed (board_of self.old) lane number closed) }
+        ensures frame { ReadsCounting OutError.Fault D.Disk disk.old disk.new result }
+        ensures takes { OnOk result (TakesIn (D.tells disk.old) (D.files disk.old) (board_of self.old) lane number closed (board_of self.new)) }
     {
         let Some(from) = lane_with(self.out.as_slice(), number) else {
             drop(closed);
@@ -175,28 +190,30 @@ impl Board {
             drop(closed);
             return Ok(());
         };
-        self.take_in(alloc, judge, number, key, from, lane, closed)
+        self.take_in(alloc, judge, disk, number, key, from, lane, closed)
     }
 
     /// The item of a number hears the answer to its job, which was out from a lane.
     #[tactic(auto, unfolding(crate::specs::BoardRefinement::board_of))]
-    fn take_in(
+    fn take_in<D: Disk>(
         &mut self,
         alloc: Global,
         judge: &Judge,
+        disk: &mut D,
         number: u64,
         key: Key,
         from: usize,
         lane: u32,
         closed: Closed,
-    ) -> Result<(), NoMemory>
+    ) -> Result<(), OutError>
         requires change { judge.now.change ≡ self.old.setup.change }
         requires key { key_at self.old.setup.sources number ≡ Some key }
         requires asks { IsSome (asks.ask_of (asks.item_at (board_of self.old).slots key)) }
         requires number { number < 4096 }
         requires from { from ≤ 4294967295 }
-        ensures { (asker : model.Asker) → model.asker_of (board_of self.old) number ≡ Some asker
-            → OnOk result (board_of self.new ≡ model.took (board_of self.old) number asker from (record { lane = lane; closed = closed })) }
+        ensures frame { ReadsCounting OutError.Fault D.Disk disk.old disk.new result }
+        ensures took { (asker : model.Asker) → model.asker_of (board_of self.old) number ≡ Some asker
+            → OnOk result (TookAnew (D.tells disk.old) (D.files disk.old) (board_of self.old) number asker from (record { lane = lane; closed = closed }) (board_of self.new)) }
     {
         let logged = log(
             alloc,
@@ -209,13 +226,15 @@ impl Board {
         );
         if let Err(error) = logged {
             drop(closed);
-            return Err(error);
+            return Err(error.into());
         }
         take_back(&mut self.out, from);
         self.queues.done(from as u32);
         self.sources
-            .hear(alloc, judge, &self.setup, key, lane, closed)?;
-        self.sources.put_heard(alloc, &mut self.queues, number, key)
+            .hear(alloc, judge, disk, &self.setup, key, lane, closed)?;
+        self.sources
+            .put_heard(alloc, &mut self.queues, number, key)?;
+        Ok(())
     }
 
     /// The first source all whose items have ended and that isn't settled; `None` exactly where there is none. It takes no

@@ -7,14 +7,17 @@ ghost use Rattle.acq_base.specs.declared.plan.Source.{Source as AnySource};
 ghost use Rattle.board_model.specs.Boards as boards;
 ghost use Rattle.board_model.specs.Settling.{settled_in};
 ghost use Rattle.board_model.specs.Slots as model;
+ghost use Rattle.acq_outside.specs.Stays.{ReadsCounting};
 ghost use Rattle.board_slot.specs.Refinement.{slot_of};
 ghost use Rattle.board_source.specs.Refinement.{config_of};
 ghost use Rattle.host_queues.specs.Lanes.{changed_at};
 ghost use Rattle.host_queues.specs.Refinement.{lanes_of};
 ghost use Rattle.update_core.specs.Refinement.{AreReady, ready_at, slots_of};
+ghost use Rattle.update_core.specs.TakenIn.{AreHeardAnew};
 
 use crate::asks::put_heard;
 use acq_base::NoMemory;
+use acq_outside::{Disk, OutError};
 use board_model::Key;
 use board_slot::Slot;
 use board_source::Setup;
@@ -55,31 +58,33 @@ impl Sources {
     }
 
     /// An item that asks hears an answer of this lane.
-    pub fn hear(
+    pub fn hear<D: Disk>(
         &mut self,
         alloc: Global,
         judge: &Judge,
+        disk: &mut D,
         setup: &Setup,
         key: Key,
         lane: u32,
         closed: Closed,
-    ) -> Result<(), NoMemory>
+    ) -> Result<(), OutError>
         requires change { judge.now.change ≡ setup.now.change }
         requires slot { key.source < length self.old.slots.items }
         requires source { key.source < length setup.now.sources }
         requires asks { ready_at (slots_of self.old.slots.items) key.source ≡ false }
         ensures count { length self.new.slots.items ≡ length self.old.slots.items }
+        ensures frame { ReadsCounting OutError.Fault D.Disk disk.old disk.new result }
         ensures slots { (source : AnySource) → slice_get setup.now.sources key.source ≡ Some source
-            → OnOk result (slots_of self.new.slots.items ≡ changed_at key.source
-            (model.heard_at (config_of setup.now) source key.place (record { lane = lane; closed = closed })) (slots_of self.old.slots.items)) }
+            → OnOk result (AreHeardAnew (D.tells disk.old) (D.files disk.old) (config_of setup.now) source key (record { lane = lane; closed = closed })
+            (slots_of self.old.slots.items) (slots_of self.new.slots.items)) }
     {
         let at = key.source as usize;
         let source = &setup.sources.as_slice()[at];
         let old = mem::replace(&mut self.slots[at], Slot::Settled);
-        let new = old.hear(alloc, judge, setup, source, key.place, lane, closed)?;
+        let new = old.hear(alloc, judge, disk, setup, source, key.place, lane, closed)?;
         if let Err(error) = mark(&mut self.ready, key.source, new.is_ready()) {
             drop(new);
-            return Err(error);
+            return Err(error.into());
         }
         drop(mem::replace(&mut self.slots[at], new));
         Ok(())

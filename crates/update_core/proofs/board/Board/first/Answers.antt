@@ -1,10 +1,11 @@
-use Rattle.std.proofs.Common.{◌∙◌, ◌≤◌, ℕ, length, sym, ap, subst, arith}
+use Rattle.std.proofs.Common.{◌∙◌, ◌≤◌, ℕ, length, map, sym, ap, subst, arith}
 use Rattle.std.specs.Prelude.{replicate}
 use Rattle.std.proofs.lemmas.List.{length-map, length-replicate}
 use Rattle.board_model.specs.Boards.{no_verdict}
 use Rattle.board_slot.specs.Refinement.{slot_of}
 use Rattle.board_source.specs.Refinement.{config_of}
 use Rattle.host_queues.specs.Refinement.{lanes_of}
+use Rattle.lists_dir.specs.Refinement.{old_in}
 use Rattle.update_core.specs.Refinement.{slots_of}
 use Rattle.update_core.specs.BoardRefinement.{board_of}
 use Rattle.update_core.proofs.Begun.{few-sources, first-whole, length-first}
@@ -17,7 +18,7 @@ begin_board-requires-clause-few c = let below = few-sources 0 c.args.setup.sourc
 pub invariant_of-result : goal.invariant_of-result
 invariant_of-result c =
     let stand = c.in_ok-keys.ensures.slots in
-    record { told = empty-ready (config_of c.args.setup) c.args.setup.sources c.args.old c.in_ok-keys.field-0.slots.items c.new.result stand c.new.ensures.empty }
+    record { told = empty-ready (config_of c.args.setup) c.args.setup.sources (map old_in c.args.old) c.in_ok-keys.field-0.slots.items c.new.result stand c.new.ensures.empty }
 
 pub invariant_of-result-2 : goal.invariant_of-result-2
 invariant_of-result-2 c =
@@ -26,7 +27,7 @@ invariant_of-result-2 c =
     let lanes = ap length c.in_ok-out.ensures ∙ length-replicate c.args.lanes _ in
     record {
       numbered = numbers;
-      each = sym (length-map c.in_ok-keys.field-0.slots.items slot_of) ∙ ap length stand ∙ length-first (config_of c.args.setup) c.args.setup.sources c.args.old c.requires.each;
+      each = sym (length-map c.in_ok-keys.field-0.slots.items slot_of) ∙ ap length stand ∙ length-first (config_of c.args.setup) c.args.setup.sources (map old_in c.args.old) (length-map c.args.old old_in ∙ c.requires.each);
       told = ap length c.in_ok-verdicts.ensures ∙ length-replicate _ no_verdict ∙ c.len.ensures;
       small = subst (λ (n : ℕ). n ≤ 4096) (sym (ap length numbers)) c.requires.few;
       few = omega (arith, lanes, c.ranges.lanes.fits);
@@ -36,7 +37,7 @@ invariant_of-result-2 c =
 pub returns : goal.returns
 unfolding board_of
 returns c =
-    first-whole (config_of c.args.setup) c.args.old c.args.lanes (slots_of c.in_ok-keys.field-0.slots.items) (lanes_of c.in_ok-keys.field-0.queues) c.in_ok-out.out.items c.new-2.result c.new-3.result c.in_ok-verdicts.verdicts.items
+    first-whole (config_of c.args.setup) (map old_in c.args.old) c.args.lanes (slots_of c.in_ok-keys.field-0.slots.items) (lanes_of c.in_ok-keys.field-0.queues) c.in_ok-out.out.items c.new-2.result c.new-3.result c.in_ok-verdicts.verdicts.items
     c.in_ok-keys.ensures.slots
     c.in_ok-keys.ensures.queues
     c.in_ok-out.ensures c.new-2.ensures c.new-3.ensures
