@@ -8,7 +8,7 @@ use Rattle.acq_base.specs.Mirror.{MirrorMap}
 use Rattle.acq_base.specs.declared.fetch.Job.{Job}
 use Rattle.acq_base.specs.declared.plan.Source.{Source}
 use Rattle.acq_base.specs.declared.uri.ListName.{ListName}
-use Rattle.acq_outside.specs.Crash.{State}
+use Rattle.acq_outside.specs.Crash.{State, reads}
 use Rattle.acq_outside.specs.States.{IsTold}
 use Rattle.board_model.proofs.Askers.{asker-asks}
 use Rattle.board_model.proofs.JobRuns.{took-same}
@@ -17,6 +17,7 @@ use Rattle.board_model.specs.Boards.{Asker, Board, absorbed, asker_of, lane_with
 use Rattle.board_model.specs.CallLaws.{JobsAlwaysStand}
 use Rattle.board_model.specs.Jobs.{times_out}
 use Rattle.board_model.specs.NameLaws.{AreNamedApart}
+use Rattle.board_model.specs.ReadAnew.{StandsOn}
 use Rattle.board_model.specs.Reached.{Reached}
 use Rattle.board_model.specs.Runs.{Note, note_of}
 use Rattle.board_model.specs.Slots.{Setup}
@@ -32,8 +33,10 @@ use Rattle.journal_model.proofs.Twice.{same_or_not}
 use Rattle.journal_model.proofs.Views.{partial_apart}
 use Rattle.journal_model.specs.Names.{partial}
 use Rattle.journal_model.specs.Rest.{KeptAtRestSince, part_bytes}
+use Rattle.lists_dir.specs.Installed.{installed_of}
 use Rattle.run_jobs.proofs.Agreed.{agrees_on}
 use Rattle.run_jobs.proofs.Keeping.{moments_of, told_back, uses_after}
+use Rattle.run_jobs.proofs.Lists.{HasLists, lists_changed, now_map}
 use Rattle.run_jobs.proofs.OnTheWay.{IsNoteOf, one_left}
 use Rattle.run_jobs.proofs.OneJob.{IsStagedAs, Laws, absorbed_is, says_ask, served_as}
 use Rattle.run_jobs.proofs.Rising.{IsCountedOn, faults_last, for_mirror_at}
@@ -184,7 +187,7 @@ pub out_at : (b : Board) (jobs : JobsOut) (lane : ℕ) (t : Transfer) → b.out 
 out_at b jobs lane t numbers at = subst (λ (out : List (Option ℕ)). slice_get out lane ≡ Some (Some t.job.no)) (sym numbers) (number_at jobs.rows lane t at)
 
 pub lane_of_out : JobsAlwaysStand → (begun : RunStart) (notes : List Note) (b : Board) (jobs : JobsOut) (now : List State) (k : ℕ) (t : Transfer) → IsOutAt begun notes b jobs now k t → lane_with b.out t.job.no ≡ Some k
-lane_of_out law begun notes b jobs now k t p = lane_at b.out k t.job.no (out_at b jobs k t p.numbers p.at) (out_once law begun.config begun.olds notes b t.job.no p.under.heard.reached)
+lane_of_out law begun notes b jobs now k t p = lane_at b.out k t.job.no (out_at b jobs k t p.numbers p.at) (out_once law begun.config p.under.heard.olds notes b t.job.no p.under.heard.reached)
 
 -- the other jobs that are out, where the disk changed by this one's words, and their items ask the same
 pub others_still : JobsAlwaysStand → (begun : RunStart) (notes : List Note) (b c : Board) (jobs : JobsOut) (row : Option Transfer) (old now : List State) (k : ℕ) (t : Transfer) → (p : IsOutAt begun notes b jobs old k t)
@@ -206,7 +209,7 @@ others_still law begun notes b c jobs row old now k t p changes back asks own la
         let before : slice_get jobs.rows lane ≡ Some (Some other) = sym (get-other (λ w. row) jobs.rows k lane differs) ∙ at in
         let is = p.each lane other before in
         let mine = own_of p in
-        let once = out_once law begun.config begun.olds notes b t.job.no p.under.heard.reached in
+        let once = out_once law begun.config p.under.heard.olds notes b t.job.no p.under.heard.reached in
         let apart = numbers_apart b.out k lane t.job.no other.job.no (out_at b jobs k t p.numbers p.at) (out_at b jobs lane other p.numbers before) once differs in
         let lists = lists_apart begun b t.job.no other.job.no mine.a is.a (name_staged mine.a) (name_staged is.a) p.sound p.under.heard.config mine.asks is.asks refl refl apart in
         let stays = others_stay (into_of (name_staged mine.a)) (into_of (name_staged is.a)) old now (subst (λ (o : Option (List ℕ)). ChangesFile o old now) mine.list changes) lists in
@@ -231,7 +234,7 @@ pub answer_comes : Laws → JobsAlwaysStand → (begun : RunStart) (notes : List
 answer_comes laws stand begun notes b jobs old now k t method before after counts later world closed p mirror few sized counted on given =
     subst (λ (x : Board). HasTakenIn begun notes later jobs (with_row k None jobs) x old now) (sym is) (record {
       note = note;
-      under = record { heard = heard; uses = subst (λ (x : Board). HasWantedParts (wanted_part x) begun.parts now) is uses };
+      under = record { heard = heard; uses = subst (λ (x : Board). HasWantedParts (wanted_part x) begun.parts now) is uses; lists = subst (λ (x : Board). HasLists x now) is lists };
       counted = record { sized = sized; faults = faults_last begun.counts counts later b.asks _ method before after closed refl refl few on counted.faults };
       numbers = ap (changed_at k (λ (o : Option ℕ). None)) p.numbers ∙ sym (numbers_changed k None jobs.rows);
       each = others_still stand begun notes b behind jobs None old now k t p given.changes back (λ m other apart asks. took-same b n k m a told (asker-asks b n a own.asks) other asks apart) (λ x none. absurd (cc));
@@ -287,8 +290,8 @@ answer_comes laws stand begun notes b jobs old now k t method before after count
     noted : IsNoteOf begun.config.sources staged t.job.from note
     noted = note_is begun b n t.job.from a staged told kind heard_before.config own.asks (sym from_is)
 
-    reached : Reached begun.config begun.olds (notes ++ note ∷ []) (absorbed b method n closed)
-    reached = laws.absorbed begun.config begun.olds notes b method n k closed a heard_before.reached lane own.asks
+    reached : Reached begun.config heard_before.olds (notes ++ note ∷ []) (absorbed b method n closed)
+    reached = laws.absorbed begun.config heard_before.olds notes b method n k closed a heard_before.reached lane own.asks
 
     mirrors : (m : MirrorMap) → world ≡ Some m → IsAnswer world (part_at begun.parts begun.config.sources a.key) (is_some (into_of staged)) t.job closed → IsMirrors m begun.parts begun.config.sources note
     mirrors m same known =
@@ -298,7 +301,9 @@ answer_comes laws stand begun notes b jobs old now k t method before after count
     heard : RunHasHeard begun (notes ++ note ∷ []) behind now
     heard = record {
       config = heard_before.config;
-      reached = subst (λ (x : Board). Reached begun.config begun.olds (notes ++ note ∷ []) x) is reached;
+      olds = heard_before.olds;
+      same = λ known. heard_before.same (back known);
+      reached = subst (λ (x : Board). Reached begun.config heard_before.olds (notes ++ note ∷ []) x) is reached;
       sound = each_last _ notes note heard_before.sound (sound_answer closed answer.sound);
       answers = for_mirror_at begun.mirrors method world (λ (m : MirrorMap). AgreesWhereKnown old m begun.parts begun.config.sources notes) (λ (m : MirrorMap). AgreesWhereKnown now m begun.parts begun.config.sources (notes ++ note ∷ [])) mirror (λ m same agrees.
           each_last _ notes note (agrees_on old now m begun.parts begun.config.sources notes back agrees)
@@ -309,5 +314,9 @@ answer_comes laws stand begun notes b jobs old now k t method before after count
     uses = uses_after staged a.ask.from closed (wanted_part b) (wanted_part (absorbed b method n closed)) begun.parts old now fetched
         (subst (λ (k : ℕ). KeepsBytes staged k old now) from_is (kept_by staged t.job.from old now answer.kept)) (comes_by staged now closed answer.comes) (use_of b a staged kind)
         (λ name. subst (λ (s : Option ListName). Falls (wanted_part b name) (wanted_part (absorbed b method n closed) name) ⊎ IsWholeOf s closed name (wanted_part (absorbed b method n closed) name)) (staged_name_is b n k a lane own.asks)
-        (laws.rest begun.config begun.olds notes b method n k closed a name heard_before.reached lane own.asks (served_as b a staged now closed kind (comes_by staged now closed answer.comes))))
+        (laws.rest begun.config heard_before.olds notes b method n k closed a name heard_before.reached lane own.asks (served_as b a staged now closed kind (comes_by staged now closed answer.comes))))
         p.under.uses
+
+    lists : HasLists (absorbed b method n closed) now
+    lists = now_map (λ s. StandsOn (installed_of (reads s)) b) (λ s. StandsOn (installed_of (reads s)) (absorbed b method n closed)) now (λ s. laws.lists.after_absorbed (installed_of (reads s)) b method n closed)
+        (lists_changed laws.lists begun b (name_of t.intake) old now p.sound heard_before.config back given.changes p.under.lists)

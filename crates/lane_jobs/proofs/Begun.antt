@@ -6,20 +6,24 @@ use Rattle.std.proofs.lemmas.Bool.Decides.{nat_tests}
 use Rattle.acq_base.specs.declared.fetch.Job.{Job}
 use Rattle.acq_outside.specs.Count.{one_more}
 use Rattle.acq_outside.specs.Crash.{State}
+use Rattle.acq_outside.specs.Disk.{Files}
 use Rattle.acq_outside.specs.declared.word.Fetch.{Fetch}
-use Rattle.board_model.specs.Boards.{Board, absorbed, issued, issued_job, staged_name}
+use Rattle.board_model.specs.Boards.{Board, asker_of, issued, issued_job, staged_name}
 use Rattle.board_model.specs.CallLaws.{JobsAlwaysStand}
 use Rattle.board_model.specs.Jobs.{one_if}
+use Rattle.board_model.specs.ReadAnew.{with_old}
 use Rattle.board_model.specs.Slots.{joined}
 use Rattle.host_queues.proofs.Changes.{get-changed, get-other}
 use Rattle.job_fetch.specs.declared.intake.Intake.{Intake}
 use Rattle.lane_pool.specs.Counting.{counted_on}
 use Rattle.lane_pool.specs.Pool.{IsWordTaken, OthersStay, Pool, own_begins}
 use Rattle.lane_pool.specs.declared.told.Told.{Told}
-use Rattle.run_jobs.proofs.OneJob.{absorbed_is}
+use Rattle.run_jobs.proofs.OneJob.{Laws, absorbed_is}
 use Rattle.run_jobs.specs.Counting.{asks_of_lane}
+use Rattle.update_core.specs.TakenIn.{TakesIn}
 use Rattle.update_model.specs.declared.ask.Closed.{Closed}
 use Rattle.update_model.specs.declared.log.Asked.{Asked}
+use Rattle.lane_jobs.proofs.Anew.{takes_as}
 use Rattle.lane_jobs.proofs.Answered.{lane_of_out, own_of}
 use Rattle.lane_jobs.proofs.Changes.{row_twice}
 use Rattle.lane_jobs.proofs.Given.{put_in}
@@ -262,19 +266,21 @@ begun_told first old new k t counts told used row jobs has = record {
 -- ---- an answer is taken in
 
 -- the answer to a job that is out comes to the log, by its method's lane
-pub answer_told : JobsAlwaysStand → (state : RunLanes) (now : List State) (k method : ℕ) (t : Transfer) (closed : Closed) (later : Board) → MayAskOver state now → slice_get state.jobs.rows k ≡ Some (Some t)
-    → later ≡ absorbed state.board method t.job.no closed → HasEntry state.board.asks later.asks method
-answer_told law state now k method t closed later ready at is =
+pub answer_told : Laws → JobsAlwaysStand → (tells : Bool) (files : Files) (state : RunLanes) (now : List State) (k method : ℕ) (t : Transfer) (closed : Closed) (later : Board) → MayAskOver state now → slice_get state.jobs.rows k ≡ Some (Some t)
+    → TakesIn tells files state.board method t.job.no closed later → HasEntry state.board.asks later.asks method
+answer_told laws law tells files state now k method t closed later ready at takes =
     let p = out_of state now k t ready.sound ready.running at in
     let own = own_of p in
     let there = lane_of_out law ready.begun ready.notes state.board state.jobs now k t p in
-    record { entry = _; is = ap (λ (b : Board). b.asks) (is ∙ absorbed_is state.board method t.job.no k closed own.a there own.asks); lane = refl }
+    let before = with_old takes.anew.n takes.anew.old state.board in
+    let asks : asker_of before t.job.no ≡ Some own.a = laws.lists.asker takes.anew.n takes.anew.old state.board t.job.no ∙ own.asks in
+    record { entry = _; is = ap (λ (b : Board). b.asks) (takes_as tells files state.board later method t.job.no closed takes ∙ absorbed_is before method t.job.no k closed own.a there asks); lane = refl }
 
 -- that of the coordinator's own method
-pub own_told : JobsAlwaysStand → (state : RunLanes) (pool : Pool) (now : List State) (k : ℕ) (t : Transfer) (closed : Closed) (later : Board) → MayAskOver state now → slice_get state.jobs.rows k ≡ Some (Some t)
-    → OthersStay state.pool pool → own_begins pool ≡ one_more (own_begins state.pool) → later ≡ absorbed state.board 0 t.job.no closed → AsksOwn state.pool pool state.board.asks later.asks
-own_told law state pool now k t closed later ready at stay one is =
-    let told = answer_told law state now k 0 t closed later ready at is in
+pub own_told : Laws → JobsAlwaysStand → (tells : Bool) (files : Files) (state : RunLanes) (pool : Pool) (now : List State) (k : ℕ) (t : Transfer) (closed : Closed) (later : Board) → MayAskOver state now → slice_get state.jobs.rows k ≡ Some (Some t)
+    → OthersStay state.pool pool → own_begins pool ≡ one_more (own_begins state.pool) → TakesIn tells files state.board 0 t.job.no closed later → AsksOwn state.pool pool state.board.asks later.asks
+own_told laws law tells files state pool now k t closed later ready at stay one takes =
+    let told = answer_told laws law tells files state now k 0 t closed later ready at takes in
     inr (record { begins = stay.begins ∙ ap (λ (n : ℕ). slice_set state.pool.begins 0 n) one; entry = told.entry; is = told.is; lane = told.lane })
 
 pub none_told : (pool : Pool) (asks : List Asked) → AsksOwn pool pool asks asks
@@ -318,9 +324,9 @@ begun_piece before pool jobs b told k t next at taken first has =
     begun_still first (run_lanes before jobs b) (run_lanes pool later b) taken.begins refl (row_out jobs later k (Some t) (Some (record { job = t.job; intake = next })) refl at refl) has
 
 -- any other word
-pub begun_last : JobsAlwaysStand → (before pool : Pool) (jobs : JobsOut) (b c : Board) (now : List State) (told : Told) (k : ℕ) (t : Transfer) (closed : Closed) → IsDue told pool jobs b now
-    → told.lane ≡ suc k → slice_get jobs.rows k ≡ Some (Some t) → jobs.alone ≡ false → IsWordTaken before told pool → c ≡ absorbed b told.lane t.job.no closed
+pub begun_last : Laws → JobsAlwaysStand → (tells : Bool) (files : Files) (before pool : Pool) (jobs : JobsOut) (b c : Board) (now : List State) (told : Told) (k : ℕ) (t : Transfer) (closed : Closed) → IsDue told pool jobs b now
+    → told.lane ≡ suc k → slice_get jobs.rows k ≡ Some (Some t) → jobs.alone ≡ false → IsWordTaken before told pool → TakesIn tells files b told.lane t.job.no closed c
     → (first : List ℕ) → HasBegun first (run_lanes before jobs b) → HasBegun first (run_lanes pool (with_row k None jobs) c)
-begun_last law before pool jobs b c now told k t closed due lane at used taken is first has =
-    let entry = answer_told law (run_lanes due.before jobs b) now k told.lane t closed c due.ready at is in
+begun_last laws law tells files before pool jobs b c now told k t closed due lane at used taken takes first has =
+    let entry = answer_told laws law tells files (run_lanes due.before jobs b) now k told.lane t closed c due.ready at takes in
     begun_told first (run_lanes before jobs b) (run_lanes pool (with_row k None jobs) c) k t taken.begins (subst (λ (n : ℕ). HasEntry b.asks c.asks n) lane entry) used at refl has

@@ -3,6 +3,7 @@ use Rattle.std.proofs.Common.{◌≡◌, ◌∙◌, ℕ, false, List, [], take, 
 use Rattle.std.specs.Prelude.{option_map, slice_get}
 use Rattle.acq_base.specs.Mirror.{MirrorMap}
 use Rattle.acq_base.specs.declared.fetch.Job.{Job}
+use Rattle.acq_base.specs.declared.installed.Old.{Old}
 use Rattle.acq_base.specs.declared.uri.ListName.{ListName}
 use Rattle.acq_outside.specs.Crash.{State}
 use Rattle.acq_outside.specs.Word.{CanBegin, begun as begun_fetch}
@@ -28,10 +29,10 @@ use Rattle.lane_jobs.specs.declared.transfers.Transfer.{Transfer}
 
 -- ---- the item that asks
 
-pub may_be : Laws → (begun : RunStart) (notes : List Note) (b : Board) (n : ℕ) (a : Asker) → IsSoundBegun begun → LeadSoundly notes → Reached begun.config begun.olds notes b → asker_of b n ≡ Some a → MayBeFetched a.ask
-may_be laws begun notes b n a sound leads reached asks = laws.fetched begun.config begun.olds notes b n a sound.planned leads reached asks
+pub may_be : {olds : List Old} → Laws → (begun : RunStart) (notes : List Note) (b : Board) (n : ℕ) (a : Asker) → IsSoundBegun begun → LeadSoundly notes → Reached begun.config olds notes b → asker_of b n ≡ Some a → MayBeFetched a.ask
+may_be {olds = olds} laws begun notes b n a sound leads reached asks = laws.fetched begun.config olds notes b n a sound.planned leads reached asks
 
-pub staged_as : Laws → (begun : RunStart) (notes : List Note) (b : Board) (n : ℕ) (a : Asker) → IsSoundBegun begun → b.config ≡ begun.config → LeadSoundly notes → Reached begun.config begun.olds notes b → asker_of b n ≡ Some a
+pub staged_as : {olds : List Old} → Laws → (begun : RunStart) (notes : List Note) (b : Board) (n : ℕ) (a : Asker) → IsSoundBegun begun → b.config ≡ begun.config → LeadSoundly notes → Reached begun.config olds notes b → asker_of b n ≡ Some a
     → IsStagedAs b a (name_staged a)
 staged_as laws begun notes b n a sound config leads reached asks = kind_of laws begun b n a notes sound config reached asks (may_be laws begun notes b n a sound leads reached asks)
 

@@ -5,16 +5,20 @@ use Rattle.std.proofs.lemmas.Bool.{cases_Bool}
 use Rattle.std.proofs.lemmas.Bool.Decides.{nat_tests}
 use Rattle.std.proofs.lemmas.List.{append-nil}
 use Rattle.acq_base.specs.declared.fetch.Job.{Job}
+use Rattle.acq_base.specs.declared.installed.Old.{Old}
 use Rattle.acq_base.specs.declared.uri.ListName.{ListName}
-use Rattle.acq_outside.specs.Crash.{State}
+use Rattle.acq_outside.specs.Crash.{State, reads}
 use Rattle.acq_outside.specs.declared.word.Fetch.{Fetch}
 use Rattle.board_model.proofs.JobRuns.{free-lane}
 use Rattle.board_model.specs.Boards.{Asker, Board, asker_of, issued, issued_job, job_for, lane_with, name_staged, put_out, staged_name}
 use Rattle.board_model.specs.CallLaws.{JobsAlwaysStand}
+use Rattle.board_model.specs.ReadAnew.{StandsOn}
 use Rattle.board_model.specs.Reached.{Reached}
 use Rattle.board_model.specs.Runs.{Note}
 use Rattle.host_queues.proofs.Changes.{get-changed, get-other}
 use Rattle.host_queues.specs.Lanes.{Queue, changed_at, first, first_of}
+use Rattle.lists_dir.specs.Installed.{installed_of}
+use Rattle.run_jobs.proofs.Lists.{now_map}
 use Rattle.run_jobs.proofs.OneJob.{Laws, issued_is}
 use Rattle.run_jobs.specs.Running.{IsUnderWay, RunStart}
 use Rattle.lane_jobs.proofs.Fresh.{fresh_job, fresh_transfer, nothing_fills, staged_name_is}
@@ -53,10 +57,10 @@ next_number b lane job e = by (first_of b.lanes lane) refl e
     by (Some n) is e = record { number = n; is = is; some = queue (slice_get b.lanes.queues lane) n refl is }
 
 -- no job is out from it
-pub lane_free : JobsAlwaysStand → (begun : RunStart) (notes : List Note) (b : Board) (lane : ℕ) (job : Job) → Reached begun.config begun.olds notes b → issued_job b lane ≡ Some job → slice_get b.out lane ≡ Some None
-lane_free law begun notes b lane job reached e =
+pub lane_free : {olds : List Old} → JobsAlwaysStand → (begun : RunStart) (notes : List Note) (b : Board) (lane : ℕ) (job : Job) → Reached begun.config olds notes b → issued_job b lane ≡ Some job → slice_get b.out lane ≡ Some None
+lane_free {olds = olds} law begun notes b lane job reached e =
     let next = next_number b lane job e in
-    let stands = jobs_stand law begun.config begun.olds notes b reached in
+    let stands = jobs_stand law begun.config olds notes b reached in
     free-lane b lane next.number (record { some = next.some; once = stands.once; hosts = stands.hosts; busy = stands.busy }) next.is
 
 -- ---- the job is out
@@ -72,13 +76,13 @@ pub record IsOutNow (begun : RunStart) (b : Board) (lane : ℕ) (job : Job) : Ty
   pub lane_is : lane_with (issued b lane).out job.no ≡ Some lane
   pub staged : staged_name (issued b lane) job.no ≡ name_staged a
 
-pub is_out_now : Laws → JobsAlwaysStand → (begun : RunStart) (notes : List Note) (b : Board) (lane : ℕ) (job : Job) → Reached begun.config begun.olds notes b → issued_job b lane ≡ Some job → IsOutNow begun b lane job
-is_out_now laws law begun notes b lane job reached e =
+pub is_out_now : {olds : List Old} → Laws → JobsAlwaysStand → (begun : RunStart) (notes : List Note) (b : Board) (lane : ℕ) (job : Job) → Reached begun.config olds notes b → issued_job b lane ≡ Some job → IsOutNow begun b lane job
+is_out_now {olds = olds} laws law begun notes b lane job reached e =
     let i = issued_is b lane job e in
     let free = lane_free law begun notes b lane job reached e in
     let at : slice_get (issued b lane).out lane ≡ Some (Some job.no) =
     ap (λ (out : List (Option ℕ)). slice_get out lane) (out_now b lane job e) ∙ get-changed (λ o. Some job.no) b.out lane ∙ ap (option_map (λ (o : Option ℕ). Some job.no)) free in
-    let there = lane_at (issued b lane).out lane job.no at (out_once law begun.config begun.olds notes (issued b lane) job.no (laws.issued begun.config begun.olds notes b lane reached)) in
+    let there = lane_at (issued b lane).out lane job.no at (out_once law begun.config olds notes (issued b lane) job.no (laws.issued begun.config olds notes b lane reached)) in
     record { a = i.a; asks = i.asks; job_is = i.is; free = free; lane_is = there; staged = staged_name_is (issued b lane) job.no lane i.a there i.asks }
 
 same_job : (job : Job) (a : Asker) (staged : Option ListName) → job ≡ job_for job.no a.ask → staged ≡ name_staged a → (record { job = job; intake = nothing_yet staged }) ≡ fresh_job job.no a
@@ -88,8 +92,16 @@ same_job job a staged is named = rw named (ap (λ (j : Job). record { job = j; i
 
 under_issued : Laws → (begun : RunStart) (notes : List Note) (b : Board) (now : List State) (lane : ℕ) → IsUnderWay begun notes b now → IsUnderWay begun notes (issued b lane) now
 under_issued laws begun notes b now lane under = record {
-  heard = record { config = under.heard.config; reached = laws.issued begun.config begun.olds notes b lane under.heard.reached; sound = under.heard.sound; answers = under.heard.answers };
+  heard = record {
+    config = under.heard.config;
+    olds = under.heard.olds;
+    same = under.heard.same;
+    reached = laws.issued begun.config under.heard.olds notes b lane under.heard.reached;
+    sound = under.heard.sound;
+    answers = under.heard.answers;
+  };
   uses = under.uses;
+  lists = now_map (λ s. StandsOn (installed_of (reads s)) b) (λ s. StandsOn (installed_of (reads s)) (issued b lane)) now (λ s. laws.lists.after_issued (installed_of (reads s)) b lane) under.lists;
 }
 
 moved : (begun : RunStart) (b : Board) (now : List State) (lane : ℕ) (world : _) (t : Transfer) → IsTransfer begun b now world t → IsTransfer begun (issued b lane) now world t

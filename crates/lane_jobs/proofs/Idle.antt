@@ -89,9 +89,10 @@ pub none_over : (state : RunLanes) (now : List State) → JobsAlwaysStand → Bo
 none_over state now stand idle ready none waits =
     let b = state.board in
     let rows = state.jobs.rows in
-    let r : Reached ready.begun.config ready.begun.olds ready.notes b = ready.running.under_way.heard.reached in
+    let heard = ready.running.under_way.heard in
+    let r : Reached ready.begun.config heard.olds ready.notes b = heard.reached in
     let w : BoardRun = record { board = b; jobs = r.jobs; queue = []; notes = ready.notes } in
-    let jobs : JobsStand w = subst JobsStand r.leads (stand ready.begun.config ready.begun.olds r.lanes r.events r.each r.some) in
+    let jobs : JobsStand w = subst JobsStand r.leads (stand ready.begun.config heard.olds r.lanes r.events r.each r.some) in
     let numbers = ready.running.out.numbers in
-    idle ready.begun.config ready.begun.olds ready.notes b r
+    idle ready.begun.config heard.olds ready.notes b r
     (none_goes b rows (as_many b rows jobs.busy numbers) waits) (λ number. none_out_of b rows number numbers none)

@@ -1,14 +1,15 @@
 -- A job that the coordinator fetches.
-use Rattle.std.proofs.Common.{◌≡◌, ◌∙◌, ◌<◌, ℕ, true, List, length, Option, Some, None, sym, ap, subst, arith}
+use Rattle.std.proofs.Common.{◌≡◌, ◌∙◌, ◌<◌, ℕ, Bool, true, List, length, Option, Some, None, sym, ap, subst, arith}
 use Rattle.std.specs.Prelude.{is_some, slice_get, slice_index_or}
 use Rattle.acq_base.specs.Mirror.{MirrorMap}
 use Rattle.acq_base.specs.Uri.{IsSound}
 use Rattle.acq_base.specs.declared.fetch.Job.{Job}
 use Rattle.acq_base.specs.declared.uri.Uri.{Uri}
-use Rattle.acq_outside.specs.Crash.{State}
+use Rattle.acq_outside.specs.Crash.{IsShown, State}
+use Rattle.acq_outside.specs.Disk.{Files}
 use Rattle.acq_outside.specs.Word.{CanBegin}
 use Rattle.board_model.specs.Agreeing.{part_at}
-use Rattle.board_model.specs.Boards.{Board, absorbed, is_out, name_staged, staged_name}
+use Rattle.board_model.specs.Boards.{Board, is_out, name_staged, staged_name}
 use Rattle.board_model.specs.CallLaws.{JobsAlwaysStand}
 use Rattle.board_model.specs.Runs.{Note}
 use Rattle.job_fetch.specs.Hearing.{CanHear, HasComeIn, at_of, name_of}
@@ -17,8 +18,10 @@ use Rattle.lane_pool.specs.Pool.{OthersStay, Pool, own_count, own_world}
 use Rattle.run_jobs.proofs.OneJob.{Laws}
 use Rattle.run_jobs.proofs.Rising.{IsCountedOn}
 use Rattle.run_jobs.specs.Running.{IsSoundBegun, RunStart}
+use Rattle.update_core.specs.TakenIn.{TakesIn}
 use Rattle.update_model.specs.declared.ask.Closed.{Closed}
-use Rattle.lane_jobs.proofs.Answered.{HasTakenIn, IsOutAt, answer_comes, lane_of_out, own_of}
+use Rattle.lane_jobs.proofs.Anew.{answer_anew, takes_told}
+use Rattle.lane_jobs.proofs.Answered.{HasTakenIn, IsOutAt, lane_of_out, own_of}
 use Rattle.lane_jobs.proofs.Fresh.{may_be, nothing_at, nothing_can, nothing_come, nothing_named, sound_job, staged_as, staged_name_is}
 use Rattle.lane_jobs.proofs.Over.{fell_at, given_unused, got, none_changed, own_methods, own_outs, set_here, set_length, taken_in}
 use Rattle.lane_jobs.proofs.Steps.{goes_same}
@@ -63,11 +66,11 @@ can_fetch_left laws law state now lane t first ready at is =
 
 -- ---- behind it
 
-pub goes_left : Laws → JobsAlwaysStand → (state : RunLanes) (pool : Pool) (after : Board) (old now : List State) (lane : ℕ) (t : Transfer) (first : Intake) (closed : Closed)
-    → IsUnused lane state → slice_get state.jobs.rows lane ≡ Some (Some t) → first ≡ nothing_yet (staged_name state.board t.job.no) → OthersStay state.pool pool → after ≡ absorbed state.board 0 t.job.no closed
+pub goes_left : Laws → JobsAlwaysStand → (tells : Bool) (files : Files) (state : RunLanes) (pool : Pool) (after : Board) (old now : List State) (lane : ℕ) (t : Transfer) (first : Intake) (closed : Closed)
+    → IsUnused lane state → slice_get state.jobs.rows lane ≡ Some (Some t) → first ≡ nothing_yet (staged_name state.board t.job.no) → OthersStay state.pool pool → IsShown tells files now → TakesIn tells files state.board 0 t.job.no closed after
     → ((part : List ℕ) → HasComeIn (own_world state.pool) part t.job old first → IsAnswered (own_world state.pool) part t.job (name_of first) (own_count state.pool) (own_count pool) old now closed)
     → JobsGoOn state (run_lanes pool (with_row lane None state.jobs) after) old now
-goes_left laws law state pool after old now lane t first closed unused at is stay after_is answers = λ begun notes sound running.
+goes_left laws law tells files state pool after old now lane t first closed unused at is stay shown takes answers = λ begun notes sound running.
     let b = state.board in
     let world = own_world state.pool in
     let p = out_of state old lane t sound running at in
@@ -96,11 +99,12 @@ goes_left laws law state pool after old now lane t first closed unused at is sta
       counted = answer.counted;
       fell = rw stay.counts (fell_at state.pool.counts 0 (own_count pool) stay.count);
     } in
-    let has = answer_comes laws law begun notes b state.jobs old now lane t 0 (own_count state.pool) (own_count pool) state.pool.counts pool.counts world closed p mirror some
+    let told = takes_told laws begun tells files b after 0 t.job.no closed (name_of t.intake) old now sound heard.config shown answer.changes p.under.lists takes in
+    let has = answer_anew laws law begun notes b takes.between state.jobs old now lane t 0 (own_count state.pool) (own_count pool) state.pool.counts pool.counts world closed takes.anew told p mirror some
     (ap length stay.counts ∙ set_length state.pool.counts 0 (own_count pool) ∙ sized) running.counted on answer in
     taken_in begun notes state (run_lanes pool (with_row lane None state.jobs) after) old now (own_methods begun state.pool pool stay running.methods)
     (given_unused state pool lane None running.out.given unused (own_outs state.pool pool stay))
-    (subst (λ (x : Board). HasTakenIn begun notes pool.counts state.jobs (with_row lane None state.jobs) x old now) (sym after_is) has)
+    (subst (λ (x : Board). HasTakenIn begun notes pool.counts state.jobs (with_row lane None state.jobs) x old now) (sym takes.is) has)
 
 -- nothing is out from the lane
 pub goes_without : (state : RunLanes) (now : List State) (lane : ℕ) → ((t : Transfer) → slice_get state.jobs.rows lane ≡ Some (Some t) → ⊥) → JobsGoOn state (run_lanes state.pool (with_row lane None state.jobs) state.board) now now

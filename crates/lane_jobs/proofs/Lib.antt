@@ -9,6 +9,7 @@ pub mod Changes
 pub mod Kept
 pub mod Fresh
 pub mod Answered
+pub mod Anew
 pub mod Pieces
 pub mod Over
 pub mod Gone

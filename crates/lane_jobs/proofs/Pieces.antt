@@ -22,8 +22,9 @@ use Rattle.journal_model.proofs.Twice.{same_or_not}
 use Rattle.journal_model.proofs.Views.{partial_apart}
 use Rattle.journal_model.specs.Names.{partial}
 use Rattle.journal_model.specs.Rest.{KeptAtRestSince}
-use Rattle.run_jobs.proofs.Agreed.{heard_on}
+use Rattle.run_jobs.proofs.Agreed.{heard_still}
 use Rattle.run_jobs.proofs.Keeping.{moments_of, told_back, uses_after}
+use Rattle.run_jobs.proofs.Lists.{lists_changed}
 use Rattle.run_jobs.proofs.OneJob.{IsStagedAs, Laws}
 use Rattle.run_jobs.specs.Fetching.{ComesTo, IsFetched, KeepsBytes}
 use Rattle.run_jobs.specs.OnTheWay.{StaysOnItsWay, WasLeft}
@@ -81,10 +82,11 @@ pub piece_comes : Laws → JobsAlwaysStand → (begun : RunStart) (notes : List 
     → HasGoneOn begun notes b jobs (with_row k (Some (record { job = t.job; intake = next })) jobs) old now
 piece_comes laws stand begun notes b jobs old now k t next p changes kept named can further come = record {
   under = record {
-    heard = record { config = heard.config; reached = heard.reached; sound = heard.sound; answers = heard_on old now begun.mirrors begun.parts begun.config.sources notes back heard.answers };
+    heard = heard_still begun notes b old now back heard;
     uses = uses_after staged a.ask.from (closings.Not nots.TooBig) (wanted_part b) (wanted_part b) begun.parts old now fetched
         (subst (λ (n : ℕ). KeepsBytes staged n old now) from_is (kept_by staged t.job.from old now (subst (λ (o : Option (List ℕ)). KeepsBytesOf o t.job.from old now) own.list kept)))
         (no_come staged now) (use_of b a staged kind) (λ name. inl (inl refl)) p.under.uses;
+    lists = lists_changed laws.lists begun b (name_of t.intake) old now p.sound heard.config back changes p.under.lists;
   };
   numbers = p.numbers ∙ sym (numbers_stay jobs.rows k t later p.at refl (subst (λ (out : List (Option ℕ)). slice_get out k ≡ Some (Some t.job.no)) p.numbers there));
   each = others_still stand begun notes b b jobs (Some later) old now k t p changes back (λ m other apart asks. asks) (λ x is. let same : later ≡ x = cc in subst (IsTransfer begun b now (slice_index_or begun.mirrors (suc k) None)) same mine);

@@ -9,11 +9,12 @@ use Rattle.board_model.specs.Boards.{Board}
 use Rattle.board_model.specs.Runs.{Note}
 use Rattle.journal_model.specs.Rest.{KeptAtRestSince}
 use Rattle.commit_journal.proofs.Fills.{idle_on}
+use Rattle.lane_pool.specs.Pool.{Pool}
 use Rattle.run_jobs.specs.OnTheWay.{StaysOnItsWay, WasLeft}
 use Rattle.run_jobs.specs.Running.{RunStart, SameBoard}
 use Rattle.run_jobs.proofs.Keeping.{told_back}
 use Rattle.run_jobs.proofs.OnTheWay.{left_on, none_both, same_unheard, stays_on}
-use Rattle.lane_jobs.specs.Going.{IsRunningOver, JobsAddNotes, JobsGoOn, KeepsWholeFiles, MayAskOver, RunLanes}
+use Rattle.lane_jobs.specs.Going.{IsRunningOver, JobsAddNotes, JobsGoOn, KeepsWholeFiles, MayAskOver, RunLanes, run_lanes}
 use Rattle.lane_jobs.specs.JobsOut.{JobsOut, is_filled, with_row}
 use Rattle.lane_jobs.specs.declared.transfers.Transfer.{Transfer}
 
@@ -73,6 +74,24 @@ goes_then a b c old mid now since one two = λ begun notes sound running.
       ];
       running = running_more notes w.more v.more v.running;
     }
+
+-- a run goes on as before where no worker is used from then on
+pub goes_alone : (old mid : Pool) (jobs later : JobsOut) (b : Board) (after : RunLanes) (before now : List State) → mid ≡ old → later ≡ record { rows = jobs.rows; alone = true } → JobsGoOn (run_lanes mid later b) after before now
+    → JobsGoOn (run_lanes old jobs b) after before now
+goes_alone old mid jobs later b after before now same is goes = λ begun notes sound running.
+    let alone : JobsOut = record { rows = jobs.rows; alone = true } in
+    let so : JobsGoOn (run_lanes old alone b) after before now = subst (λ (p : Pool). JobsGoOn (run_lanes p alone b) after before now) same (subst (λ (j : JobsOut). JobsGoOn (run_lanes mid j b) after before now) is goes) in
+    let v : JobsAddNotes begun notes (run_lanes old alone b) after before now = so begun notes sound (record {
+      under_way = running.under_way;
+      counted = running.counted;
+      methods = running.methods;
+      out = record {
+        numbers = running.out.numbers;
+        each = running.out.each;
+        given = λ used lane fetch at. absurd (let wrong : true ≡ false = used in cc);
+      };
+    }) in
+    record { more = v.more; left = v.left; ended = v.ended; running = v.running }
 
 -- a run that was ready is so afterwards
 pub ready_then : (a b : RunLanes) (old now : List State) → MayAskOver a old → Since old now (KeptAtRestSince old) → JobsGoOn a b old now → MayAskOver b now

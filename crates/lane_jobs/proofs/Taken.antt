@@ -1,14 +1,15 @@
 -- A worker's word comes in.
-use Rattle.std.proofs.Common.{◌≡◌, ◌∙◌, ◌⊎◌, ◌<◌, ◌≤◌, ◌-◌, ℕ, suc, nat_eq, true, false, List, length, Option, Some, None, refl, sym, ap, subst, arith, inl, inr}
+use Rattle.std.proofs.Common.{◌≡◌, ◌∙◌, ◌⊎◌, ◌<◌, ◌≤◌, ◌-◌, ℕ, suc, nat_eq, Bool, true, false, List, length, Option, Some, None, refl, sym, ap, subst, arith, inl, inr}
 use Rattle.std.specs.Prelude.{is_some, option_map, slice_get, slice_index, slice_index_or}
 use Rattle.std.proofs.lemmas.Bool.{cases_Bool}
 use Rattle.std.proofs.lemmas.Bool.Decides.{nat_tests}
 use Rattle.acq_base.specs.Mirror.{MirrorMap}
-use Rattle.acq_outside.specs.Crash.{State}
+use Rattle.acq_outside.specs.Crash.{IsShown, State}
+use Rattle.acq_outside.specs.Disk.{Files}
 use Rattle.acq_outside.specs.Word.{CanBegin, IsWithinLimit, IsWord, after_word}
 use Rattle.acq_outside.specs.declared.word.Fetch.{Fetch}
 use Rattle.board_model.specs.Agreeing.{part_at}
-use Rattle.board_model.specs.Boards.{Board, absorbed, is_out}
+use Rattle.board_model.specs.Boards.{Board, is_out}
 use Rattle.board_model.specs.CallLaws.{JobsAlwaysStand}
 use Rattle.board_model.specs.Runs.{Note}
 use Rattle.host_queues.proofs.Changes.{get-changed}
@@ -23,8 +24,10 @@ use Rattle.lane_pool.specs.declared.told.Told.{Told}
 use Rattle.run_jobs.proofs.OneJob.{Laws}
 use Rattle.run_jobs.proofs.Rising.{IsCountedOn}
 use Rattle.run_jobs.specs.Running.{RunStart}
+use Rattle.update_core.specs.TakenIn.{TakesIn}
 use Rattle.update_model.specs.declared.ask.Closed.{Closed}
-use Rattle.lane_jobs.proofs.Answered.{HasTakenIn, answer_comes, lane_of_out, own_of}
+use Rattle.lane_jobs.proofs.Anew.{answer_anew, takes_told}
+use Rattle.lane_jobs.proofs.Answered.{HasTakenIn, lane_of_out, own_of}
 use Rattle.lane_jobs.proofs.Fresh.{may_be, sound_job}
 use Rattle.lane_jobs.proofs.Left.{out_of}
 use Rattle.lane_jobs.proofs.OwnFetch.{list_left, word_changes}
@@ -149,13 +152,13 @@ goes_piece laws law before pool jobs b old now told k t next lane at used taken 
     has
 
 -- any other word
-pub goes_last : Laws → JobsAlwaysStand → (before pool : Pool) (jobs : JobsOut) (b c : Board) (old now : List State) (told : Told) (k : ℕ) (t : Transfer) (closed : Closed)
+pub goes_last : Laws → JobsAlwaysStand → (tells : Bool) (files : Files) (before pool : Pool) (jobs : JobsOut) (b c : Board) (old now : List State) (told : Told) (k : ℕ) (t : Transfer) (closed : Closed)
     → told.lane ≡ suc k → slice_get jobs.rows k ≡ Some (Some t) → jobs.alone ≡ false → IsWordTaken before told pool
     → Touches told.word (name_of t.intake) old now → KeepsBytes (name_of t.intake) t.job.from old now → LeadsTo t.job t.intake told.word now (Last closed)
     → WhoeverSaid (fetch_of t.job t.intake) told.word (λ first after. Ends first after t.intake now (Last closed))
-    → HearsOn t.job old t.intake told.word (λ world part. Hears world part t.job t.intake now (Last closed)) → c ≡ absorbed b told.lane t.job.no closed
+    → HearsOn t.job old t.intake told.word (λ world part. Hears world part t.job t.intake now (Last closed)) → IsShown tells files now → TakesIn tells files b told.lane t.job.no closed c
     → JobsGoOn (run_lanes before jobs b) (run_lanes pool (with_row k None jobs) c) old now
-goes_last laws law before pool jobs b c old now told k t closed lane at used taken touches kept leads ends hears absorbed_as = λ begun notes sound running.
+goes_last laws law tells files before pool jobs b c old now told k t closed lane at used taken touches kept leads ends hears shown takes = λ begun notes sound running.
     let state = run_lanes before jobs b in
     let p = out_of state old k t sound running at in
     let own = own_of p in
@@ -196,7 +199,8 @@ goes_last laws law before pool jobs b c old now told k t closed lane at used tak
       counted = end.1;
       fell = rw taken.counts (fell_at before.counts told.lane after (taken_fell before pool told taken));
     } in
-    let has = answer_comes laws law begun notes b jobs old now k t told.lane first after before.counts pool.counts world closed p mirror few
+    let same = takes_told laws begun tells files b c told.lane t.job.no closed (name_of t.intake) old now sound p.under.heard.config shown answer.changes p.under.lists takes in
+    let has = answer_anew laws law begun notes b takes.between jobs old now k t told.lane first after before.counts pool.counts world closed takes.anew same p mirror few
     (ap length taken.counts ∙ set_length before.counts told.lane after ∙ sized) running.counted on answer in
     let none : (fetch : Fetch) → under ≡ Some fetch → IsGiven (changed_at k (λ was. None) jobs.rows) k fetch = λ fetch e.
     let over : under ≡ None = ap (λ (f : Fetch). after_word f told.word) is ∙ leads.0 in
@@ -204,4 +208,4 @@ goes_last laws law before pool jobs b c old now told k t closed lane at used tak
     absurd (cc) in
     taken_in begun notes state (run_lanes pool (with_row k None jobs) c) old now (taken_methods begun before pool told taken running.methods)
     (taken_given before pool told jobs k None lane taken running.out.given none)
-    (subst (λ (x : Board). HasTakenIn begun notes pool.counts jobs (with_row k None jobs) x old now) (sym absorbed_as) has)
+    (subst (λ (x : Board). HasTakenIn begun notes pool.counts jobs (with_row k None jobs) x old now) (sym takes.is) has)

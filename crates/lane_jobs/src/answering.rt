@@ -50,7 +50,7 @@ pub fn fetch_left<D: Disk, M: Method + Send + 'static>(
     };
     let first = first_intake(alloc, board, job.no)?;
     let closed = fetch_own(alloc, disk, lanes, &job, first)?;
-    board.absorb(alloc, judge, 0, job.no, closed)?;
+    board.absorb(alloc, judge, disk, 0, job.no, closed)?;
     Ok(())
 }
 

@@ -89,7 +89,7 @@ fn take_in<D: Disk, M: Method + Send + 'static>(
     let heard = hear(disk, &job, intake, told.word)?;
     match heard {
         Heard::More(intake) => jobs.put(told.lane - 1, Transfer { job, intake }),
-        Heard::Last(closed) => board.absorb(alloc, judge, told.lane, job.no, closed)?,
+        Heard::Last(closed) => board.absorb(alloc, judge, disk, told.lane, job.no, closed)?,
     }
     Ok(())
 }

@@ -1,10 +1,13 @@
 -- What a run has heard of a mirror, while the disk's states go on.
-use Rattle.std.proofs.Common.{List, [], ◌∷◌, Option}
+use Rattle.std.proofs.Common.{List, [], ◌∷◌, Option, subst}
 use Rattle.acq_base.specs.Mirror.{MirrorMap}
+use Rattle.acq_base.specs.declared.installed.Old.{Old}
 use Rattle.acq_base.specs.declared.plan.Source.{Source}
 use Rattle.acq_outside.specs.Crash.{State}
 use Rattle.acq_outside.specs.States.{IsTold}
 use Rattle.board_model.specs.Agreeing.{Agrees}
+use Rattle.board_model.specs.Boards.{Board}
+use Rattle.board_model.specs.Reached.{Reached}
 use Rattle.board_model.specs.Runs.{Note}
 use Rattle.update_model.specs.Outcomes.{PartFiles}
 use Rattle.update_model.specs.declared.ask.Body.TheVariants as bodies
@@ -45,4 +48,19 @@ heard_told now mirrors parts sources notes told agrees = for_mirror mirrors (λ 
 pub run_agrees : (start : RunStart) (notes : List Note) {b : _} (now : List State) → RunHasHeard start notes b now → IsTold now → ForMirror start.mirrors (λ m. Agrees m start.parts start.config.sources notes)
 run_agrees start notes now heard told = heard_told now start.mirrors start.parts start.config.sources notes told heard.answers
 
--- ---- an answer that serves nothing
+-- ---- boards to which the run's calls led
+
+-- where the disk tells, they led there beside what the run began with
+pub reached_told : (begun : RunStart) (notes : List Note) (b : Board) (now : List State) → RunHasHeard begun notes b now → IsTold now → Reached begun.config begun.olds notes b
+reached_told begun notes b now heard told = subst (λ (olds : List Old). Reached begun.config olds notes b) (heard.same told) heard.reached
+
+-- what was heard is so while the disk goes on
+pub heard_still : (begun : RunStart) (notes : List Note) (b : Board) (old now : List State) → (IsTold now → IsTold old) → RunHasHeard begun notes b old → RunHasHeard begun notes b now
+heard_still begun notes b old now back heard = record {
+  config = heard.config;
+  olds = heard.olds;
+  same = λ told. heard.same (back told);
+  reached = heard.reached;
+  sound = heard.sound;
+  answers = heard_on old now begun.mirrors begun.parts begun.config.sources notes back heard.answers;
+}

@@ -1,5 +1,5 @@
 -- What a board wants of the lists on their way is there once a job has ended.
-use Rattle.std.proofs.Common.{◌≡◌, ◌∙◌, ◌⊎◌, ◌≤◌, ℕ, zero, suc, List, [], ◌∷◌, length, take, Option, Some, None, IfSome, refl, inl, inr, arith}
+use Rattle.std.proofs.Common.{◌≡◌, ◌∙◌, ◌⊎◌, ◌≤◌, ℕ, zero, suc, List, [], ◌∷◌, ◌++◌, length, take, Option, Some, None, IfSome, refl, inl, inr, arith}
 use Rattle.acq_base.specs.declared.uri.ListName.{ListName}
 use Rattle.acq_outside.specs.Crash.{State}
 use Rattle.acq_outside.specs.States.{IsTold, Since}
@@ -21,6 +21,15 @@ use Rattle.run_jobs.specs.Fetching.{ComesTo, IsFetched, KeepsBytes}
 pub told_back : (P : State → Type 0) (old now : List State) → Since old now P → IsTold now → IsTold old
 told_back P [] now since told = rw (since.untold refl) at told
 told_back P (s ∷ past) now since told = tt
+
+-- a disk that told once still does
+pub told_on : (P : State → Type 0) (old now : List State) → Since old now P → IsTold old → IsTold now
+told_on P [] now since told = absurd told
+told_on P (s ∷ past) now since told = by since.states since.joined
+  where
+    by : (states : List State) → now ≡ states ++ s ∷ past → IsTold now
+    by [] joined = rw joined tt
+    by (t ∷ states) joined = rw joined tt
 
 pub moments_of : (staged : Option ListName) (old now : List State) → IsFetched staged old now → Since old now (KeptAtRestSince old)
 moments_of None old now is = rw is (no_time old old (KeptAtRestSince old) refl)

@@ -1,5 +1,5 @@
 -- Cited by the crates above: what an answer adds to a log, how faults of several methods are told, which files stay, one job,
--- and lists on their way.
+-- lists on their way, and what boards know as installed.
 pub mod Telling
 pub mod Rising
 pub mod Agreed
@@ -7,3 +7,4 @@ pub mod OnTheWay
 pub mod Keeping
 pub mod OneJob
 pub mod StagedLists
+pub mod Lists

@@ -4,6 +4,7 @@ use Rattle.std.specs.Prelude.{option_map, option_and_then, slice_get, map}
 use Rattle.acq_base.specs.Mirror.{MirrorMap, answer_at}
 use Rattle.acq_base.specs.Plan.{IsPlanned, names_of}
 use Rattle.acq_base.specs.declared.fetch.Job.{Job}
+use Rattle.acq_base.specs.declared.installed.Old.{Old}
 use Rattle.std.proofs.lemmas.Bool.Decides.{nat_tests}
 use Rattle.acq_base.specs.declared.plan.Source.{Source}
 use Rattle.acq_base.specs.declared.plan.Target.{Target}
@@ -33,6 +34,7 @@ use Rattle.board_model.proofs.Askers.{asker-asks}
 use Rattle.board_bounds.proofs.Walking.{at_all}
 use Rattle.run_jobs.specs.Fetching.{ComesTo}
 use Rattle.run_jobs.specs.Running.{RunStart, IsSoundBegun}
+use Rattle.run_jobs.proofs.Lists.{ListLaws}
 use Rattle.run_jobs.proofs.StagedLists.{staged_named}
 
 -- what is known of boards
@@ -44,6 +46,7 @@ pub record Laws : Type 0 where
   pub asks : StagedAsksAreWanted
   pub fetched : AsksMayBeFetched
   pub put : PlannedNamesArePutNames
+  pub lists : ListLaws
 
 pub same_number : (n : ℕ) → (n == n) ≡ true
 same_number n = grind (arith, nat_tests)
@@ -81,14 +84,14 @@ name_there (t ∷ targets) (suc k) target e = name_there targets k target e
 pub put_name : PlannedNamesArePutNames → (source : Source) (k : ℕ) (target : Target) → IsPlanned source → slice_get source.targets k ≡ Some target → IsPutName target.name.0
 put_name law source k target planned e = at_all IsPutName (names_of source) (suc k) target.name.0 (law source planned) (name_there source.targets k target e)
 
-pub kind_of : Laws → (begun : RunStart) (b : Board) (n : ℕ) (a : Asker) (notes : List Note) → IsSoundBegun begun → b.config ≡ begun.config → Reached begun.config begun.olds notes b → asker_of b n ≡ Some a → MayBeFetched a.ask
+pub kind_of : {olds : List Old} → Laws → (begun : RunStart) (b : Board) (n : ℕ) (a : Asker) (notes : List Note) → IsSoundBegun begun → b.config ≡ begun.config → Reached begun.config olds notes b → asker_of b n ≡ Some a → MayBeFetched a.ask
     → IsStagedAs b a (name_staged a)
-kind_of laws begun b n a notes sound config reached asks may = by a.ask.stage refl
+kind_of {olds = olds} laws begun b n a notes sound config reached asks may = by a.ask.stage refl
   where
     by : (stage : Bool) → a.ask.stage ≡ stage → IsStagedAs b a (name_staged a)
     by false e = rw e (refl, may.held e)
     by true e =
-        let i = staged_named laws.stand begun.config begun.olds notes b n a reached asks e in
+        let i = staged_named laws.stand begun.config olds notes b n a reached asks e in
         let source_is : slice_get begun.config.sources a.key.source ≡ Some a.source = subst (λ (c : Setup). slice_get c.sources a.key.source ≡ Some a.source) config (asker-asks b n a asks).source_is in
         let planned = at_all IsPlanned begun.config.sources a.key.source a.source sound.planned source_is in
         let wanted = laws.asks b n a i.target.name (subst (λ (c : Setup). AreNamedApart c) (sym config) sound.apart) asks e i.is in

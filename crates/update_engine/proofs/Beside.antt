@@ -1,12 +1,11 @@
 -- What lies beside the lists, through jobs and commits.
-use Rattle.std.proofs.Common.{◌≡◌, ◌≢◌, ◌⊎◌, ◌∙◌, inl, inr, refl, sym, ap, subst, ℕ, true, false, List, [], ◌∷◌, ◌++◌, Contains, Option, Some, None, option_map}
+use Rattle.std.proofs.Common.{◌≡◌, ◌≢◌, ◌⊎◌, ◌∙◌, inl, inr, refl, sym, ap, subst, ℕ, true, false, List, [], ◌∷◌, ◌++◌, Contains, Option, Some, None}
 use Rattle.std.specs.Prelude.{is_some}
 use Rattle.std.specs.List.{list_any}
 use Rattle.std.proofs.lemmas.Bool.{cases_Bool}
 use Rattle.acq_base.specs.declared.plan.Source.{Source}
-use Rattle.acq_outside.specs.Crash.{State, file_at, names_of as file_names, reads, seen_at}
+use Rattle.acq_outside.specs.Crash.{State}
 use Rattle.acq_outside.specs.Disk.{Files}
-use Rattle.acq_outside.specs.declared.state.FileState.{FileState}
 use Rattle.board_model.specs.Runs.{Note}
 use Rattle.commit_journal.specs.Changes.{AllAllowed, CanRecord, IsNone, all_changed_names, all_changes, changed_names}
 use Rattle.commit_journal.specs.Commits.{AreGone, KeepsUnchangedFiles}
@@ -16,7 +15,6 @@ use Rattle.journal_model.proofs.FolderNames.{list_if, plain_inside}
 use Rattle.journal_model.proofs.Twice.{other_name}
 use Rattle.journal_model.proofs.Views.{partial_not_journal}
 use Rattle.journal_model.specs.Names.{is_file_name, is_inside, is_installed_name, is_partial, journal, lock, partial}
-use Rattle.journal_model.specs.Rest.{file_named}
 use Rattle.run_jobs.proofs.OnTheWay.{same_unheard, stays_on, stays_same, unheard_same}
 use Rattle.run_jobs.specs.OnTheWay.{StaysOnItsWay, WasLeft}
 use Rattle.lane_jobs.specs.Going.{KeepsWholeFiles}
@@ -137,16 +135,6 @@ aside_committed sources Taken groups old now can keeps free = record {
   others = λ name listed part journal_too. keeps name journal_too (other_free name (all_changes groups) listed part can.allowed);
   parts = λ name out. same_unheard sources name old now (keeps (partial name) (partial_not_journal name) (free name out));
 }
-
--- ---- what reads give
-
-seen_is : (files : List FileState) (o : Option ℕ) → seen_at files o ≡ option_map (λ (f : FileState). f.seen) (option_map (file_at files) o)
-seen_is files None = refl
-seen_is files (Some i) = refl
-
--- a file that stays is read as it was
-pub reads_same : (s t : State) (name : List ℕ) → file_named t name ≡ file_named s name → reads t name ≡ reads s name
-reads_same s t name same = seen_is t.files (file_names t name) ∙ (ap (option_map (λ (f : FileState). f.seen)) same ∙ sym (seen_is s.files (file_names s name)))
 
 -- ---- what is removed
 

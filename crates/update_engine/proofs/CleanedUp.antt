@@ -24,7 +24,8 @@ use Rattle.list_commits.specs.Loose.{AreLooseNames, IsLoose, NoneIsLoose, kept_o
 use Rattle.list_commits.specs.RecordLaws.{AreGathered, group_of, groups_of, names_gathered, names_of_group}
 use Rattle.run_jobs.specs.Running.{RunStart, IsSoundBegun}
 use Rattle.run_model.proofs.Names.{in_plan}
-use Rattle.update_engine.proofs.Beside.{gone_behind, reads_same}
+use Rattle.run_jobs.proofs.Lists.{read_alike}
+use Rattle.update_engine.proofs.Beside.{gone_behind}
 use Rattle.update_engine.proofs.Distinct.{either, gathered_for}
 use Rattle.update_engine.proofs.Known.{CommittingLaws}
 use Rattle.update_engine.specs.Run.{IsListOf}
@@ -70,7 +71,7 @@ none_loose sources files loose groups later (m ∷ past) (s ∷ more) tells show
 
     as_before : (name : List ℕ) → files name ≡ None → IsLoose sources name → (l : List (List Change)) → later ≡ l → reads s name ≡ reads m name
     as_before name e apart [] same = subst (λ (t : List State). IsNow (λ (x : State). reads x name ≡ reads m name) t) (sym (none same)) refl
-    as_before name e apart (g ∷ gs) same = reads_same m s name (keeps (λ empty. let wrong : g ∷ gs ≡ [] = sym same ∙ empty in absurd (cc)) name
+    as_before name e apart (g ∷ gs) same = read_alike m s name (keeps (λ empty. let wrong : g ∷ gs ≡ [] = sym same ∙ empty in absurd (cc)) name
         (λ is. apart.other (there lock (journal ∷ flat_map kept_of sources) name (here journal (flat_map kept_of sources) name (sym is))))
         (free name apart (λ found. let wrong : true ≡ false = sym (are.there name found) ∙ ap is_some e in absurd (cc))))
 

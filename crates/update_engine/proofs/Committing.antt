@@ -3,10 +3,11 @@ use Rattle.std.proofs.Common.{◌≡◌, ◌≢◌, ◌⊎◌, ◌∙◌, ◌≤
 use Rattle.std.specs.Prelude.{IfErr, IsErrAnd, if◌then◌else◌, option_map, slice_get}
 use Rattle.std.specs.List.{flat_map, slice_index_or, AllByRecursion as Each}
 use Rattle.std.proofs.lemmas.List.{append-nil}
-use Rattle.std.proofs.lemmas.List.Elements.{Contains-append_left, Contains-append_right}
+use Rattle.std.proofs.lemmas.List.Elements.{All-contains, Contains-append_left, Contains-append_right}
 use Rattle.acq_base.specs.Mirror.{MirrorMap}
 use Rattle.acq_base.specs.Plan.{IsPlanned, names_of}
 use Rattle.acq_base.specs.Sum.{sum_of}
+use Rattle.acq_base.specs.declared.installed.Old.{Old}
 use Rattle.acq_base.specs.declared.plan.Source.{Source}
 use Rattle.acq_base.specs.declared.plan.Target.{Target}
 use Rattle.acq_base.specs.declared.uri.ListName.{ListName}
@@ -17,7 +18,7 @@ use Rattle.board_model.specs.Boards.{Asker, Board, asker_of, first_ready, name_s
 use Rattle.board_model.specs.Keys.{name_at}
 use Rattle.board_model.specs.NameLaws.{AreNamedApart, RestsOn}
 use Rattle.board_model.specs.Runs.{Note}
-use Rattle.board_model.specs.Slots.{Setup, Slot, ask_of, item_in}
+use Rattle.board_model.specs.Slots.{Asking, SettledSlot, Setup, Slot, Standing, ask_of, item_in}
 use Rattle.board_model.specs.Uses.{Free, WantedPart, wanted_part}
 use Rattle.commit_journal.specs.Changes.{AreAllStaged, CanRecord, Filled, IsNone, filled, filled_all, all_changed_names}
 use Rattle.commit_journal.specs.Commits.{KeepsUnchangedFiles}
@@ -25,7 +26,7 @@ use Rattle.commit_journal.specs.Runs.{Commit, CommitHasBegun, HasCommitted, Comm
 use Rattle.commit_journal.specs.declared.changing.Change.{Change}
 use Rattle.commit_journal.specs.declared.error.JournalError.{JournalError}
 use Rattle.commit_journal.specs.declared.error.JournalError.TheVariants as journals
-use Rattle.journal_model.specs.Names.{partial}
+use Rattle.journal_model.specs.Names.{IsPutName, partial}
 use Rattle.journal_model.specs.Rest.{IsAtRest, IsSynced, part_bytes, part_file}
 use Rattle.list_commits.specs.Changes.{changes_for}
 use Rattle.list_commits.specs.Made.{IsCommitStopped, CommitsMade, NoCommitBegun, after_all, makes}
@@ -51,14 +52,17 @@ use Rattle.board_model.proofs.Events.{ready-slot}
 use Rattle.board_model.proofs.JobStart.{ready-asks, settled-asks}
 use Rattle.board_model.proofs.Making.{none-in}
 use Rattle.acq_outside.proofs.Going.{no_time}
+use Rattle.host_queues.proofs.Changes.{get-changed}
+use Rattle.host_queues.specs.Lanes.{changed_at}
 use Rattle.journal_model.proofs.Views.{partial_apart, partial_not_journal}
 use Rattle.commit_journal.proofs.Prepares.{settled_at}
 use Rattle.board_bounds.proofs.Walking.{at_all}
 use Rattle.run_model.proofs.Loose.{among}
 use Rattle.run_model.proofs.Names.{in_plan, sources_apart}
 use Rattle.run_model.proofs.Finishing.{is_held}
-use Rattle.run_jobs.proofs.Agreed.{heard_on, run_agrees}
+use Rattle.run_jobs.proofs.Agreed.{heard_still, reached_told, run_agrees}
 use Rattle.run_jobs.proofs.Keeping.{stays_holds, told_back}
+use Rattle.run_jobs.proofs.Lists.{HasLists, KeepsAsked, lists_stay}
 use Rattle.list_commits.proofs.Apart.{apart_of, here, there}
 use Rattle.job_fetch.specs.Hearing.{name_of}
 use Rattle.lane_pool.specs.Pool.{Pool}
@@ -73,7 +77,7 @@ use Rattle.update_engine.specs.Session.{KeepsRunGoing, HasMadeSets, HasProgress,
 use Rattle.update_engine.proofs.Beside.{aside_committed, aside_none}
 use Rattle.update_engine.specs.Run.{IsListOf, KeepsAside}
 use Rattle.update_engine.proofs.Naming.{release_free, which_name}
-use Rattle.update_engine.proofs.OnBoards.{as_open, heard_settled, is_of, owns, told_more, under_settled, uses_settled}
+use Rattle.update_engine.proofs.OnBoards.{as_open, heard_settled, is_of, lists_settled, owns, told_more, under_settled, uses_settled}
 
 -- a source comes to a new set, of a run that is under way
 pub record IsSettling (start : RunStart) (notes : List Note) (b : Board) (n : ℕ) (settled : Settled) (now : List State) : Type 0 where
@@ -97,7 +101,7 @@ changing laws start notes b n settled now s =
     let o = is_of b n settled s.comes in
     let source_is : slice_get start.config.sources n ≡ Some o.source = subst (λ (c : Setup). slice_get c.sources n ≡ Some o.source) s.under.heard.config o.source_is in
     let planned = at_all IsPlanned start.config.sources n o.source s.sound.planned source_is in
-    let open_at = as_open laws.settling start.config start.olds notes b n o.source o.slot s.under.heard.reached s.ready source_is o.slot_is in
+    let open_at = as_open laws.settling start.config s.under.heard.olds notes b n o.source o.slot s.under.heard.reached s.ready source_is o.slot_is in
     let own = owns laws.settling start.config notes b n o.source o.slot settled open_at o.comes_to planned in
     let names : names_of o.source ++ [] ≡ names_of o.source = append-nil (names_of o.source) in
     record {
@@ -192,13 +196,51 @@ uses_committed laws start notes b n settled old now s c back keeps = record { ea
     one name told (inr out) = stays_holds (wanted_part (settled_as b n settled.verdict) name) name (start.parts name) old now (keeps (partial name) (partial_not_journal name) (unnamed laws start b n settled c name out))
         ((uses_settled laws.settling b n settled.verdict start.parts old s.under.uses).each name (back told))
 
+-- ---- what is installed of the sources whose Releases are asked for is there behind it
+
+-- the lists of other sources are none of its changes
+unchanged_list : CommittingLaws → (start : RunStart) (b : Board) (n : ℕ) (settled : Settled) (c : IsChanging start b n settled) (other : Source) (name : List ℕ) → IsPlanned other → Contains (names_of other) name → (Contains (names_of c.source) name → ⊥)
+    → IsNone name (all_changed_names (changes_for c.source settled ∷ []))
+unchanged_list laws start b n settled c other name planned own out =
+    let names : names_of c.source ++ [] ≡ names_of c.source = append-nil (names_of c.source) in
+    laws.others start.config.sources ((c.source, settled) ∷ []) None name c.gathered
+    (λ is. out (subst (λ (ns : List (List ℕ)). Contains ns name) names is))
+    (λ list is. laws.other_names other planned name list own)
+    (none-in name)
+
+-- a source that is settled asks for no Release
+asked_elsewhere : (b : Board) (n m : ℕ) (verdict : Verdict2) (files : Old) (release : Standing) → slice_get (settled_as b n verdict).slots m ≡ Some (Asking files release) → n ≢ m
+asked_elsewhere b n m verdict files release asks = λ same.
+    let at : slice_get (changed_at n (λ slot. SettledSlot) b.slots) n ≡ Some (Asking files release) = subst (λ (k : ℕ). slice_get (changed_at n (λ slot. SettledSlot) b.slots) k ≡ Some (Asking files release)) (sym same) asks in
+    one (slice_get b.slots n) (sym (get-changed (λ slot. SettledSlot) b.slots n) ∙ at)
+  where
+    one : (o : Option Slot) → option_map (λ (slot : Slot). SettledSlot) o ≡ Some (Asking files release) → ⊥
+    one None is = absurd (cc)
+    one (Some slot) is = absurd (cc)
+
+keeps_asked : CommittingLaws → (start : RunStart) (notes : List Note) (b : Board) (n : ℕ) (settled : Settled) (old now : List State) → IsSettling start notes b n settled old → (c : IsChanging start b n settled)
+    → KeepsUnchangedFiles (changes_for c.source settled ∷ []) old now → KeepsAsked (settled_as b n settled.verdict) old now
+keeps_asked laws start notes b n settled old now s c keeps m source files release at asks name own =
+    let elsewhere : n ≢ m = asked_elsewhere b n m settled.verdict files release asks in
+    let apart : AreNamedApart b.config = subst AreNamedApart (sym s.under.heard.config) s.sound.apart in
+    let source_is : slice_get start.config.sources m ≡ Some source = subst (λ (x : Setup). slice_get x.sources m ≡ Some source) s.under.heard.config at in
+    let planned = at_all IsPlanned start.config.sources m source s.sound.planned source_is in
+    keeps name (All-contains IsPutName (names_of source) name (laws.put_names source planned) own).not_journal
+    (unchanged_list laws start b n settled c source name planned own
+    (λ within. sources_apart b.config.sources n m c.source source name (apart_of (flat_map names_of b.config.sources) apart) c.here_is at elsewhere within own))
+
+lists_committed : CommittingLaws → (start : RunStart) (notes : List Note) (b : Board) (n : ℕ) (settled : Settled) (old now : List State) → IsSettling start notes b n settled old → (c : IsChanging start b n settled)
+    → (IsTold now → IsTold old) → KeepsUnchangedFiles (changes_for c.source settled ∷ []) old now → HasLists (settled_as b n settled.verdict) now
+lists_committed laws start notes b n settled old now s c back keeps =
+    lists_stay laws.settling.lists (settled_as b n settled.verdict) old now back (keeps_asked laws start notes b n settled old now s c keeps) (lists_settled laws.settling b n settled.verdict old s.under.lists)
+
 pub under_committed : CommittingLaws → (start : RunStart) (notes : List Note) (b : Board) (n : ℕ) (settled : Settled) (old now : List State) → IsSettling start notes b n settled old → (c : IsChanging start b n settled)
     → (IsTold now → IsTold old) → KeepsUnchangedFiles (changes_for c.source settled ∷ []) old now → IsUnderWay start notes (settled_as b n settled.verdict) now
 under_committed laws start notes b n settled old now s c back keeps =
-    let heard = heard_settled laws.settling start notes b n settled old s.ready s.comes s.under.heard in
     record {
-      heard = record { config = heard.config; reached = heard.reached; sound = heard.sound; answers = heard_on old now start.mirrors start.parts start.config.sources notes back heard.answers };
+      heard = heard_still start notes (settled_as b n settled.verdict) old now back (heard_settled laws.settling start notes b n settled old s.ready s.comes s.under.heard);
       uses = uses_committed laws start notes b n settled old now s c back keeps;
+      lists = lists_committed laws start notes b n settled old now s c back keeps;
     }
 
 -- ---- the commits with one more
@@ -240,7 +282,7 @@ new_set laws start notes b n settled old held told s c installs = record {
   source = c.source;
   source_is = c.source_is;
   settled = settled;
-  settles = record { notes = notes; later = []; so_far = sym (append-nil notes); board = b; reached = s.under.heard.reached; ready = s.ready; comes_to = s.comes };
+  settles = record { notes = notes; later = []; so_far = sym (append-nil notes); board = b; reached = reached_told start notes b old s.under.heard told; ready = s.ready; comes_to = s.comes };
   held = held;
   installs = installs;
   staged = part_bytes old;
@@ -252,8 +294,8 @@ new_set laws start notes b n settled old held told s c installs = record {
 pub told_installed : CommittingLaws → (start : RunStart) (notes : List Note) (b : Board) (n : ℕ) (settled : Settled) (old : List State) → IsSettling start notes b n settled old → (c : IsChanging start b n settled)
     → installed_in (settled_as b n settled.verdict) ≡ installed_in b ++ (if is_installed settled.verdict then n ∷ [] else [])
 told_installed laws start notes b n settled old s c =
-    let reached = laws.settling.reached start.config start.olds notes b n settled s.under.heard.reached s.ready s.comes in
-    told_more b n settled.verdict c.former c.former_is (laws.settling.once start.config start.olds notes (settled_as b n settled.verdict) reached).once
+    let reached = laws.settling.reached start.config s.under.heard.olds notes b n settled s.under.heard.reached s.ready s.comes in
+    told_more b n settled.verdict c.former c.former_is (laws.settling.once start.config s.under.heard.olds notes (settled_as b n settled.verdict) reached).once
 
 told_new : CommittingLaws → (start : RunStart) (notes : List Note) (b : Board) (n : ℕ) (settled : Settled) (old : List State) (held : Held) → IsSettling start notes b n settled old → (c : IsChanging start b n settled)
     → settled.verdict ≡ Installed held → installed_in (settled_as b n settled.verdict) ≡ installed_in b ++ n ∷ []
@@ -360,12 +402,12 @@ pub none_removed : (commits : List (List Group)) → Each CommitsOneSource commi
 none_removed [] each = refl
 none_removed (groups ∷ commits) each = subst (λ (gs : List Group). removed_in (gs ++ all_groups commits) ≡ []) (sym each.0.is) (none_removed commits each.1)
 
-unfoldable pub has_begun : (start : RunStart) (notes : List Note) (b : Board) (now : List State) (lists : Files) (commits : List (List Group)) → RunHasHeard start notes b now → Each CommitsOneSource commits
+unfoldable pub has_begun : (start : RunStart) (notes : List Note) (b : Board) (now : List State) (lists : Files) (commits : List (List Group)) → RunHasHeard start notes b now → IsTold now → Each CommitsOneSource commits
     → AreGroups (begun_of start) notes (all_groups commits) → sources_in (all_groups commits) ≡ installed_in b → MayBeStopped false (begun_of start) lists commits
-has_begun start notes b now lists commits heard each groups order = record {
+has_begun start notes b now lists commits heard told each groups order = record {
   heard = notes;
   board = b;
-  reached = heard.reached;
+  reached = reached_told start notes b now heard told;
   groups = groups;
   may = inl (record { rest = []; order = sym order ∙ sym (append-nil (sources_in (all_groups commits))); no_clean_up = none_removed commits each });
   in_turn = tt;
@@ -386,7 +428,7 @@ stops_unbegun laws error start notes lists opened b old now heard unbegun settle
   started = length (commits_of sets.commits);
   progress = laws.unbegun (commits_of sets.commits) opened old now sets.made unbegun;
   whole = λ dry. refl;
-  has = has_begun start notes b old lists sets.commits heard sets.each sets.groups sets.order;
+  has = has_begun start notes b old lists sets.commits heard sets.told sets.each sets.groups sets.order;
   agrees = λ told. run_agrees start notes old heard sets.told;
   synced = λ rest. settled (settled_made laws (commits_of sets.commits) lists opened old sets.made rest);
 }
@@ -407,7 +449,7 @@ stops_begun laws error start notes lists opened b n settled old now held s c ins
       progress = subst (λ (cs : List Commit). CommitProgress cs (length (commits_of sets.commits)) (suc (length (commits_of sets.commits))) opened now) (sym (commits_last sets.commits group))
           (laws.begun (commits_of sets.commits) (commit_of group) opened old now sets.made (subst (λ (x : Commit). CommitHasBegun x old now) (one_group (part_bytes old) n (changes_for c.source settled)) begun));
       whole = λ dry. absurd (moist dry);
-      has = has_begun start notes (settled_as b n settled.verdict) old lists (sets.commits ++ group ∷ []) heard (each_last sets.commits n changes sets.each)
+      has = has_begun start notes (settled_as b n settled.verdict) old lists (sets.commits ++ group ∷ []) heard sets.told (each_last sets.commits n changes sets.each)
           (groups_last (begun_of start) notes sets.commits n changes sets.each sets.groups (new_set laws start notes b n settled old held sets.told s c installs))
           (sources_last sets.commits n changes sets.each ∙ ap (λ (ns : List ℕ). ns ++ n ∷ []) sets.order ∙ sym (told_new laws start notes b n settled old held s c installs));
       agrees = λ told. run_agrees start notes old s.under.heard sets.told;

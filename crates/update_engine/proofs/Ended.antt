@@ -25,7 +25,7 @@ use Rattle.list_commits.specs.Made.{IsCommitStopped, CommitsMade, NoCommitBegun,
 use Rattle.list_commits.specs.RecordLaws.{group_of, groups_of, names_of_group}
 use Rattle.run_jobs.specs.declared.error.RunError.{RunError}
 use Rattle.run_jobs.specs.declared.error.RunError.TheVariants.{BadJournal, DiskFault, NoMemory}
-use Rattle.run_jobs.proofs.Agreed.{run_agrees}
+use Rattle.run_jobs.proofs.Agreed.{reached_told, run_agrees}
 use Rattle.run_jobs.specs.Running.{RunStart, RunHasHeard, IsSoundBegun, IsUnderWay}
 use Rattle.run_model.specs.Begun.{RunInput, ReadsPlanned}
 use Rattle.run_model.specs.Groups.{Group, CleanUp, SetOf, AreGroups, AreRemovable, AreCommitGroups, all_groups, changes_in, commit_of, commits_of, removed_in, sources_in}
@@ -65,7 +65,7 @@ unfoldable has_so_far : (together : Bool) (start : RunStart) (notes : List Note)
 has_so_far together start notes opened now lists b picks heard e = record {
   heard = notes;
   board = b;
-  reached = heard.reached;
+  reached = reached_told start notes b now heard e.told;
   groups = e.groups;
   may = may_so_far together start notes opened now lists b picks e;
   in_turn = turn_so_far together e.commits e.first;
@@ -134,7 +134,7 @@ groups_last start notes now (p ∷ picks) names told each none =
         source = p.source;
         source_is = is.source_is;
         settled = p.settled;
-        settles = is.settles;
+        settles = is.settles told;
         held = is.held;
         installs = is.installs;
         staged = part_bytes now;
@@ -354,7 +354,7 @@ ended laws together cleanup start notes lists files opened old mid now c picks l
       ran = record {
         heard = notes;
         board = c;
-        reached = a.under.heard.reached;
+        reached = reached_told start notes c mid a.under.heard a.but.told;
         groups = all.groups;
         all = all.all;
         in_turn = all.in_turn;
@@ -381,11 +381,11 @@ may_all false start lists c groups all = inr all
 may_all true start lists c groups all = inr all
 
 unfoldable has_last : (together cleanup : Bool) (start : RunStart) (notes : List Note) (lists : Files) (mid : List State) (c : Board) (picks : List NewSource) (loose : List (List ℕ)) (commits : List (List Group))
-    → RunHasHeard start notes c mid → AllOfRun together cleanup start notes lists mid c picks loose commits → MayBeStopped together (begun_of start) lists commits
-has_last together cleanup start notes lists mid c picks loose commits heard all = record {
+    → RunHasHeard start notes c mid → IsTold mid → AllOfRun together cleanup start notes lists mid c picks loose commits → MayBeStopped together (begun_of start) lists commits
+has_last together cleanup start notes lists mid c picks loose commits heard told all = record {
   heard = notes;
   board = c;
-  reached = heard.reached;
+  reached = reached_told start notes c mid heard told;
   groups = all.groups;
   may = may_all together start lists c (all_groups commits) all.all;
   in_turn = all.in_turn;
@@ -413,7 +413,7 @@ stops_in_last laws error together cleanup start notes lists files opened mid now
       started = suc (length (commits_of e.commits));
       progress = moment_with laws e.commits (last_groups (part_bytes mid) picks (names_to_remove cleanup c.verdicts loose)) later opened mid now e.made (filled_later cleanup c picks loose later (part_bytes mid) is) some begun;
       whole = λ dry. absurd (moist dry);
-      has = has_last together cleanup start notes lists mid c picks loose (last_of cleanup loose e) a.under.heard all;
+      has = has_last together cleanup start notes lists mid c picks loose (last_of cleanup loose e) a.under.heard e.told all;
       agrees = λ told. run_agrees start notes mid a.under.heard e.told;
       synced = λ rest. settled (settled_made laws (commits_of e.commits) lists opened mid e.made rest);
     }

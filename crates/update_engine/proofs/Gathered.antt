@@ -19,6 +19,7 @@ use Rattle.update_model.specs.declared.ask.Body.{Body}
 use Rattle.update_model.specs.declared.settled.Settled.{Settled}
 use Rattle.run_model.proofs.Finishing.{is_held}
 use Rattle.run_model.proofs.Following.{later_than}
+use Rattle.run_jobs.proofs.Agreed.{reached_told}
 use Rattle.run_jobs.proofs.Telling.{each_last}
 use Rattle.update_engine.proofs.Known.{CommittingLaws}
 use Rattle.update_engine.specs.Session.{GathersChanges, GathersChangesOf, HasGatheredChanges, IsNewSource, NewSource, groups_for, installed_in, numbers_of}
@@ -53,7 +54,7 @@ is_pick laws start notes b n settled now s c new_one =
     let held = is_held settled.verdict new_one in
     record {
       source_is = c.source_is;
-      settles = record { notes = notes; later = []; so_far = sym (append-nil notes); board = b; reached = s.under.heard.reached; ready = s.ready; comes_to = s.comes };
+      settles = λ told. record { notes = notes; later = []; so_far = sym (append-nil notes); board = b; reached = reached_told start notes b now s.under.heard told; ready = s.ready; comes_to = s.comes };
       held = held.0;
       installs = held.1;
       put = c.gathered.put.0;

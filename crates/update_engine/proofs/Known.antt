@@ -7,9 +7,11 @@ use Rattle.board_model.specs.Laws.{BoardsStand, FinishedExactly}
 use Rattle.board_model.specs.NameLaws.{SettledPutsAreWanted, SettledSourcesFree}
 use Rattle.board_model.specs.Reached.{NewBoardsAreReached, SettledBoardsAreReached}
 use Rattle.board_model.specs.SetLaws.{TouchedAreApart, TouchedAreOwn}
+use Rattle.lane_jobs.proofs.Known.{lists_known}
 use Rattle.list_commits.proofs.Theorems.{begun_commit_is_progress, gathered_are_staged, gathered_can_be_recorded, gathered_keep_others, made_commits_are_progress, made_leaves_lists, no_commit_is_progress}
 use Rattle.list_commits.specs.Made.{BegunCommitIsProgress, MadeCommitsAreProgress, MadeLeavesLists, NoCommitIsProgress}
 use Rattle.list_commits.specs.RecordLaws.{GatheredAreStaged, GatheredCanBeRecorded, GatheredKeepOthers}
+use Rattle.run_jobs.proofs.Lists.{ListLaws}
 use Rattle.run_model.proofs.Theorems.{groups_stay, installed_are_once, installed_lists_are_run_input, lists_are_read, loose_lists_stay, opened_lists_are_alone}
 use Rattle.run_model.specs.Beginnings.{InstalledAreOnce, InstalledListsAreRunInput, ListsAreRead, LooseListsStay, OpenedListsAreAlone}
 use Rattle.run_model.specs.Laws.{GroupsStay}
@@ -22,6 +24,7 @@ pub record SettlingLaws : Type 0 where
   pub once : SourcesAreSettledOnce
   pub own : TouchedAreOwn
   pub apart : TouchedAreApart
+  pub lists : ListLaws
 
 -- and of commits of sources that were settled
 pub record CommittingLaws : Type 0 where
@@ -54,6 +57,7 @@ pub record BeginningLaws : Type 0 where
   pub over : InstalledListsAreRunInput
   pub alone : OpenedListsAreAlone
   pub read : ListsAreRead
+  pub lists : ListLaws
 
 pub settlings_known : SettlingLaws
 settlings_known = record {
@@ -63,6 +67,7 @@ settlings_known = record {
   once = sources_are_settled_once;
   own = touched_are_own;
   apart = touched_are_apart;
+  lists = lists_known;
 }
 
 pub commits_known : CommittingLaws
@@ -98,4 +103,5 @@ beginnings_known = record {
   over = installed_lists_are_run_input;
   alone = opened_lists_are_alone;
   read = lists_are_read;
+  lists = lists_known;
 }

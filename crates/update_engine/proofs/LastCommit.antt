@@ -7,7 +7,7 @@ use Rattle.std.proofs.lemmas.List.Elements.{Contains-append_left}
 use Rattle.acq_base.specs.declared.plan.Source.{Source}
 use Rattle.acq_outside.specs.Crash.{State}
 use Rattle.acq_outside.specs.Disk.{IsName}
-use Rattle.acq_outside.specs.States.{IsNow}
+use Rattle.acq_outside.specs.States.{IsNow, IsTold}
 use Rattle.board_model.specs.Boards.{Board, is_finished, log_of}
 use Rattle.board_model.specs.Runs.{Note}
 use Rattle.board_model.specs.Slots.{Setup}
@@ -150,21 +150,25 @@ staged_last laws together b c old now groups later cleanup verdicts loose stands
 none_removed : (cleanup : Bool) (verdicts : List Verdict2) (loose : List (List ℕ)) → cleans cleanup verdicts ≡ false → removed_names (names_of_group (names_to_remove cleanup verdicts loose)) ≡ []
 none_removed cleanup verdicts loose e = ap (λ (t : Bool). removed_names (names_of_group (if t then some_names loose else None))) e
 
-pub ends_last : (together : Bool) (b c : Board) (old now : List State) (groups : List (List Change)) (cleanup : Bool) (loose : List (List ℕ)) (log : RunLog) → LeavesUncommitted together b c old now groups → is_finished c ≡ true
+pub ends_last : (together : Bool) (b c : Board) (old now : List State) (groups : List (List Change)) (cleanup : Bool) (loose : List (List ℕ)) (log : RunLog) → (IsTold old → IsTold now) → LeavesUncommitted together b c old now groups → is_finished c ≡ true
     → log ≡ with_removed (log_of c) (names_to_remove cleanup (log_of c).verdicts loose) → EndsWithLog cleanup b old log
-ends_last together b c old now groups cleanup loose log leaves finished is = subst (EndsWithLog cleanup b old) (sym is) (λ start notes sound switch under.
+ends_last together b c old now groups cleanup loose log on leaves finished is = subst (EndsWithLog cleanup b old) (sym is) (λ start notes sound switch under.
     let l = leaves start notes sound under in
     record {
-      board = c;
-      reached = l.under_way.heard.reached;
-      finished = finished;
-      verdicts = refl;
-      order = refl;
-      asks = refl;
-      kept = λ none. none_removed cleanup c.verdicts loose (subst (λ (t : Bool). cleans t c.verdicts ≡ false) switch none);
+      olds = l.under_way.heard.olds;
+      same = λ told. l.under_way.heard.same (on told);
+      of_board = record {
+        board = c;
+        reached = l.under_way.heard.reached;
+        finished = finished;
+        verdicts = refl;
+        order = refl;
+        asks = refl;
+        kept = λ none. none_removed cleanup c.verdicts loose (subst (λ (t : Bool). cleans t c.verdicts ≡ false) switch none);
+      };
     })
 
-pub ends_told : (together : Bool) (b c : Board) (old now : List State) (groups : List (List Change)) (cleanup : Bool) (loose : List (List ℕ)) (first log : RunLog) → LeavesUncommitted together b c old now groups → is_finished c ≡ true → first ≡ log_of c
+pub ends_told : (together : Bool) (b c : Board) (old now : List State) (groups : List (List Change)) (cleanup : Bool) (loose : List (List ℕ)) (first log : RunLog) → (IsTold old → IsTold now) → LeavesUncommitted together b c old now groups → is_finished c ≡ true → first ≡ log_of c
     → log ≡ with_removed first (names_to_remove cleanup first.verdicts loose) → EndsWithLog cleanup b old log
-ends_told together b c old now groups cleanup loose first log leaves finished told is =
-    ends_last together b c old now groups cleanup loose log leaves finished (subst (λ (l : RunLog). log ≡ with_removed l (names_to_remove cleanup l.verdicts loose)) told is)
+ends_told together b c old now groups cleanup loose first log on leaves finished told is =
+    ends_last together b c old now groups cleanup loose log on leaves finished (subst (λ (l : RunLog). log ≡ with_removed l (names_to_remove cleanup l.verdicts loose)) told is)

@@ -2,12 +2,12 @@
 use Rattle.std.proofs.Common.{◌≡◌, refl, ap, arith, ℕ, Bool, true, false, List, [], ◌∷◌, ◌++◌, Option, Some, None}
 use Rattle.std.specs.Prelude.{filter, if◌then◌else◌}
 use Rattle.std.specs.List.{AllByRecursion as Each}
-use Rattle.acq_outside.specs.Crash.{State}
-use Rattle.acq_outside.specs.States.{IsTold, Since}
+use Rattle.acq_outside.specs.States.{IsTold}
 use Rattle.acq_base.specs.Mirror.{MirrorMap}
 use Rattle.board_model.specs.Agreeing.{Agrees}
 use Rattle.run_jobs.specs.Mirrors.{ForMirror}
 use Rattle.run_jobs.proofs.Agreed.{agrees_told}
+pub use Rattle.run_jobs.proofs.Keeping.{told_on}
 use Rattle.run_jobs.specs.Running.{AgreesWhereKnown}
 use Rattle.acq_outside.specs.Count.{NoneFell}
 use Rattle.update_engine.specs.Run.{Engine, LogIsTrue, Run}
@@ -55,12 +55,3 @@ answers_told run before after log logged told = by before.mirrors logged.answers
     by [] answers = tt
     by (None ∷ others) answers = tt
     by (Some mirror ∷ others) answers = λ same. agrees_told after.trace mirror logged.begun.parts logged.begun.config.sources logged.heard told (answers same)
-
--- a disk that told once still does
-pub told_on : (P : State → Type 0) (old now : List State) → Since old now P → IsTold old → IsTold now
-told_on P [] now since told = absurd told
-told_on P (s ∷ past) now since told = by since.states since.joined
-  where
-    by : (states : List State) → now ≡ states ++ s ∷ past → IsTold now
-    by [] joined = rw joined tt
-    by (t ∷ states) joined = rw joined tt

@@ -15,14 +15,15 @@ use Rattle.acq_base.specs.declared.uri.ListName.{ListName}
 use Rattle.acq_base.proofs.Lists.{first-or-rest}
 use Rattle.acq_outside.specs.Crash.{IsShown, State, reads}
 use Rattle.acq_outside.specs.Disk.{Files}
-use Rattle.acq_outside.specs.States.{IsTold, ToldAs}
+use Rattle.acq_outside.specs.States.{IsNow, IsTold, ToldAs}
 use Rattle.board_model.specs.Boards.{Board, first_board}
 use Rattle.board_model.specs.Keys.{named}
+use Rattle.board_model.specs.ReadAnew.{StandsOn}
 use Rattle.board_model.specs.Slots.{Setup}
 use Rattle.board_model.specs.Uses.{wanted_part, use_from}
 use Rattle.journal_model.specs.Reopen.{installed_now}
 use Rattle.journal_model.specs.Rest.{IsAtRest, part_bytes, size_below}
-use Rattle.lists_dir.specs.Installed.{installed_of, listed, lists_of}
+use Rattle.lists_dir.specs.Installed.{installed_of}
 use Rattle.release_file.specs.declared.changing.Change.{Change}
 use Rattle.run_jobs.specs.Coupling.{HasWantedPart, HasWantedParts}
 use Rattle.run_jobs.specs.Running.{AgreesWhereKnown, RunStart}
@@ -37,6 +38,7 @@ use Rattle.board_model.proofs.Making.{none-in}
 use Rattle.list_commits.proofs.Apart.{here, there}
 use Rattle.run_model.proofs.Loose.{among}
 use Rattle.run_jobs.proofs.Keeping.{falls_holds}
+use Rattle.run_jobs.proofs.Lists.{HasLists, installed_alike}
 use Rattle.run_jobs.proofs.Rising.{for_any, none_told}
 use Rattle.update_engine.proofs.Known.{BeginningLaws}
 use Rattle.update_engine.specs.Reading.{size_of, sizes_in, sizes_of}
@@ -153,32 +155,32 @@ unfolding parts_at
 parts_are_read [] sizes name told read = absurd told
 parts_are_read (s ∷ past) sizes name told read = ap (λ (n : ℕ). take n (part_bytes (s ∷ past) name)) read
 
-lists_alike : (targets : List Target) (lists files : Files) → Each (λ name. files name ≡ lists name) (map (λ (t : Target). t.name.0) targets) → lists_of files targets ≡ lists_of lists targets
-lists_alike [] lists files alike = refl
-lists_alike (t ∷ targets) lists files alike =
-    ap (λ (o : Option (List ℕ)). listed t o ++ lists_of files targets) alike.0
-    ∙ ap (λ (xs : List (ListName × List ℕ)). listed t (lists t.name.0) ++ xs) (lists_alike targets lists files alike.1)
-
-installed_alike : (source : Source) (lists files : Files) → Keeps source lists files → installed_of files source ≡ installed_of lists source
-installed_alike source lists files alike =
-    ap (λ (o : Option (List ℕ)). record { release = o; lists = lists_of files source.targets }) alike.0
-    ∙ ap (λ (xs : List (ListName × List ℕ)). record { release = lists source.release_name.0; lists = xs }) (lists_alike source.targets lists files alike.1)
-
 all_alike : (sources : List Source) (lists files : Files) → All IsPlanned sources → ((source : Source) → IsPlanned source → Keeps source lists files) → map (installed_of files) sources ≡ map (installed_of lists) sources
 all_alike [] lists files planned alike = refl
 all_alike (s ∷ sources) lists files planned alike =
     ap (λ (o : Old). o ∷ map (installed_of files) sources) (installed_alike s lists files (alike s (All-head IsPlanned s sources planned)))
     ∙ ap (λ (os : List Old). installed_of lists s ∷ os) (all_alike sources lists files (All-tail IsPlanned s sources planned) alike)
 
--- over a disk at rest, what was read of its files is what its lists have
-pub olds_are_read : BeginningLaws → (tells : Bool) (files : Files) (now : List State) (olds : List Old) (sources sources' : List Source) → All IsPlanned sources → IsShown tells files now → sources' ≡ sources
-    → (IsTrue tells → olds ≡ map (installed_of files) sources') → (lists : Files) → ToldAs (IsAtRest lists) now → olds ≡ map (installed_of lists) sources
-olds_are_read laws tells files [] olds sources sources' planned shown same read lists rest = absurd rest
-olds_are_read laws tells files (s ∷ past) olds sources sources' planned shown same read lists rest =
+-- what was read of its files is what reads give, where the disk tells
+pub olds_are_seen : (tells : Bool) (files : Files) (now : List State) (olds : List Old) (sources sources' : List Source) → IsShown tells files now → sources' ≡ sources → (IsTrue tells → olds ≡ map (installed_of files) sources')
+    → IsNow (λ s. olds ≡ map (installed_of (reads s)) sources) now
+olds_are_seen tells files [] olds sources sources' shown same read = tt
+olds_are_seen tells files (s ∷ past) olds sources sources' shown same read =
     read shown.0
     ∙ ap (map (installed_of files)) same
     ∙ ap (λ (f : Files). map (installed_of f) sources) shown.1
-    ∙ all_alike sources lists (reads s) planned (λ source is. laws.read source lists s is rest)
+
+-- and over a disk at rest, what its lists have
+olds_are_read : BeginningLaws → (now : List State) (olds : List Old) (sources : List Source) → All IsPlanned sources → IsNow (λ s. olds ≡ map (installed_of (reads s)) sources) now → (lists : Files) → ToldAs (IsAtRest lists) now
+    → olds ≡ map (installed_of lists) sources
+olds_are_read laws [] olds sources planned seen lists rest = absurd rest
+olds_are_read laws (s ∷ past) olds sources planned seen lists rest = seen ∙ all_alike sources lists (reads s) planned (λ source is. laws.read source lists s is rest)
+
+-- so a new board knows what the disk has
+lists_at_first : BeginningLaws → (config : Setup) (olds : List Old) (lanes : ℕ) (now : List State) → IsNow (λ s. olds ≡ map (installed_of (reads s)) config.sources) now → HasLists (first_board config olds lanes) now
+lists_at_first laws config olds lanes [] seen = tt
+lists_at_first laws config olds lanes (s ∷ past) seen =
+    subst (λ (os : List Old). StandsOn (installed_of (reads s)) (first_board config os lanes)) (sym seen) (laws.lists.at_first (installed_of (reads s)) config lanes)
 
 -- ---- no job is out
 
@@ -201,8 +203,8 @@ none_is_out start pool lanes b now new none = record {
 -- ---- it begins
 
 pub starts : BeginningLaws → (plan : Plan) (settings : Settings) (change : Change) (moment : ℤ) (together : Bool) (olds : List Old) (sizes : List (ListName × ℕ)) (lanes : ℕ) (now : List State) (b : Board) → IsSound plan → 1 ≤ lanes → All IsPlanned plan.sources
-    → length olds ≡ length plan.sources → ((lists : Files) → ToldAs (IsAtRest lists) now → olds ≡ map (installed_of lists) plan.sources) → (IsTold now → sizes ≡ sizes_of now plan.sources) → b ≡ first_board (config_for plan sizes settings change moment) olds lanes → StartsRun (run_of plan settings change moment together) lanes now b
-starts laws plan settings change moment together olds sizes lanes now b sound some planned each wanted_part read is = subst (StartsRun (run_of plan settings change moment together) lanes now) (sym is) (λ pool new. started pool new)
+    → length olds ≡ length plan.sources → IsNow (λ s. olds ≡ map (installed_of (reads s)) plan.sources) now → (IsTold now → sizes ≡ sizes_of now plan.sources) → b ≡ first_board (config_for plan sizes settings change moment) olds lanes → StartsRun (run_of plan settings change moment together) lanes now b
+starts laws plan settings change moment together olds sizes lanes now b sound some planned each seen read is = subst (StartsRun (run_of plan settings change moment together) lanes now) (sym is) (λ pool new. started pool new)
   where
     config : Setup
     config = config_for plan sizes settings change moment
@@ -213,17 +215,20 @@ starts laws plan settings change moment together olds sizes lanes now b sound so
     long : (name : List ℕ) → config.sizes name ≡ length (parts_at now config.sizes name)
     long name = sym (parts_long now config.sizes name (λ told. within told name))
 
+    old_lists : (lists : Files) → ToldAs (IsAtRest lists) now → olds ≡ map (installed_of lists) plan.sources
+    old_lists = olds_are_read laws now olds plan.sources planned seen
+
     told_at : (lists : Files) (now : List State) → ToldAs (IsAtRest lists) now → IsTold now
     told_at lists [] rest = absurd rest
     told_at lists (s ∷ past) rest = tt
 
     begins : (entry : List State) → ToldAs (IsAtRest (installed_now entry)) now → IsReadFromDisk entry now (record { config = config; olds = olds; parts = parts_at now config.sizes })
     begins entry rest = record {
-      olds = wanted_part (installed_now entry) rest;
+      olds = old_lists (installed_now entry) rest;
       begins = record {
         planned = planned;
         apart = sound.distinct;
-        over = laws.over config olds (installed_now entry) (parts_at now config.sizes) (wanted_part (installed_now entry) rest) long;
+        over = laws.over config olds (installed_now entry) (parts_at now config.sizes) (old_lists (installed_now entry) rest) long;
         alone = laws.alone entry;
       };
       parts = λ name is. let told : IsTold now = told_at (installed_now entry) now rest in
@@ -242,11 +247,14 @@ starts laws plan settings change moment together olds sizes lanes now b sound so
         under_way = record {
           heard = record {
             config = refl;
+            olds = olds;
+            same = λ told. refl;
             reached = laws.reached config olds lanes each some;
             sound = tt;
             answers = for_any pool.worlds (λ mirror. AgreesWhereKnown now mirror (parts_at now config.sizes) plan.sources []) (λ mirror. tt);
           };
           uses = uses_at_first laws config olds lanes now within;
+          lists = lists_at_first laws config olds lanes now seen;
         };
         counted = record { sized = refl; faults = none_told pool.counts };
         methods = record { worlds = refl; mirrors = new.worlds; outs = new.outs; some = new.some };

@@ -6,9 +6,10 @@ use Rattle.std.proofs.lemmas.Bool.{cases_Bool}
 use Rattle.acq_base.specs.Plan.{IsPlanned}
 use Rattle.acq_base.specs.declared.installed.Old.{Old}
 use Rattle.acq_base.specs.declared.plan.Source.{Source}
-use Rattle.acq_outside.specs.Crash.{State}
+use Rattle.acq_outside.specs.Crash.{State, reads}
 use Rattle.board_model.specs.Boards.{Asker, Board, first_ready, settled_as, settled_of}
 use Rattle.board_model.specs.CallLaws.{AreOnce}
+use Rattle.board_model.specs.ReadAnew.{StandsOn}
 use Rattle.board_model.specs.Reached.{Reached}
 use Rattle.board_model.specs.Runs.{Note}
 use Rattle.board_model.specs.Settling.{settled_in}
@@ -21,6 +22,7 @@ use Rattle.board_model.specs.Stands.{AllStand, IsOpen, SourceStands, StandsAt, h
 use Rattle.board_model.specs.Uses.{wanted_part}
 use Rattle.host_queues.specs.Lanes.{changed_at}
 use Rattle.list_commits.specs.SetLaws.{OwnsChanges}
+use Rattle.lists_dir.specs.Installed.{installed_of}
 use Rattle.run_jobs.specs.Coupling.{HasWantedParts}
 use Rattle.run_jobs.specs.Running.{RunStart, RunHasHeard, IsUnderWay}
 use Rattle.run_model.specs.Runs.{is_installed, is_told_installed}
@@ -32,6 +34,7 @@ use Rattle.board_model.proofs.Resting.{olds-there}
 use Rattle.board_model.proofs.Events.{ready-slot}
 use Rattle.board_model.proofs.Agreement.{come-open}
 use Rattle.run_jobs.proofs.Keeping.{falls_holds}
+use Rattle.run_jobs.proofs.Lists.{HasLists, now_map}
 use Rattle.update_engine.proofs.Known.{SettlingLaws}
 use Rattle.update_engine.specs.Session.{HasSettled, OnlySettles, installed_in}
 use Rattle.update_engine.proofs.Lists.{each_more, filter_last, filter_same}
@@ -92,11 +95,18 @@ owns below config notes b n source slot settled at comes planned = record {
 pub uses_settled : SettlingLaws → (b : Board) (n : ℕ) (verdict : Verdict2) (first : List ℕ → List ℕ) (now : List State) → HasWantedParts (wanted_part b) first now → HasWantedParts (wanted_part (settled_as b n verdict)) first now
 uses_settled below b n verdict first now uses = record { each = λ name told. falls_holds (wanted_part b name) (wanted_part (settled_as b n verdict) name) name (first name) now (below.rest b n verdict name) (uses.each name told) }
 
+-- and where its other sources' Releases are asked for, the disk has what it knows as installed
+pub lists_settled : SettlingLaws → (b : Board) (n : ℕ) (verdict : Verdict2) (now : List State) → HasLists b now → HasLists (settled_as b n verdict) now
+lists_settled below b n verdict now has =
+    now_map (λ s. StandsOn (installed_of (reads s)) b) (λ s. StandsOn (installed_of (reads s)) (settled_as b n verdict)) now (λ s. below.lists.after_settled (installed_of (reads s)) b n verdict) has
+
 pub heard_settled : SettlingLaws → (start : RunStart) (notes : List Note) (b : Board) (n : ℕ) (settled : Settled) (now : List State) → first_ready b.slots ≡ Some n → settled_of b n ≡ Some settled
     → RunHasHeard start notes b now → RunHasHeard start notes (settled_as b n settled.verdict) now
 heard_settled below start notes b n settled now ready comes heard = record {
   config = heard.config;
-  reached = below.reached start.config start.olds notes b n settled heard.reached ready comes;
+  olds = heard.olds;
+  same = heard.same;
+  reached = below.reached start.config heard.olds notes b n settled heard.reached ready comes;
   sound = heard.sound;
   answers = heard.answers;
 }
@@ -106,6 +116,7 @@ pub under_settled : SettlingLaws → (start : RunStart) (notes : List Note) (b :
 under_settled below start notes b n settled now ready comes under = record {
   heard = heard_settled below start notes b n settled now ready comes under.heard;
   uses = uses_settled below b n settled.verdict start.parts now under.uses;
+  lists = lists_settled below b n settled.verdict now under.lists;
 }
 
 -- ---- what it tells as installed

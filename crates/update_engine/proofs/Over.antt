@@ -4,6 +4,7 @@ use Rattle.std.proofs.lemmas.List.{length-map}
 use Rattle.std.specs.Prelude.{IfOk, IsErrAnd, filter, is_some, slice_get}
 use Rattle.std.specs.List.{list_any}
 use Rattle.acq_base.specs.Mirror.{MirrorMap}
+use Rattle.acq_base.specs.declared.installed.Old.{Old}
 use Rattle.acq_base.specs.declared.settings.Settings.{Settings}
 use Rattle.acq_outside.specs.Count.{NoneFell}
 use Rattle.acq_outside.specs.Crash.{IsShown, State, reads}
@@ -26,7 +27,7 @@ use Rattle.run_jobs.specs.Mirrors.{ForMirror}
 use Rattle.run_jobs.specs.Counting.{FaultsRise}
 use Rattle.run_jobs.specs.declared.error.RunError.{RunError}
 use Rattle.run_jobs.specs.declared.error.RunError.TheVariants.{BadJournal, NoMemory}
-use Rattle.run_jobs.proofs.Agreed.{heard_on, run_agrees}
+use Rattle.run_jobs.proofs.Agreed.{heard_on, reached_told, run_agrees}
 use Rattle.run_jobs.proofs.Rising.{faults_more, for_any}
 use Rattle.run_jobs.specs.Running.{AgreesWhereKnown, RunStart, IsSoundBegun}
 use Rattle.run_model.specs.Begun.{RunInput}
@@ -40,8 +41,8 @@ use Rattle.lane_pool.proofs.Rows.{none_fell_trans}
 use Rattle.lane_jobs.specs.Going.{IsRunningOver, KeepsLanes, MayAskOver, run_lanes}
 use Rattle.lane_jobs.specs.JobsOut.{JobsOut, none_out}
 use Rattle.update_engine.proofs.Known.{CommittingLaws}
-use Rattle.update_engine.specs.Run.{Engine, RunFindsDamage, HasFinished, HasOpenedJournal, IsLogOfBoard, IsReadFromDisk, KeepsMethods, LogIsTrue, Run, RunsBetween, SurvivesCrash, StopsAmongCommits, StopsForMemory}
-use Rattle.update_engine.specs.Session.{EndsWithLog, CommitsAll, RunGoesOn, RunGoesOnWith, RunsOverLists, HasCommittedBeside, HasCommittedSets, HasCommittedAll, IsNewPool, IsNewRun, HasProgress, MayCommit, StartsRun, StopsWhileAsking, StopsWhileEnding, begun_of}
+use Rattle.update_engine.specs.Run.{Engine, RunFindsDamage, HasFinished, HasOpenedJournal, IsReadFromDisk, KeepsMethods, LogIsTrue, Run, RunsBetween, SurvivesCrash, StopsAmongCommits, StopsForMemory}
+use Rattle.update_engine.specs.Session.{EndsWithLog, CommitsAll, RunGoesOn, RunGoesOnWith, RunsOverLists, HasCommittedBeside, HasCommittedSets, HasCommittedAll, IsNewPool, IsNewRun, HasProgress, MayCommit, StartsRun, StopsWhileAsking, StopsWhileEnding, TellsOfBoard, begun_beside, begun_of}
 use Rattle.update_engine.proofs.Committing.{settled_made}
 use Rattle.update_engine.proofs.Beside.{aside_none, aside_quiet}
 use Rattle.update_engine.proofs.Lists.{none_fall, told_on}
@@ -218,7 +219,7 @@ at_asking laws error true pool jobs start lists opened now b sound running told 
       started = 0;
       progress = laws.made [] opened now made;
       whole = λ dry. refl;
-      has = record { heard = []; board = b; reached = running.under_way.heard.reached; groups = tt; may = inl refl; in_turn = tt; shape = (omega arith, tt) };
+      has = record { heard = []; board = b; reached = reached_told start [] b opened running.under_way.heard told; groups = tt; may = inl refl; in_turn = tt; shape = (omega arith, tt) };
       agrees = λ told_now. for_any start.mirrors (λ (w : MirrorMap). Agrees w start.parts start.config.sources []) (λ w. tt);
       synced = λ rest. settled_made laws [] lists opened now made rest;
     }
@@ -328,16 +329,18 @@ pub logged : CommittingLaws → (run : Run) (pool later : Pool) (lanes : ℕ) (j
 logged laws run pool later lanes jobs out entry opened mid now b c cleanup log ready_at a told back switch ended ends asks =
     let h : IsNewRun run pool lanes opened b = begins_new a in
     let w : RunGoesOnWith h.start [] (run_lanes pool jobs b) (run_lanes later out c) opened mid = heard_more a h in
-    let tells : IsLogOfBoard (begun_of h.start) ([] ++ w.more) log = ends h.start ([] ++ w.more) h.sound (cleanup_is run pool lanes opened b cleanup h switch) w.running.under_way in
+    let tells : TellsOfBoard h.start ([] ++ w.more) mid log = ends h.start ([] ++ w.more) h.sound (cleanup_is run pool lanes opened b cleanup h switch) w.running.under_way in
     record {
-      begun = begun_of h.start;
-      of_run = h.of_run;
+      begun = begun_beside h.start tells.olds;
+      of_run = record { sources = h.of_run.sources; settings = h.of_run.settings; change = h.of_run.change; moment = h.of_run.moment; sizes = h.of_run.sizes };
       heard = [] ++ w.more;
-      tells = tells;
+      tells = tells.of_board;
       answers = subst (λ (told : List (Option MirrorMap)). ForMirror told (λ (m : MirrorMap). AgreesWhereKnown now m h.start.parts h.start.config.sources ([] ++ w.more))) h.from
           (heard_on mid now h.start.mirrors h.start.parts h.start.config.sources ([] ++ w.more) back w.running.under_way.heard.answers);
       faults = faults_told run pool later lanes jobs out opened mid b c log a asks;
-      commits = λ settled. finished h w (ready_at settled) (told (was_told IsSynced entry settled));
+      commits = λ settled.
+          let still : IsTold now = told (was_told IsSynced entry settled) in
+          subst (λ (olds : List Old). HasFinished run (begun_beside h.start olds) ([] ++ w.more) entry now log) (sym (tells.same (back still))) (finished h w (ready_at settled) still);
     }
   where
     finished : (h : IsNewRun run pool lanes opened b) (w : RunGoesOnWith h.start [] (run_lanes pool jobs b) (run_lanes later out c) opened mid) → IsOpen entry opened → IsTold now → HasFinished run (begun_of h.start) ([] ++ w.more) entry now log
@@ -363,8 +366,8 @@ pub verdicts_told : (run : Run) (pool later : Pool) (lanes : ℕ) (jobs out : Jo
 verdicts_told run pool later lanes jobs out opened mid b c cleanup log a switch ends =
     let h : IsNewRun run pool lanes opened b = begins_new a in
     let w : RunGoesOnWith h.start [] (run_lanes pool jobs b) (run_lanes later out c) opened mid = heard_more a h in
-    let tells : IsLogOfBoard (begun_of h.start) ([] ++ w.more) log = ends h.start ([] ++ w.more) h.sound (cleanup_is run pool lanes opened b cleanup h switch) w.running.under_way in
-    ap length tells.verdicts ∙ (verdicts_count h.start.config h.start.olds ([] ++ w.more) tells.board tells.reached ∙ ap length h.of_run.sources)
+    let tells : TellsOfBoard h.start ([] ++ w.more) mid log = ends h.start ([] ++ w.more) h.sound (cleanup_is run pool lanes opened b cleanup h switch) w.running.under_way in
+    ap length tells.of_board.verdicts ∙ (verdicts_count h.start.config tells.olds ([] ++ w.more) tells.of_board.board tells.of_board.reached ∙ ap length h.of_run.sources)
 
 -- ---- the methods
 

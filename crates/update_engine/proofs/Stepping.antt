@@ -172,7 +172,7 @@ at_moment laws error start notes lists opened b old now heard back sets = record
   started = length (commits_of sets.commits);
   progress = laws.made (commits_of sets.commits) opened now sets.made;
   whole = λ dry. refl;
-  has = has_begun start notes b old lists sets.commits heard sets.each sets.groups sets.order;
+  has = has_begun start notes b old lists sets.commits heard (back sets.told) sets.each sets.groups sets.order;
   agrees = λ told. run_agrees start notes old heard (back told);
   synced = λ rest. settled_made laws (commits_of sets.commits) lists opened now sets.made rest;
 }

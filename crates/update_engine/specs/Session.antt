@@ -1,6 +1,7 @@
 -- A run between two of its steps, with the commits that it has made.
 use Rattle.std.specs.Prelude.{◌≡◌, ◌≢◌, ◌⊎◌, ◌<◌, ◌&&◌, ℕ, suc, length, Bool, true, false, not, if◌then◌else◌, Contains, List, [], ◌∷◌, ◌++◌, filter, map, slice_get, Option, Some, None}
 use Rattle.std.specs.List.{AllByRecursion as Each, list_all}
+use Rattle.acq_base.specs.declared.installed.Old.{Old}
 use Rattle.acq_base.specs.declared.plan.Source.{Source}
 use Rattle.acq_outside.specs.Crash.{State, reads}
 use Rattle.acq_outside.specs.Disk.{Files}
@@ -158,11 +159,11 @@ pub record NewSource : Type 0 where
   pub source : Source
   pub settled : Settled
 
--- It came to it on a board to which the run's calls led. Its changes are its own, and what is put from its way is there, of
+-- It came to it on a board to which the run's calls led, where the disk tells. Its changes are its own, and what is put from its way is there, of
 -- its sum, and lasts.
 pub record IsNewSource (start : RunStart) (notes : List Note) (now : List State) (p : NewSource) : Type 0 where
   pub source_is : slice_get start.config.sources p.n ≡ Some p.source
-  pub settles : CameToOnBoard (begun_of start) notes p.n p.settled
+  pub settles : IsTold now → CameToOnBoard (begun_of start) notes p.n p.settled
   pub held : Held
   pub installs : p.settled.verdict ≡ Installed held
   pub put : HasPutNames p.source
@@ -280,10 +281,20 @@ CommitsAll together cleanup b old now log =
     (start : RunStart) (notes : List Note) (lists : Files) (opened : List State) → start.config.settings.cleanup ≡ cleanup
     → RunsOverLists together start notes lists opened old b → HasCommittedAll together start notes lists opened old now log
 
--- the log is that of the board of each run that is under way, which is finished, with what the clean-up removed
+-- with what a run begins, but for what is installed
+abbrev pub begun_beside : RunStart → List Old → RunInput
+begun_beside start olds = record { config = start.config; olds = olds; parts = start.parts }
+
+-- The log is that of the board of a run, beside what was installed, which is what the run began with where the disk told.
+pub record TellsOfBoard (start : RunStart) (notes : List Note) (old : List State) (log : RunLog) : Type 0 where
+  pub olds : List Old
+  pub same : IsTold old → olds ≡ start.olds
+  pub of_board : IsLogOfBoard (begun_beside start olds) notes log
+
+-- so it is of each run that is under way, whose board is finished, with what the clean-up removed
 abbrev pub EndsWithLog : Bool → Board → List State → RunLog → Type 0
 EndsWithLog cleanup b old log =
-    (start : RunStart) (notes : List Note) → IsSoundBegun start → start.config.settings.cleanup ≡ cleanup → IsUnderWay start notes b old → IsLogOfBoard (begun_of start) notes log
+    (start : RunStart) (notes : List Note) → IsSoundBegun start → start.config.settings.cleanup ≡ cleanup → IsUnderWay start notes b old → TellsOfBoard start notes old log
 
 -- ---- the beginning
 

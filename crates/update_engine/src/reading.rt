@@ -1,38 +1,15 @@
-//! What a run reads before it asks: what is installed, and from where lists on their way may be resumed.
-ghost use Rattle.std.specs.Prelude.{◌≡◌, ◌++◌, ◌∷◌, [], All, IfOk, IsTrue, OnOk, length, map};
+//! What a run reads before it asks, beside what is installed: from where lists on their way may be resumed.
+ghost use Rattle.std.specs.Prelude.{◌≡◌, ◌++◌, ◌∷◌, [], All, IfOk, OnOk, map};
 ghost use Rattle.acq_base.specs.Plan.{IsPlanned};
 ghost use Rattle.acq_outside.specs.States.{IsTold};
 ghost use Rattle.acq_outside.specs.Stays.{ReadsCounting};
 ghost use Rattle.journal_model.specs.Names.{IsPutName};
-ghost use Rattle.lists_dir.specs.Installed.{installed_of};
 ghost use Rattle.update_engine.specs.Reading.{size_of, sizes_in, sizes_of};
 
-use acq_base::{ListName, Old, Row, Source, Target, TryCopy};
+use acq_base::{ListName, Row, Source, Target, TryCopy};
 use acq_outside::{Disk, OutError};
-use lists_dir::installed;
 use partial_store::resume_from;
 use std::alloc::Global;
-
-/// What is installed of each of these sources, which are those of a sound plan.
-///
-/// `Fault` only where the disk's count of faults rose.
-pub fn read_installed<D: Disk>(
-    alloc: Global,
-    disk: &mut D,
-    sources: &[Source],
-) -> Result<Row<Old>, OutError>
-    requires { All IsPlanned sources.now }
-    ensures frame { ReadsCounting OutError.Fault D.Disk disk.old disk.new result }
-    ensures each { IfOk result (λ olds. length olds ≡ length sources.now) }
-    ensures told { IsTrue (D.tells disk.old) → IfOk result (λ olds. olds ≡ map (installed_of (D.files disk.old)) sources.now) }
-{
-    let mut olds = Row::new(alloc);
-    for source in sources {
-        let old = installed(alloc, disk, source)?;
-        olds.push(old)?;
-    }
-    Ok(olds)
-}
 
 /// Adds from which byte the list of a target may be resumed.
 fn read_size<D: Disk>(

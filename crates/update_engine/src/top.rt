@@ -28,7 +28,11 @@ use update_model::RunLog;
 /// The plan is sound, and there are 1 to 9 methods. `now` is the moment of the run in seconds since 1970-01-01 00:00:00 UTC.
 /// `DiskFault` only where the disk's count of faults rose; `BadJournal` just where an opening of the journal tells it, and
 /// then no file has changed.
-pub fn run_update<R: Threads + Wait + Copy + Send + 'static, D: Disk, M: Method + Send + 'static>(
+pub fn run_update<
+    R: Threads + Wait + Copy + Send + Sync + 'static,
+    D: Disk,
+    M: Method + Send + 'static,
+>(
     rt: &R,
     alloc: Global,
     plan: Plan,
@@ -59,15 +63,16 @@ pub fn run_update<R: Threads + Wait + Copy + Send + 'static, D: Disk, M: Method 
         disk,
         &mut lanes,
         workers.max(1),
+        workers as usize,
         judge,
     );
     *methods = lanes.finish(rt);
     result
 }
 
-/// Does so over lanes on which nothing was asked yet, with so many queues of hosts.
+/// Does so over lanes on which nothing was asked yet, with so many queues of hosts and so many workers.
 #[tactic(auto, using(crate::proofs::Stepping::lanes_stay))]
-fn run_over<R: Wait, D: Disk, M: Method + Send + 'static>(
+fn run_over<R: Threads + Wait + Sync, D: Disk, M: Method + Send + 'static>(
     rt: &R,
     alloc: Global,
     plan: Plan,
@@ -77,6 +82,7 @@ fn run_over<R: Wait, D: Disk, M: Method + Send + 'static>(
     disk: &mut D,
     lanes: &mut Lanes<M>,
     queues: u32,
+    workers: usize,
     judge: &Judge,
 ) -> Result<RunLog, RunError>
     requires plan { IsSound plan }
@@ -91,7 +97,17 @@ fn run_over<R: Wait, D: Disk, M: Method + Send + 'static>(
 {
     let cleanup = settings.cleanup;
     let mut journal = open_journal(alloc, disk)?;
-    let mut board = begin_run(alloc, disk, plan, settings, judge.change, now, queues)?;
+    let mut board = begin_run(
+        rt,
+        alloc,
+        disk,
+        plan,
+        settings,
+        judge.change,
+        now,
+        queues,
+        workers,
+    )?;
     let mut jobs = Transfers::new(alloc, queues)?;
     ask_until_done(
         rt,

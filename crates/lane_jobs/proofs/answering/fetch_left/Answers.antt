@@ -1,5 +1,6 @@
 use Rattle.board_model.proofs.Theorems.{jobs_always_stand}
 use Rattle.job_fetch.specs.Hearing.{name_of}
+use Rattle.lane_jobs.proofs.Anew.{same_taken}
 use Rattle.lane_jobs.proofs.Begun.{none_told, own_told}
 use Rattle.lane_jobs.proofs.Changes.{change_moments, change_whole, none_taken, taken_there}
 use Rattle.lane_jobs.proofs.Known.{known}
@@ -60,27 +61,31 @@ pub returns-in_err-closed-clause-others : goal.returns-in_err-closed-clause-othe
 returns-in_err-closed-clause-others g c = change_whole (name_of c.in_ok-first.first) (g.D.Disk.trace c.args.disk.now) (g.D.Disk.trace c.fetch_own.new.disk) c.fetch_own.ensures.changes
 
 pub returns-in_err-absorb-clause-moments : goal.returns-in_err-absorb-clause-moments
-returns-in_err-absorb-clause-moments g c = change_moments (name_of c.in_ok-first.first) _ _ c.fetch_own.ensures.changes
+returns-in_err-absorb-clause-moments g c = rw c.absorb.ensures.frame.still (change_moments (name_of c.in_ok-first.first) (g.D.Disk.trace c.args.disk.now) (g.D.Disk.trace c.fetch_own.new.disk) c.fetch_own.ensures.changes)
 
 pub returns-in_err-absorb-clause-others : goal.returns-in_err-absorb-clause-others
-returns-in_err-absorb-clause-others g c = change_whole (name_of c.in_ok-first.first) (g.D.Disk.trace c.args.disk.now) (g.D.Disk.trace c.fetch_own.new.disk) c.fetch_own.ensures.changes
+returns-in_err-absorb-clause-others g c = rw c.absorb.ensures.frame.still (change_whole (name_of c.in_ok-first.first) (g.D.Disk.trace c.args.disk.now) (g.D.Disk.trace c.fetch_own.new.disk) c.fetch_own.ensures.changes)
 
 pub returns-clause-moments : goal.returns-clause-moments
-returns-clause-moments g c = change_moments (name_of c.in_ok-first.first) _ _ c.fetch_own.ensures.changes
+returns-clause-moments g c = rw c.absorb.ensures.frame.still (change_moments (name_of c.in_ok-first.first) (g.D.Disk.trace c.args.disk.now) (g.D.Disk.trace c.fetch_own.new.disk) c.fetch_own.ensures.changes)
 
 pub returns-clause-others : goal.returns-clause-others
-returns-clause-others g c = change_whole (name_of c.in_ok-first.first) (g.D.Disk.trace c.args.disk.now) (g.D.Disk.trace c.fetch_own.new.disk) c.fetch_own.ensures.changes
+returns-clause-others g c = rw c.absorb.ensures.frame.still (change_whole (name_of c.in_ok-first.first) (g.D.Disk.trace c.args.disk.now) (g.D.Disk.trace c.fetch_own.new.disk) c.fetch_own.ensures.changes)
 
 pub returns-clause-goes : goal.returns-clause-goes
 returns-clause-goes g c =
     let state = run_lanes c.args.lanes.now c.args.jobs.now (board_of c.args.board.now) in
-    rw c.take.ensures.rows (goes_left known jobs_always_stand state c.fetch_own.new.lanes (board_of c.absorb.new.self) (g.D.Disk.trace c.args.disk.now) (g.D.Disk.trace c.fetch_own.new.disk) c.args.lane c.in-Some.field-0 c.in_ok-first.first c.in_ok-closed.closed
-    c.requires.unused (taken_there c.args.jobs.now c.args.lane c.take.result c.in-Some.field-0 c.take.ensures.transfer c.in-Some.is) c.in_ok-first.ensures c.fetch_own.ensures.own c.in_ok-absorb.ensures c.in_ok-closed.ensures.answered)
+    rw (c.take.ensures.rows, c.absorb.ensures.frame.still) (goes_left known jobs_always_stand (g.D.Disk.tells c.fetch_own.new.disk) (g.D.Disk.files c.fetch_own.new.disk) state c.fetch_own.new.lanes (board_of c.absorb.new.self) (g.D.Disk.trace c.args.disk.now) (g.D.Disk.trace c.fetch_own.new.disk) c.args.lane c.in-Some.field-0 c.in_ok-first.first c.in_ok-closed.closed
+    c.requires.unused (taken_there c.args.jobs.now c.args.lane c.take.result c.in-Some.field-0 c.take.ensures.transfer c.in-Some.is) c.in_ok-first.ensures c.fetch_own.ensures.own (g.met.D.Disk.shown c.fetch_own.new.disk) c.in_ok-absorb.ensures.takes c.in_ok-closed.ensures.answered)
 
 pub returns-in_default-clause-asks : goal.returns-in_default-clause-asks
 returns-in_default-clause-asks g c = none_told c.args.lanes.now (board_of c.args.board.now).asks
 
 pub returns-clause-asks : goal.returns-clause-asks
 returns-clause-asks g c =
-    own_told jobs_always_stand (run_lanes c.args.lanes.now c.args.jobs.now (board_of c.args.board.now)) c.fetch_own.new.lanes (g.D.Disk.trace c.args.disk.now) c.args.lane c.in-Some.field-0 c.in_ok-closed.closed (board_of c.absorb.new.self)
-    c.requires.ready (taken_there c.args.jobs.now c.args.lane c.take.result c.in-Some.field-0 c.take.ensures.transfer c.in-Some.is) c.fetch_own.ensures.own c.fetch_own.ensures.begins c.in_ok-absorb.ensures
+    own_told known jobs_always_stand (g.D.Disk.tells c.fetch_own.new.disk) (g.D.Disk.files c.fetch_own.new.disk) (run_lanes c.args.lanes.now c.args.jobs.now (board_of c.args.board.now)) c.fetch_own.new.lanes (g.D.Disk.trace c.args.disk.now) c.args.lane c.in-Some.field-0 c.in_ok-closed.closed (board_of c.absorb.new.self)
+    c.requires.ready (taken_there c.args.jobs.now c.args.lane c.take.result c.in-Some.field-0 c.take.ensures.transfer c.in-Some.is) c.fetch_own.ensures.own c.fetch_own.ensures.begins c.in_ok-absorb.ensures.takes
+
+pub returns-clause-same : goal.returns-clause-same
+returns-clause-same g c =
+    same_taken (g.D.Disk.tells c.fetch_own.new.disk) (g.D.Disk.files c.fetch_own.new.disk) (board_of c.args.board.now) (board_of c.absorb.new.self) 0 c.in-Some.field-0.job.no c.in_ok-closed.closed c.in_ok-absorb.ensures.takes

@@ -10,6 +10,7 @@ use Rattle.update_engine.proofs.Committing.{handed_on, on_err}
 use Rattle.update_engine.proofs.Ended.{ends_all, leaves_on, shown_on, stops_between, stops_last}
 use Rattle.update_engine.proofs.Known.{commits_known}
 use Rattle.update_engine.proofs.LastCommit.{can_last, ends_told, last_stands, staged_last}
+use Rattle.update_engine.proofs.Over.{still_told}
 use Rattle.update_engine.proofs.ending.end_run.Goals as goal
 
 pub end_board-log-requires-clause-stands : goal.end_board-log-requires-clause-stands
@@ -26,7 +27,8 @@ commit_last-requires-clause-staged g c = subst (λ (t : List State). IsNow (AreA
     c.in_ok-add_clean_up.ensures.groups)
 
 pub returns-clause-ends : goal.returns-clause-ends
-returns-clause-ends g c = ends_told _ (board_of c.args.board) (board_of c.settle_last.new.board) _ _ c.in_ok-groups.groups c.args.cleanup c.in_ok-loose.loose c.end_board-log.result c.add_clean_up.new.log c.in_ok-groups.ensures.leaves
+returns-clause-ends g c = ends_told _ (board_of c.args.board) (board_of c.settle_last.new.board) _ _ c.in_ok-groups.groups c.args.cleanup c.in_ok-loose.loose c.end_board-log.result c.add_clean_up.new.log
+    (still_told _ _ _ _ _ _ (g.met.D.Disk.shown c.args.disk.now) (g.met.D.Disk.shown c.settle_last.new.disk) c.settle_last.ensures.frame.telling) c.in_ok-groups.ensures.leaves
     c.end_board-log.ensures.finished c.end_board-log.ensures.log c.in_ok-add_clean_up.ensures.log
 
 pub returns-in_err-groups-clause-stops : goal.returns-in_err-groups-clause-stops
