@@ -42,6 +42,7 @@ where
         + Wait
         + Copy
         + Send
+        + Sync
         + 'static,
     M: Method + Send + 'static,
     I: Inlet,

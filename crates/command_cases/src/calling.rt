@@ -20,7 +20,7 @@ pub struct Came {
 /// Puts what a case comes to.
 pub fn put_case<R>(rt: &R, page: &mut Page, steps: &[Step]) -> Result<(), Refused>
 where
-    R: AllocGlobal + Threads + Wait + Copy + Send + 'static,
+    R: AllocGlobal + Threads + Wait + Copy + Send + Sync + 'static,
 {
     let place = disk(rt.alloc(), steps, b"place", false)?;
     let mut it = make_objects(rt.alloc(), steps, place)?;
@@ -30,7 +30,7 @@ where
 /// Puts what a case comes to over these objects, which are lent, so that no exit here lets go of them.
 fn put_call<R>(rt: &R, page: &mut Page, steps: &[Step], it: &mut Objects) -> Result<(), Refused>
 where
-    R: AllocGlobal + Threads + Wait + Copy + Send + 'static,
+    R: AllocGlobal + Threads + Wait + Copy + Send + Sync + 'static,
 {
     let came = call(rt, steps, it)?;
     put_came(rt.alloc(), page, steps, came, it)?;
@@ -43,7 +43,7 @@ where
 /// Makes the call that a case asks for.
 pub fn call<R>(rt: &R, steps: &[Step], it: &mut Objects) -> Result<Came, Refused>
 where
-    R: AllocGlobal + Threads + Wait + Copy + Send + 'static,
+    R: AllocGlobal + Threads + Wait + Copy + Send + Sync + 'static,
 {
     let words = words(rt.alloc(), steps, b"word")?;
     called(rt, words.as_slice(), it)
@@ -52,7 +52,7 @@ where
 /// Makes the call of these words.
 fn called<R>(rt: &R, words: &[String], it: &mut Objects) -> Result<Came, Refused>
 where
-    R: AllocGlobal + Threads + Wait + Copy + Send + 'static,
+    R: AllocGlobal + Threads + Wait + Copy + Send + Sync + 'static,
 {
     if it.methods.is_empty() || it.methods.len() > 9 {
         return Err(Refused::NoCall);

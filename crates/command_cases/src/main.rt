@@ -50,7 +50,7 @@ mod telling;
 /// Takes a line, and puts what comes of it on the page.
 fn take<R>(rt: &R, scene: &mut Scene, page: &mut Page, line: &str)
 where
-    R: AllocGlobal + Threads + Wait + Copy + Send + 'static,
+    R: AllocGlobal + Threads + Wait + Copy + Send + Sync + 'static,
 {
     if let Err(refused) = scene.take(rt, page, line) {
         put_refusal(page, refused);
@@ -77,7 +77,7 @@ fn print_page(rt: &impl Print, page: Page) -> io::Result<()> {
 /// Takes a line, and prints what comes of it.
 fn print_line<R>(rt: &R, scene: &mut Scene, line: &str) -> io::Result<()>
 where
-    R: AllocGlobal + Print + Threads + Wait + Copy + Send + 'static,
+    R: AllocGlobal + Print + Threads + Wait + Copy + Send + Sync + 'static,
 {
     let mut page = Page::new(rt.alloc());
     take(rt, scene, &mut page, line);
@@ -88,7 +88,7 @@ where
 /// lets go of one: that would take minutes to prove.
 fn print_all<R>(rt: &R, scene: &mut Scene) -> io::Result<()>
 where
-    R: AllocGlobal + Input + Print + Threads + Wait + Copy + Send + 'static,
+    R: AllocGlobal + Input + Print + Threads + Wait + Copy + Send + Sync + 'static,
 {
     for line in rt.lines(rt.alloc()) {
         print_line(rt, scene, line?.as_str())?;

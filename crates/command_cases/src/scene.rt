@@ -41,7 +41,7 @@ impl Scene {
     /// Takes a line, and puts what comes of it on the page.
     pub fn take<R>(&mut self, rt: &R, page: &mut Page, line: &str) -> Result<(), Refused>
     where
-        R: AllocGlobal + Threads + Wait + Copy + Send + 'static,
+        R: AllocGlobal + Threads + Wait + Copy + Send + Sync + 'static,
     {
         if line.is_empty() {
             return self.end(rt, page);
@@ -93,7 +93,7 @@ impl Scene {
     /// Ends the block.
     fn end<R>(&mut self, rt: &R, page: &mut Page) -> Result<(), Refused>
     where
-        R: AllocGlobal + Threads + Wait + Copy + Send + 'static,
+        R: AllocGlobal + Threads + Wait + Copy + Send + Sync + 'static,
     {
         let block = self.block;
         self.block = Block::None;

@@ -116,7 +116,7 @@ pub fn put_stops<R>(
     ended: &mut Objects,
 ) -> Result<(), Refused>
 where
-    R: AllocGlobal + Threads + Wait + Copy + Send + 'static,
+    R: AllocGlobal + Threads + Wait + Copy + Send + Sync + 'static,
 {
     let before = folder(rt.alloc(), steps, b"place")?;
     let after = files(rt.alloc(), &mut ended.aside.place)?;
@@ -147,7 +147,7 @@ fn stop_each<R>(
     counts: &mut Counts,
 ) -> Result<u64, Refused>
 where
-    R: AllocGlobal + Threads + Wait + Copy + Send + 'static,
+    R: AllocGlobal + Threads + Wait + Copy + Send + Sync + 'static,
 {
     for calls in 0..MOST {
         if !stop_after(rt, steps, calls, looked, counts)? {
@@ -166,7 +166,7 @@ fn stop_after<R>(
     counts: &mut Counts,
 ) -> Result<bool, Refused>
 where
-    R: AllocGlobal + Threads + Wait + Copy + Send + 'static,
+    R: AllocGlobal + Threads + Wait + Copy + Send + Sync + 'static,
 {
     let mut stopped = false;
     for bits in 0..16u8 {
@@ -186,7 +186,7 @@ fn stop_by<R>(
     counts: &mut Counts,
 ) -> Result<bool, Refused>
 where
-    R: AllocGlobal + Threads + Wait + Copy + Send + 'static,
+    R: AllocGlobal + Threads + Wait + Copy + Send + Sync + 'static,
 {
     let place = disk(rt.alloc(), steps, b"place", false)?.with_fuse(calls);
     let mut it = make_objects(rt.alloc(), steps, place)?;
@@ -203,7 +203,7 @@ fn stop_in<R>(
     it: &mut Objects,
 ) -> Result<bool, Refused>
 where
-    R: AllocGlobal + Threads + Wait + Copy + Send + 'static,
+    R: AllocGlobal + Threads + Wait + Copy + Send + Sync + 'static,
 {
     let came = call(rt, steps, it)?;
     let left = left_by(rt.alloc(), it, bits)?;

@@ -38,7 +38,7 @@ pub struct Day {
 
 /// How an update over the mirror of a number goes on its first day, and how one goes on its second. The first begins with
 /// no list, and the second with those that the first left.
-pub fn both_days<R: Threads + Wait + Copy + Send + 'static>(
+pub fn both_days<R: Threads + Wait + Copy + Send + Sync + 'static>(
     rt: &R,
     alloc: Global,
     number: u64,
@@ -56,7 +56,7 @@ pub fn both_days<R: Threads + Wait + Copy + Send + 'static>(
 }
 
 /// One update over a mirror.
-fn run_day<R: Threads + Wait + Copy + Send + 'static>(
+fn run_day<R: Threads + Wait + Copy + Send + Sync + 'static>(
     rt: &R,
     alloc: Global,
     it: Configured,

@@ -29,7 +29,7 @@ use update_model::RunLog;
 
 /// Updates a folder in which nothing is on its way over a mirror, and answers the log. A fault of an object in memory
 /// stands for want of memory.
-pub fn run_over<R: Threads + Wait + Copy + Send + 'static>(
+pub fn run_over<R: Threads + Wait + Copy + Send + Sync + 'static>(
     rt: &R,
     alloc: Global,
     it: Configured,

@@ -1,7 +1,9 @@
 -- No call of a board changes what the run was begun with.
 use Rattle.std.proofs.Common.{◌≡◌, ◌∙◌, ℕ, Result, Ok, Err, OnOk, IfOk, refl, ap}
-use Rattle.std.specs.Prelude.{Option, Some, None}
-use Rattle.board_model.specs.Boards.{Board, Asker, asker_of, lane_with, took_from, absorbed, issued, settled_as}
+use Rattle.std.specs.Prelude.{Bool, Option, Some, None}
+use Rattle.acq_outside.specs.Disk.{Files}
+use Rattle.board_model.specs.Boards.{Board, Asker, asker_of, lane_with, took_from, issued, settled_as}
+use Rattle.update_core.specs.TakenIn.{TakesIn}
 use Rattle.update_model.specs.Trails.{LaneAnswer}
 use Rattle.update_model.specs.declared.ask.Closed.{Closed}
 use Rattle.update_model.specs.declared.settled.Settled.{Settled}
@@ -11,14 +13,17 @@ change-took b number told None a = refl
 change-took b number told (Some from) None = refl
 change-took b number told (Some from) (Some a) = refl
 
-kept-absorbed : (b after : Board) (lane number : ℕ) (closed : Closed) → after ≡ absorbed b lane number closed → after.config.change ≡ b.config.change
-kept-absorbed b after lane number closed e =
-    ap (λ (c : Board). c.config.change) e ∙ change-took b number (record { lane = lane; closed = closed }) (lane_with b.out number) (asker_of b number)
+kept-absorbed : (tells : Bool) (files : Files) (b after : Board) (lane number : ℕ) (closed : Closed)
+    → TakesIn tells files b lane number closed after → after.config.change ≡ b.config.change
+kept-absorbed tells files b after lane number closed t =
+    ap (λ (c : Board). c.config.change) t.is
+    ∙ change-took t.between number (record { lane = lane; closed = closed }) (lane_with t.between.out number) (asker_of t.between number)
+    ∙ ap (λ (c : Board). c.config.change) t.anew.is
 
-pub on_absorbed : {T E : Type 0} (b after : Board) (lane number : ℕ) (closed : Closed) (result : Result T E)
-    → OnOk result (after ≡ absorbed b lane number closed) → OnOk result (after.config.change ≡ b.config.change)
-on_absorbed b after lane number closed (Ok done) is = kept-absorbed b after lane number closed is
-on_absorbed b after lane number closed (Err refused) is = tt
+pub on_absorbed : {T E : Type 0} (tells : Bool) (files : Files) (b after : Board) (lane number : ℕ) (closed : Closed) (result : Result T E)
+    → OnOk result (TakesIn tells files b lane number closed after) → OnOk result (after.config.change ≡ b.config.change)
+on_absorbed tells files b after lane number closed (Ok done) is = kept-absorbed tells files b after lane number closed is
+on_absorbed tells files b after lane number closed (Err refused) is = tt
 
 pub on_issued : {T E : Type 0} (b after : Board) (lane : ℕ) (result : Result T E)
     → OnOk result (after ≡ issued b lane) → OnOk result (after.config.change ≡ b.config.change)

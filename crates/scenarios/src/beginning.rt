@@ -7,8 +7,9 @@ ghost use Rattle.update_core.specs.BoardRefinement.{board_of};
 use crate::given::Given;
 use crate::objects::etc_of;
 use crate::refused::Refused;
-use acq_base::{Bytes, ListName, NoMemory, Old, Row, Source, Target, Text, TryCopy};
+use acq_base::{Bytes, ListName, NoMemory, Row, Source, Target, Text, TryCopy};
 use configuration::{Configured, configure};
+use lists_dir::{Installed, Summed};
 use std::alloc::Global;
 use update_core::Board;
 
@@ -40,11 +41,11 @@ fn options(alloc: Global, given: &Given) -> Result<Row<Text>, Refused> {
     Ok(row)
 }
 
-/// What is installed of a source.
-fn old_of(alloc: Global, given: &Given, source: &Source) -> Result<Old, Refused> {
+/// What is installed of a source, its lists by their sums.
+fn installed_of(alloc: Global, given: &Given, source: &Source) -> Result<Installed, Refused> {
     let lists = lists_of(alloc, given, source.targets.as_slice())?;
     let release = given.installed(alloc, &source.release_name.0)?;
-    Ok(Old { release, lists })
+    Ok(Installed { release, lists })
 }
 
 /// What is installed of these lists.
@@ -52,7 +53,7 @@ fn lists_of(
     alloc: Global,
     given: &Given,
     targets: &[Target],
-) -> Result<Row<(ListName, Bytes)>, Refused> {
+) -> Result<Row<(ListName, Summed)>, Refused> {
     let mut lists = Row::new(alloc);
     for target in targets {
         if let Some(list) = given.disk.get(&target.name.0) {
@@ -62,17 +63,17 @@ fn lists_of(
     Ok(lists)
 }
 
-/// A list with its name.
-fn named(alloc: Global, name: &ListName, list: &Bytes) -> Result<(ListName, Bytes), NoMemory> {
+/// A list's sum with its name.
+fn named(alloc: Global, name: &ListName, list: &Bytes) -> Result<(ListName, Summed), NoMemory> {
     let name = name.copy(alloc)?;
-    Ok((name, list.copy(alloc)?))
+    Ok((name, Summed::of(alloc, list)))
 }
 
 /// What is installed of each of these sources.
-fn olds(alloc: Global, given: &Given, sources: &[Source]) -> Result<Row<Old>, Refused> {
+fn olds(alloc: Global, given: &Given, sources: &[Source]) -> Result<Row<Installed>, Refused> {
     let mut row = Row::new(alloc);
     for source in sources {
-        row.push(old_of(alloc, given, source)?)?;
+        row.push(installed_of(alloc, given, source)?)?;
     }
     Ok(row)
 }

@@ -7,8 +7,11 @@ ghost use Rattle.update_core.specs.BoardRefinement.{board_of};
 use crate::answers::{answer, faults_at};
 use crate::beginning::{LANES, begin, configured};
 use crate::given::Given;
+use crate::objects::disk_of;
 use crate::refused::Refused;
 use acq_base::{Job, NoMemory, NotServed, Row, Text, Uri};
+use acq_memory::MemDisk;
+use acq_outside::OutError;
 use kept_hooks::Judge;
 use release_file::{Head, is_allowed};
 use std::alloc::Global;
@@ -30,6 +33,8 @@ pub enum Schedule {
 /// What a run keeps beside its board.
 #[derive(Drop)]
 struct Course {
+    /// The lists folder, of which installed lists are read once their source's Release has come.
+    disk: MemDisk,
     /// The jobs that are out, each with its lane.
     out: Vec<(u32, Job)>,
     /// How often each lane's method failed.
@@ -50,13 +55,15 @@ pub struct Finished {
 
 impl Course {
     /// That of a run that has not asked yet.
-    fn new(alloc: Global) -> Course {
-        Course {
+    fn new(alloc: Global, given: &Given) -> Result<Course, Refused> {
+        let disk = disk_of(alloc, &given.disk, false, Row::new(alloc))?;
+        Ok(Course {
+            disk,
             out: Vec::new(alloc),
             failed: [0, 0],
             faults: Vec::new(alloc),
             settled: Row::new(alloc),
-        }
+        })
     }
 
     /// Whether an ask at this URI is to fail once more, which is then noted.
@@ -113,7 +120,7 @@ fn absorb_last(
         return Ok(());
     };
     let closed = closed(alloc, given, board, course, lane, &job)?;
-    absorbed(alloc, board, judge, lane, job.no, closed)
+    absorbed(alloc, board, judge, &mut course.disk, lane, job.no, closed)
 }
 
 /// The answer to a job of a lane: a fault, as long as asks at its URI are to fail, or what the mirror answers.
@@ -141,6 +148,7 @@ fn absorbed(
     alloc: Global,
     board: &mut Board,
     judge: &Judge,
+    disk: &mut MemDisk,
     lane: u32,
     number: u64,
     closed: Closed,
@@ -151,7 +159,7 @@ fn absorbed(
     if !board.is_out(number) {
         return Err(Refused::Board);
     }
-    Ok(take_in(alloc, board, judge, lane, number, closed)?)
+    Ok(take_in(alloc, board, judge, disk, lane, number, closed)?)
 }
 
 /// The answer to a job that is out comes in. It changes nothing of what may change.
@@ -159,15 +167,16 @@ fn take_in(
     alloc: Global,
     board: &mut Board,
     judge: &Judge,
+    disk: &mut MemDisk,
     lane: u32,
     number: u64,
     closed: Closed,
-) -> Result<(), NoMemory>
+) -> Result<(), OutError>
     requires out { is_out (board_of board.old) number ≡ true }
     requires change { judge.now.change ≡ (board_of board.old).config.change }
     ensures { OnOk result ((board_of board.new).config.change ≡ (board_of board.old).config.change) }
 {
-    board.absorb(alloc, judge, lane, number, closed)
+    board.absorb(alloc, judge, disk, lane, number, closed)
 }
 
 /// The first source that is ready is settled, if there is one.
@@ -256,7 +265,7 @@ fn ended(
     requires { judge.now.change ≡ (board_of board).config.change }
 {
     let mut board = board;
-    let mut course = Course::new(alloc);
+    let mut course = Course::new(alloc, given)?;
     steps(alloc, given, &mut board, judge, &mut course, schedule)?;
     if !board.finished() {
         return Err(Refused::Endless);

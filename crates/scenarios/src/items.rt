@@ -1,15 +1,21 @@
 //! One item at a time: what it asks, one answer after another, and what it comes to.
 
+ghost use Rattle.std.specs.Prelude.{IfOk};
+ghost use Rattle.item_graph.specs.OldFiles.{IsEnough};
+ghost use Rattle.update_model.specs.declared.wanted.Wanted.{Wanted};
+
 use crate::answers::answer;
 use crate::beginning::configured;
 use crate::ends::put_body;
 use crate::given::{Given, Kind};
 use crate::refused::{Refused, utf8};
 use crate::telling::put_place;
-use acq_base::{Bytes, Job, ListName, NoMemory, Plan, Row, Settings, Source, Sum, Target, TryCopy};
+use acq_base::{
+    Bytes, Job, ListName, NoMemory, Plan, Row, Settings, Source, Sum, Target, Text, TryCopy,
+};
 use case_words::Page;
 use configuration::Configured;
-use item_graph::{Ask, End, Item};
+use item_graph::{Ask, End, Item, OldFile, want};
 use release_file::{Release, find_file, read_release};
 use report_text::report;
 use std::alloc::Global;
@@ -47,15 +53,26 @@ fn item_by(
     settings: &Settings,
     release: &Release,
 ) -> Result<Item, Refused> {
-    if find_file(release, target.path.as_bytes()).is_none() {
+    let Some(sum) = find_file(release, target.path.as_bytes()) else {
         return Err(Refused::Board);
-    }
+    };
     let part = match given.part(alloc, &target.name)? {
         Some(part) => part.len() as u64,
         None => 0,
     };
-    let old = given.installed(alloc, &target.name.0)?;
-    Ok(Item::for_target(alloc, source, target, release, old, part, settings)?)
+    let wanted = want(alloc, source, target, release, settings, sum)?;
+    let old = old_file(alloc, given, &target.name.0)?;
+    Ok(Item::for_list(alloc, wanted, old, part, settings)?)
+}
+
+/// A list's installed file by its bytes, so that patches may be asked for.
+fn old_file(alloc: Global, given: &Given, name: &Text) -> Result<Option<OldFile>, NoMemory>
+    ensures { IfOk result (λ old. (wanted : Wanted) → IsEnough old wanted) }
+{
+    match given.installed(alloc, name)? {
+        Some(bytes) => Ok(Some(OldFile::Read(bytes))),
+        None => Ok(None),
+    }
 }
 
 /// The item of a list as a single file, of the sum that the Release which is installed lists.

@@ -70,7 +70,7 @@ mod watch;
 /// Takes a line of a scenario, and puts what is to be printed on the page.
 fn take<R>(rt: &R, scene: &mut Scene, page: &mut Page, number: u64, line: &str)
 where
-    R: AllocGlobal + Threads + Wait + Copy + Send + 'static,
+    R: AllocGlobal + Threads + Wait + Copy + Send + Sync + 'static,
 {
     if line.is_empty() {
         end(rt, scene, page, number);
@@ -84,7 +84,7 @@ where
 /// Ends a scenario before this line, and puts what its last run came to on the page.
 fn end<R>(rt: &R, scene: &mut Scene, page: &mut Page, number: u64)
 where
-    R: AllocGlobal + Threads + Wait + Copy + Send + 'static,
+    R: AllocGlobal + Threads + Wait + Copy + Send + Sync + 'static,
 {
     if let Err(refused) = scene.end(rt, page) {
         put_refusal(page, number, refused);
@@ -112,7 +112,7 @@ fn print_page(rt: &impl Print, page: Page) -> io::Result<()> {
 /// Takes a line, and prints what comes of it.
 fn print_line<R>(rt: &R, scene: &mut Scene, number: u64, line: &str) -> io::Result<()>
 where
-    R: AllocGlobal + Print + Threads + Wait + Copy + Send + 'static,
+    R: AllocGlobal + Print + Threads + Wait + Copy + Send + Sync + 'static,
 {
     let mut page = Page::new(rt.alloc());
     take(rt, scene, &mut page, number, line);
@@ -122,7 +122,7 @@ where
 /// Prints what the last scenario came to, of which no line ends it.
 fn print_end<R>(rt: &R, scene: &mut Scene, number: u64) -> io::Result<()>
 where
-    R: AllocGlobal + Print + Threads + Wait + Copy + Send + 'static,
+    R: AllocGlobal + Print + Threads + Wait + Copy + Send + Sync + 'static,
 {
     let mut page = Page::new(rt.alloc());
     end(rt, scene, &mut page, number);
@@ -133,7 +133,7 @@ where
 /// lets go of one: that would take minutes to prove.
 fn print_all<R>(rt: &R, scene: &mut Scene) -> io::Result<()>
 where
-    R: AllocGlobal + Input + Print + Threads + Wait + Copy + Send + 'static,
+    R: AllocGlobal + Input + Print + Threads + Wait + Copy + Send + Sync + 'static,
 {
     let mut number: u64 = 0;
     for line in rt.lines(rt.alloc()) {

@@ -79,7 +79,7 @@ fn called<R, M>(
     methods: &mut Vec<M>,
 ) -> Result<Came, Refused>
 where
-    R: AllocGlobal + Threads + Wait + Copy + Send + 'static,
+    R: AllocGlobal + Threads + Wait + Copy + Send + Sync + 'static,
     M: Method + Send + 'static,
 {
     if methods.is_empty() || methods.len() > 9 {
@@ -107,7 +107,7 @@ fn called_served<R>(
     methods: &mut Vec<Served>,
 ) -> Result<Came, Refused>
 where
-    R: AllocGlobal + Threads + Wait + Copy + Send + 'static,
+    R: AllocGlobal + Threads + Wait + Copy + Send + Sync + 'static,
 {
     if methods.is_empty() || methods.len() > 9 {
         return Err(Refused::Methods);
@@ -139,7 +139,7 @@ fn faults_of<M: Method>(methods: &[M]) -> u64 {
 /// from the mirror.
 pub fn came_to<R>(rt: &R, given: &Given, disk: &mut MemDisk) -> Result<Came, Refused>
 where
-    R: AllocGlobal + Threads + Wait + Copy + Send + 'static,
+    R: AllocGlobal + Threads + Wait + Copy + Send + Sync + 'static,
 {
     let ways = (
         given.mirror.is_empty(),
@@ -156,7 +156,7 @@ where
 
 fn over_mirror<R>(rt: &R, given: &Given, disk: &mut MemDisk) -> Result<Came, Refused>
 where
-    R: AllocGlobal + Threads + Wait + Copy + Send + 'static,
+    R: AllocGlobal + Threads + Wait + Copy + Send + Sync + 'static,
 {
     if let Some(held) = &given.gate {
         return over_gate(rt, given, held, disk);
@@ -170,7 +170,7 @@ where
 
 fn over_gate<R>(rt: &R, given: &Given, held: &Held, disk: &mut MemDisk) -> Result<Came, Refused>
 where
-    R: AllocGlobal + Threads + Wait + Copy + Send + 'static,
+    R: AllocGlobal + Threads + Wait + Copy + Send + Sync + 'static,
 {
     let gate = gate_of(rt.alloc(), held)?;
     let mut methods = Vec::new(rt.alloc());
@@ -184,7 +184,7 @@ where
 
 fn over_tree<R>(rt: &R, given: &Given, disk: &mut MemDisk) -> Result<Came, Refused>
 where
-    R: AllocGlobal + Threads + Wait + Copy + Send + 'static,
+    R: AllocGlobal + Threads + Wait + Copy + Send + Sync + 'static,
 {
     if let Some(server) = &given.server {
         return over_server(rt, given, server, disk);
@@ -203,7 +203,7 @@ fn over_server<R>(
     disk: &mut MemDisk,
 ) -> Result<Came, Refused>
 where
-    R: AllocGlobal + Threads + Wait + Copy + Send + 'static,
+    R: AllocGlobal + Threads + Wait + Copy + Send + Sync + 'static,
 {
     let mut methods = Vec::new(rt.alloc());
     for _ in 0..given.methods {
@@ -214,7 +214,7 @@ where
 
 fn over_peers<R>(rt: &R, given: &Given, disk: &mut MemDisk) -> Result<Came, Refused>
 where
-    R: AllocGlobal + Threads + Wait + Copy + Send + 'static,
+    R: AllocGlobal + Threads + Wait + Copy + Send + Sync + 'static,
 {
     let mut methods = Vec::new(rt.alloc());
     for _ in 0..given.methods {

@@ -56,7 +56,7 @@ impl Scene {
     /// Takes a line, and puts what is to be printed on the page.
     pub fn take<R>(&mut self, rt: &R, page: &mut Page, line: &str) -> Result<(), Refused>
     where
-        R: AllocGlobal + Threads + Wait + Copy + Send + 'static,
+        R: AllocGlobal + Threads + Wait + Copy + Send + Sync + 'static,
     {
         if self.refused {
             return Ok(());
@@ -88,7 +88,7 @@ impl Scene {
     /// Ends a run, behind which a further one follows.
     fn go_on<R>(&mut self, rt: &R, page: &mut Page) -> Result<(), Refused>
     where
-        R: AllocGlobal + Threads + Wait + Copy + Send + 'static,
+        R: AllocGlobal + Threads + Wait + Copy + Send + Sync + 'static,
     {
         let left = run(rt, page, &self.given)?;
         self.given.go_on(rt.alloc(), left);
@@ -131,7 +131,7 @@ impl Scene {
     /// Ends the scenario with its last run.
     pub fn end<R>(&self, rt: &R, page: &mut Page) -> Result<(), Refused>
     where
-        R: AllocGlobal + Threads + Wait + Copy + Send + 'static,
+        R: AllocGlobal + Threads + Wait + Copy + Send + Sync + 'static,
     {
         if !self.begun || self.refused {
             return Ok(());
@@ -157,7 +157,7 @@ impl Scene {
 /// Runs what is given, puts what it came to on the page, and answers what it left.
 fn run<R>(rt: &R, page: &mut Page, given: &Given) -> Result<Folder, Refused>
 where
-    R: AllocGlobal + Threads + Wait + Copy + Send + 'static,
+    R: AllocGlobal + Threads + Wait + Copy + Send + Sync + 'static,
 {
     let mut disk = disk_before(rt.alloc(), given)?;
     let came = came_to(rt, given, &mut disk)?;
@@ -173,7 +173,7 @@ fn told<R>(
     disk: MemDisk,
 ) -> Result<Folder, Refused>
 where
-    R: AllocGlobal + Threads + Wait + Copy + Send + 'static,
+    R: AllocGlobal + Threads + Wait + Copy + Send + Sync + 'static,
 {
     put_came(rt.alloc(), page, came, given.tell);
     let left = left_by(rt.alloc(), page, given, disk)?;
@@ -236,7 +236,7 @@ fn put_stops<R>(
     left: &Folder,
 ) -> Result<(), Refused>
 where
-    R: AllocGlobal + Threads + Wait + Copy + Send + 'static,
+    R: AllocGlobal + Threads + Wait + Copy + Send + Sync + 'static,
 {
     match &given.stop {
         Stop::Everywhere { least } => told_everywhere(rt, page, given, came, left, *least),

@@ -96,7 +96,7 @@ impl<'a> Stops<'a> {
     /// Stops the run after each of its calls of the lists folder, and answers how many there are.
     fn each_stopped<R>(&mut self, rt: &R, page: &mut Page) -> Result<u64, Refused>
     where
-        R: AllocGlobal + Threads + Wait + Copy + Send + 'static,
+        R: AllocGlobal + Threads + Wait + Copy + Send + Sync + 'static,
     {
         for calls in 0..MOST {
             if !self.stopped_after(rt, page, calls)? {
@@ -109,7 +109,7 @@ impl<'a> Stops<'a> {
     /// Stops the run after so many calls, in each of 16 ways. Answers whether it was stopped.
     fn stopped_after<R>(&mut self, rt: &R, page: &mut Page, calls: u64) -> Result<bool, Refused>
     where
-        R: AllocGlobal + Threads + Wait + Copy + Send + 'static,
+        R: AllocGlobal + Threads + Wait + Copy + Send + Sync + 'static,
     {
         let mut stopped = false;
         for bits in 0..16u8 {
@@ -127,7 +127,7 @@ impl<'a> Stops<'a> {
         bits: u8,
     ) -> Result<bool, Refused>
     where
-        R: AllocGlobal + Threads + Wait + Copy + Send + 'static,
+        R: AllocGlobal + Threads + Wait + Copy + Send + Sync + 'static,
     {
         let mut disk = self.disk_until(rt.alloc(), calls)?;
         let came = came_to(rt, self.given, &mut disk)?;
@@ -144,7 +144,7 @@ impl<'a> Stops<'a> {
     /// Lets each call of the lists folder fail by itself, and answers how many there are.
     fn each_failing<R>(&mut self, rt: &R, page: &mut Page) -> Result<u64, Refused>
     where
-        R: AllocGlobal + Threads + Wait + Copy + Send + 'static,
+        R: AllocGlobal + Threads + Wait + Copy + Send + Sync + 'static,
     {
         for calls in 0..MOST {
             if !self.failing_at(rt, page, calls.saturating_add(1))? {
@@ -157,7 +157,7 @@ impl<'a> Stops<'a> {
     /// Lets the call of this number fail. Answers whether the run was stopped by it.
     fn failing_at<R>(&mut self, rt: &R, page: &mut Page, number: u64) -> Result<bool, Refused>
     where
-        R: AllocGlobal + Threads + Wait + Copy + Send + 'static,
+        R: AllocGlobal + Threads + Wait + Copy + Send + Sync + 'static,
     {
         let mut disk = self.disk_failing(rt.alloc(), number)?;
         let came = came_to(rt, self.given, &mut disk)?;
@@ -179,7 +179,7 @@ impl<'a> Stops<'a> {
         disk: &mut MemDisk,
     ) -> Result<bool, Refused>
     where
-        R: AllocGlobal + Threads + Wait + Copy + Send + 'static,
+        R: AllocGlobal + Threads + Wait + Copy + Send + Sync + 'static,
     {
         if !was_stopped(came) {
             put_otherwise(page, self.came, came);
@@ -199,7 +199,7 @@ impl<'a> Stops<'a> {
         disk: &mut MemDisk,
     ) -> Result<bool, Refused>
     where
-        R: AllocGlobal + Threads + Wait + Copy + Send + 'static,
+        R: AllocGlobal + Threads + Wait + Copy + Send + Sync + 'static,
     {
         if let Some(entry) = self.entry(rt, came, disk)? {
             self.tell(page, entry)?;
@@ -215,7 +215,7 @@ impl<'a> Stops<'a> {
         disk: &mut MemDisk,
     ) -> Result<Option<String>, Refused>
     where
-        R: AllocGlobal + Threads + Wait + Copy + Send + 'static,
+        R: AllocGlobal + Threads + Wait + Copy + Send + Sync + 'static,
     {
         let mut entry = Page::new(rt.alloc());
         if self.put_entry(rt, &mut entry, came, disk)? {
@@ -234,7 +234,7 @@ impl<'a> Stops<'a> {
         disk: &mut MemDisk,
     ) -> Result<bool, Refused>
     where
-        R: AllocGlobal + Threads + Wait + Copy + Send + 'static,
+        R: AllocGlobal + Threads + Wait + Copy + Send + Sync + 'static,
     {
         if self.put_left(rt.alloc(), entry, came, disk)? {
             return Ok(false);
@@ -286,7 +286,7 @@ impl<'a> Stops<'a> {
     /// Makes the run again, and puts what it comes to.
     fn put_again<R>(&self, rt: &R, entry: &mut Page, disk: &mut MemDisk) -> Result<(), Refused>
     where
-        R: AllocGlobal + Threads + Wait + Copy + Send + 'static,
+        R: AllocGlobal + Threads + Wait + Copy + Send + Sync + 'static,
     {
         let again = came_to(rt, self.given, disk)?;
         put_call(entry, "again", &again);
@@ -383,7 +383,7 @@ pub fn told_everywhere<R>(
     least: u64,
 ) -> Result<(), Refused>
 where
-    R: AllocGlobal + Threads + Wait + Copy + Send + 'static,
+    R: AllocGlobal + Threads + Wait + Copy + Send + Sync + 'static,
 {
     let mut stops = Stops::new(rt.alloc(), given, came, left)?;
     let calls = stops.each_stopped(rt, page)?;
@@ -401,7 +401,7 @@ pub fn told_faults<R>(
     least: u64,
 ) -> Result<(), Refused>
 where
-    R: AllocGlobal + Threads + Wait + Copy + Send + 'static,
+    R: AllocGlobal + Threads + Wait + Copy + Send + Sync + 'static,
 {
     let mut stops = Stops::new(rt.alloc(), given, came, left)?;
     let calls = stops.each_failing(rt, page)?;

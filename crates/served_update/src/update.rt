@@ -21,7 +21,7 @@ pub type ServedMethod<T> = HttpMethod<ServedLink<T>>;
 ///
 /// There are 1 to 9 methods.
 pub fn update_served<
-    R: AllocGlobal + Threads + Wait + Copy + Send + 'static,
+    R: AllocGlobal + Threads + Wait + Copy + Send + Sync + 'static,
     E: Etc,
     D: Disk,
     T: Tree + Send + 'static,

@@ -19,7 +19,7 @@ use std::thread::Threads;
 
 /// Updates from the mirror of a number on both days, and writes one line. The status is 0 where four sources got a new set
 /// on each day, 100 where fewer did, 103 for want of memory and 105 where the output fails.
-pub fn generate<R: Threads + Wait + Copy + Send + 'static, S: Sink>(
+pub fn generate<R: Threads + Wait + Copy + Send + Sync + 'static, S: Sink>(
     rt: &R,
     alloc: Global,
     number: u64,

@@ -21,7 +21,7 @@ use std::thread::Threads;
 /// Takes the hold, reads the moment, and runs what is configured.
 #[tactic(auto, using(update_engine::proofs::Lists::none_fall, crate::proofs::Endings::with_time))]
 pub fn run_with_hold<
-    R: Threads + Wait + Copy + Send + 'static,
+    R: Threads + Wait + Copy + Send + Sync + 'static,
     D: Disk,
     M: Method + Send + 'static,
     C: Clock,

@@ -23,7 +23,7 @@ use std::thread::Threads;
 /// Reads the configuration, and runs what it plans. The headline of the call above follows of how it ended.
 #[tactic(auto, using(update_engine::proofs::Lists::none_fall, crate::proofs::Endings::configured_ends, crate::proofs::Endings::refusal_ends))]
 pub fn run_options<
-    R: Threads + Wait + Copy + Send + 'static,
+    R: Threads + Wait + Copy + Send + Sync + 'static,
     E: Etc,
     D: Disk,
     M: Method + Send + 'static,

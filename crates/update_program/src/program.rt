@@ -37,7 +37,7 @@ use std::thread::Threads;
 /// the server's is 0 behind its N connections and 108 where it couldn't listen or accept; and 103 where memory ran out.
 #[tactic(auto, using(crate::proofs::Sides::otherwise, crate::proofs::Sides::for_aside, crate::proofs::Sides::for_no_method, crate::proofs::Sides::for_any_server, crate::proofs::Sides::for_any_package, crate::proofs::Downloading::since_none, crate::proofs::Asking::for_any, crate::proofs::Asking::for_any_number, crate::proofs::Asking::for_no_update, update_engine::proofs::Lists::none_fall))]
 pub fn program_call<
-    R: AllocGlobal + Threads + Wait + Copy + Send + 'static,
+    R: AllocGlobal + Threads + Wait + Copy + Send + Sync + 'static,
     E: Etc,
     D: Disk,
     M: Method + Send + 'static,

@@ -27,7 +27,7 @@ use update_engine::run_update;
 /// `now` is the moment of the run in seconds since 1970-01-01 00:00:00 UTC.
 #[tactic(auto, using(update_engine::proofs::Lists::none_fall, crate::proofs::Damage::told_at, crate::proofs::Damage::none_told))]
 pub fn run_plan<
-    R: Threads + Wait + Copy + Send + 'static,
+    R: Threads + Wait + Copy + Send + Sync + 'static,
     D: Disk,
     M: Method + Send + 'static,
     S: Sink,

@@ -33,7 +33,7 @@ use std::thread::Threads;
 /// where the configuration folder failed. The log is that of the run, where it came to its end.
 #[tactic(auto, using(crate::proofs::Asking::for_any, crate::proofs::Asking::for_any_number, crate::proofs::Asking::for_no_update, update_engine::proofs::Lists::none_fall))]
 pub fn update_call<
-    R: AllocGlobal + Threads + Wait + Copy + Send + 'static,
+    R: AllocGlobal + Threads + Wait + Copy + Send + Sync + 'static,
     E: Etc,
     D: Disk,
     M: Method + Send + 'static,
