@@ -1,7 +1,8 @@
 -- What a disk keeps open.
-use Rattle.std.specs.Prelude.{◌≡◌, ◌≢◌, ℕ, true, List, IfSome, string_bytes}
+use Rattle.std.specs.Prelude.{◌≡◌, ◌≢◌, ℕ, true, false, List, Option, IfSome, string_bytes}
 use Rattle.acq_real.specs.declared.opened.Kept.{Kept}
 use Rattle.acq_real.specs.declared.opened.OpenFile.{OpenFile}
+use Rattle.acq_real.specs.declared.opened.OpenFolders.{OpenFolders}
 
 -- the path by which it was opened
 abbrev pub opened_by : OpenFile → List ℕ
@@ -19,3 +20,15 @@ pub record IsClosed (kept : Kept) (path : List ℕ) : Type 0 where
 -- a path by which no file was open has none afterwards
 pub record StaysClosed (before after : Kept) : Type 0 where
   pub is : (path : List ℕ) → IsClosed before path → IsClosed after path
+
+-- no name in the disk's folder changed since that folder was last synced
+abbrev pub IsSynced : OpenFolders → Type 0
+IsSynced folders = folders.is_synced ≡ true
+
+-- the disk's folder has to be synced: a name in it may have changed since it last was
+abbrev pub IsDue : OpenFolders → Type 0
+IsDue folders = folders.is_synced ≡ false
+
+-- folders that are open, if there are any, are due. Those that are opened later begin as due.
+abbrev pub AreDue : Option OpenFolders → Type 0
+AreDue kept = IfSome kept IsDue

@@ -2,8 +2,8 @@
 use Rattle.std.specs.Prelude.{◌≡◌, ℕ, List, Result, false, string_bytes}
 use Rattle.acq_outside.specs.Frame.{StaysBy, StaysCountingBy}
 use Rattle.acq_real.specs.declared.disk.RealDisk.{RealDisk}
-use Rattle.acq_real.specs.Folder.{IsPathInside}
-use Rattle.acq_real.specs.Opened.{IsClosed}
+use Rattle.acq_real.specs.Folder.{IsPathInside, is_in_partial}
+use Rattle.acq_real.specs.Opened.{AreDue, IsClosed}
 
 abbrev pub faults_of : {R : Type 0} → RealDisk R → ℕ
 faults_of disk = disk.faults
@@ -19,6 +19,10 @@ folder_of disk = string_bytes disk.folder
 -- no file that was opened by the path of this name is kept open
 pub record IsNameClosed {R : Type 0} (disk : RealDisk R) (name : List ℕ) : Type 0 where
   pub is : (path : List ℕ) → IsPathInside (folder_of disk) name path → IsClosed disk.kept path
+
+-- where this name lies beside `partial`, the next sync of names syncs the disk's folder
+abbrev pub IsPending : {R : Type 0} → RealDisk R → List ℕ → Type 0
+IsPending disk name = is_in_partial name ≡ false → AreDue disk.kept.folders
 
 -- the same folder, no fault more, and not found held once more
 pub record IsSame {R : Type 0} (before after : RealDisk R) : Type 0 where

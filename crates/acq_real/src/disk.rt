@@ -40,6 +40,9 @@ mod calls;
 /// The file in `partial` that was last read, written, cut or synced, and the last one beside it, stay open and serve the
 /// next such calls with their names, until such a call has another name or fails, or the disk moves the file, puts one in
 /// its place or removes it.
+///
+/// A sync of names syncs `partial` each time, and the folder itself only where a name in it may have changed since its last
+/// sync by this disk.
 #[derive(Drop)]
 pub struct RealDisk<R: Drop> {
     rt: R,

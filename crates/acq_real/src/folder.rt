@@ -1,6 +1,7 @@
 //! What a disk does with files below its folder, each with a few calls of the system. It touches that folder alone.
-ghost use Rattle.std.specs.Prelude.{◌≤◌, length, IfOk, IfSome, IsTrue};
+ghost use Rattle.std.specs.Prelude.{◌≤◌, length, IfOk, IfSome, IsSomeAnd, IsTrue, OnErr, OnOk};
 ghost use Rattle.std.specs.Fs.{IsDir, IsFile, file_type};
+ghost use Rattle.acq_real.specs.Opened.{AreDue, IsSynced};
 ghost use Rattle.acq_real.specs.Ownership.{IsPrivate, IsPrivateFile, ShowsMode};
 
 use crate::answer::{check_folder, plain_length, unless};
@@ -133,22 +134,24 @@ pub fn make_folders(rt: &impl Files<File = File>, alloc: Global, folder: &str) -
     Ok(())
 }
 
-/// Makes the changes of names in the folder and in `partial` lasting: the folder's first, so that a crash between the two
-/// never takes a file that moved out of `partial` from both.
+/// Makes the changes of names in the folder and in `partial` lasting. After an error the folder is still to be synced.
 pub fn sync_names(
     rt: &impl Files<File = File>,
     alloc: Global,
     kept: &mut Option<OpenFolders>,
     folder: &str,
-) -> io::Result<()> {
+) -> io::Result<()>
+    ensures synced { OnOk result (IsSomeAnd kept.new IsSynced) }
+    ensures due { OnErr result (AreDue kept.new) }
+{
+    let open = kept.take();
     let partial = partial_path(alloc, folder)?;
     let found = node_of(&find_partial(rt, partial.as_str())?.metadata);
-    let folders = match still(kept.take(), found) {
+    let mut folders = match still(open, found) {
         Some(folders) => folders,
         None => open_folders(rt, folder, partial.as_str(), found)?,
     };
-    folders.folder.sync_all()?;
-    folders.partial.sync_all()?;
+    folders.sync()?;
     *kept = Some(folders);
     Ok(())
 }

@@ -1,7 +1,7 @@
 //! Files and folders that stay open from one call to the next.
-ghost use Rattle.std.specs.Prelude.{◌≡◌, ◌≢◌, ◌↔◌, false, string_bytes, true, IfOk, IfSome, IsTrue, Some};
+ghost use Rattle.std.specs.Prelude.{◌≡◌, ◌≢◌, ◌↔◌, false, string_bytes, true, IfOk, IfSome, IsOk, IsTrue, OnOk, Some};
 ghost use Rattle.std.specs.Fs.{asks_append, asks_create_new, asks_read, asks_write};
-ghost use Rattle.acq_real.specs.Opened.{IsClosed, IsOwn, StaysClosed, opened_by};
+ghost use Rattle.acq_real.specs.Opened.{AreDue, IsClosed, IsDue, IsOwn, IsSynced, StaysClosed, opened_by};
 ghost use Rattle.acq_real.specs.Ownership.{IsPrivateFile};
 
 use crate::ownership::{Found, is_private_file};
@@ -34,10 +34,42 @@ pub struct OpenFile {
 /// A disk's folder and `partial` in it, open.
 #[derive(Drop)]
 pub struct OpenFolders {
-    pub folder: File,
-    pub partial: File,
+    folder: File,
+    partial: File,
     /// Which folder `partial` is. It tells of both: nobody moves it to another folder.
     node: Node,
+    /// Whether the disk's folder was synced since a name in it last changed, not counting those in `partial`. It begins as
+    /// false, since what changed before the folder was opened may not be lasting yet.
+    is_synced: bool,
+}
+
+impl OpenFolders {
+    /// Whether the disk's folder has to be synced: a name in it may have changed since it last was.
+    fn is_due(&self) -> bool
+        ensures { IsTrue result ↔ IsDue self.now }
+    {
+        !self.is_synced
+    }
+
+    /// Makes the changes of names in both folders lasting: the disk's folder's first, so that a crash between the two never
+    /// takes a file that moved out of `partial` from both.
+    pub fn sync(&mut self) -> io::Result<()>
+        ensures { OnOk result (IsSynced self.new) }
+    {
+        self.sync_due()?;
+        self.partial.sync_all()
+    }
+
+    /// Makes the changes of names in the disk's folder lasting, if there may be any. A sync that failed leaves it due.
+    fn sync_due(&mut self) -> io::Result<()>
+        ensures { IsOk result ↔ IsSynced self.new }
+    {
+        if self.is_due() {
+            self.folder.sync_all()?;
+            self.is_synced = true;
+        }
+        Ok(())
+    }
 }
 
 /// What a disk keeps open: the file in `partial` that was last read, written, cut or synced and the last one beside it, and,
@@ -81,9 +113,23 @@ impl Kept {
     pub fn forget(&mut self, path: &str)
         ensures closed { IsClosed self.new path.now }
         ensures stays { StaysClosed self.old self.new }
+        ensures folders { self.new.folders ≡ self.old.folders }
     {
         self.in_partial = elsewhere(self.in_partial.take(), path);
         self.beside = elsewhere(self.beside.take(), path);
+    }
+
+    /// Notes that a name is about to change, in `partial` alone or in the disk's folder, which is to be synced then.
+    pub fn changes_name(&mut self, in_partial: bool)
+        ensures due { in_partial ≡ false → AreDue self.new.folders }
+        ensures files { self.new.in_partial ≡ self.old.in_partial × self.new.beside ≡ self.old.beside }
+    {
+        if in_partial {
+            return;
+        }
+        if let Some(folders) = &mut self.folders {
+            folders.is_synced = false;
+        }
     }
 }
 
@@ -217,7 +263,8 @@ pub fn open_folders(
     partial: &str,
     found: Node,
 ) -> io::Result<OpenFolders>
-    ensures { IfOk result (λ opened. opened.node ≡ found) }
+    ensures node { IfOk result (λ opened. opened.node ≡ found) }
+    ensures due { IfOk result IsDue }
 {
     let folder = File::open(rt, folder)?;
     let partial = open_found(rt, partial, found, false)?;
@@ -225,6 +272,7 @@ pub fn open_folders(
         folder,
         partial,
         node: found,
+        is_synced: false,
     })
 }
 

@@ -1,12 +1,12 @@
 //! What each call does with the folder's files. Whatever comes of it, nothing is counted.
-ghost use Rattle.std.specs.Prelude.{◌≡◌, ◌≤◌, length, true, string_bytes, IfOk, IfSome, OnOk, MatchResult};
+ghost use Rattle.std.specs.Prelude.{◌≡◌, ◌≤◌, length, true, string_bytes, IfOk, IfSome, IsSomeAnd, OnOk, MatchResult};
 ghost use Rattle.acq_real.specs.Folder.{IsInside, IsPathInside, is_in_partial};
-ghost use Rattle.acq_real.specs.Opened.{IsOwn, opened_by};
-ghost use Rattle.acq_real.specs.RealDisk.{IsNameClosed, IsSame, folder_of};
+ghost use Rattle.acq_real.specs.Opened.{AreDue, IsOwn, IsSynced, opened_by};
+ghost use Rattle.acq_real.specs.RealDisk.{IsNameClosed, IsPending, IsSame, folder_of};
 
 use super::RealDisk;
 use crate::answer::unless;
-use crate::folder;
+use crate::folder::{self, Locked};
 use crate::listing::Entry;
 use crate::opened::{OpenFile, create, open_file, serving};
 use crate::path::{is_partial, path_of};
@@ -27,6 +27,7 @@ impl<R: Files<File = File> + AllocGlobal + Clone + Drop> RealDisk<R> {
     /// The path of a file, once the folders are made.
     fn path(&mut self, name: &[u8]) -> io::Result<String>
         ensures same { IsSame self.old self.new }
+        ensures kept { self.new.kept ≡ self.old.kept }
         ensures inside { IfOk result (λ path. IsPathInside (folder_of self.old) name.now (string_bytes path)) }
     {
         self.make()?;
@@ -77,7 +78,7 @@ impl<R: Files<File = File> + AllocGlobal + Clone + Drop> RealDisk<R> {
         if let Some(open) = serving(kept, path.as_str(), in_partial, true) {
             return Ok(open);
         }
-        if let Some(made) = unless(ErrorKind::AlreadyExists, create(&self.rt, path))? {
+        if let Some(made) = self.make_file(name, path)? {
             return Ok(made);
         }
         match self.open(name, true)? {
@@ -85,6 +86,29 @@ impl<R: Files<File = File> + AllocGlobal + Clone + Drop> RealDisk<R> {
             // A link, or in `partial` somebody else's file, is none.
             None => self.make_anew(name),
         }
+    }
+
+    /// Makes a file at the path of its name, and opens it. Where the path leads to something it is `None`.
+    fn make_file(&mut self, name: &[u8], path: String) -> io::Result<Option<OpenFile>>
+        ensures same { IsSame self.old self.new }
+        ensures pending { IsPending self.new name.now }
+        ensures path { IfOk result (λ made. IfSome made (λ opened. opened_by opened ≡ string_bytes path)) }
+        ensures own { IfOk result (λ made. IfSome made IsOwn) }
+    {
+        self.kept.changes_name(is_partial(name));
+        unless(ErrorKind::AlreadyExists, create(&self.rt, path))
+    }
+
+    /// Puts a new, empty file in place of what stands under a name.
+    fn put_empty(&mut self, name: &[u8]) -> io::Result<()>
+        ensures same { IsSame self.old self.new }
+        ensures pending { IsPending self.new name.now }
+    {
+        self.kept.changes_name(is_partial(name));
+        let path = self.path(name)?;
+        let fresh = self.path(FRESH)?;
+        folder::replace(&self.rt, fresh.as_str(), path.as_str())?;
+        Ok(())
     }
 
     /// Puts a new, empty file in place of what stands under a name, and opens it. Whoever has the former one open writes
@@ -97,14 +121,12 @@ impl<R: Files<File = File> + AllocGlobal + Clone + Drop> RealDisk<R> {
     {
         let new_path = self.path(name)?;
         self.kept.forget(new_path.as_str());
-        if let Some(made) = unless(ErrorKind::AlreadyExists, create(&self.rt, new_path))? {
+        if let Some(made) = self.make_file(name, new_path)? {
             return Ok(made);
         }
-        let path = self.path(name)?;
-        let fresh = self.path(FRESH)?;
         // No change of names that is pending may be lost while this one is kept.
         self.sync_all()?;
-        folder::replace(&self.rt, fresh.as_str(), path.as_str())?;
+        self.put_empty(name)?;
         self.sync_all()?;
         match self.open(name, true)? {
             Some(open) => Ok(open),
@@ -116,6 +138,7 @@ impl<R: Files<File = File> + AllocGlobal + Clone + Drop> RealDisk<R> {
     /// Makes the folders, unless that is done. After an error it is still to be done.
     fn make(&mut self) -> io::Result<()>
         ensures same { IsSame self.old self.new }
+        ensures kept { self.new.kept ≡ self.old.kept }
         ensures made { MatchResult result (λ _. self.new.is_made ≡ true) (λ _. self.new.is_made ≡ self.old.is_made) }
     {
         if !self.is_made {
@@ -132,17 +155,27 @@ impl<R: Files<File = File> + AllocGlobal + Clone + Drop> RealDisk<R> {
         if self.lock.is_some() {
             return Ok(true);
         }
-        // Until the lock is taken, `partial` may be in use by who has it.
-        let (alloc, folder) = (self.rt.alloc(), self.folder.as_str());
-        folder::make_own(&self.rt, alloc, folder)?;
-        let path = path_of(alloc, folder, LOCK)?;
-        match folder::lock(&self.rt, path.as_str())? {
+        match self.take_lock()? {
             Some(locked) => {
                 self.lock = Some(locked.file);
                 Ok(true)
             }
             None => Ok(false),
         }
+    }
+
+    /// Makes the folder and the file `lock` in it, and locks that.
+    fn take_lock(&mut self) -> io::Result<Option<Locked>>
+        ensures same { IsSame self.old self.new }
+        ensures pending { AreDue self.new.kept.folders }
+    {
+        // The file may be made, and whoever had the lock since the last sync may have changed names.
+        self.kept.changes_name(false);
+        // Until the lock is taken, `partial` may be in use by who has it.
+        let (alloc, folder) = (self.rt.alloc(), self.folder.as_str());
+        folder::make_own(&self.rt, alloc, folder)?;
+        let path = path_of(alloc, folder, LOCK)?;
+        folder::lock(&self.rt, path.as_str())
     }
 
     pub(super) fn entries(&mut self, alloc: Global) -> io::Result<Vec<Entry>>
@@ -216,8 +249,10 @@ impl<R: Files<File = File> + AllocGlobal + Clone + Drop> RealDisk<R> {
         Ok(())
     }
 
+    /// Makes the changes of names lasting. The folder's own are left out where there were none since the last time.
     pub(super) fn sync_all(&mut self) -> io::Result<()>
-        ensures { IsSame self.old self.new }
+        ensures same { IsSame self.old self.new }
+        ensures synced { OnOk result (IsSomeAnd self.new.kept.folders IsSynced) }
     {
         self.make()?;
         folder::sync_names(
@@ -232,7 +267,9 @@ impl<R: Files<File = File> + AllocGlobal + Clone + Drop> RealDisk<R> {
         ensures same { IsSame self.old self.new }
         ensures inside { OnOk result (IsInside from.now × IsInside to.now) }
         ensures closed { OnOk result (IsNameClosed self.new from.now × IsNameClosed self.new to.now) }
+        ensures pending { IsPending self.new from.now × IsPending self.new to.now }
     {
+        self.kept.changes_name(is_partial(from) && is_partial(to));
         let from_path = self.path(from)?;
         let to_path = self.path(to)?;
         self.kept.forget(from_path.as_str());
@@ -253,7 +290,9 @@ impl<R: Files<File = File> + AllocGlobal + Clone + Drop> RealDisk<R> {
         ensures same { IsSame self.old self.new }
         ensures inside { OnOk result (IsInside name.now) }
         ensures closed { OnOk result (IsNameClosed self.new name.now) }
+        ensures pending { IsPending self.new name.now }
     {
+        self.kept.changes_name(is_partial(name));
         let path = self.path(name)?;
         self.kept.forget(path.as_str());
         if !folder::remove(&self.rt, path.as_str())? {
